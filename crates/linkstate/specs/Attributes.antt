@@ -1,0 +1,50 @@
+-- Attributes that are read together. Document 01, "Who gets what": "Together means: per kind, the first in byte order; for SRLG, all values, repeats dropped."
+use mathlib.Core.Bool.{Bool, true, false, cond}
+use mathlib.Core.List.{List, [], _∷_, map}
+use Prim.Native.Nat.{ℕ, _+_}
+use lib.Dec.{eqb}
+use lib.Ieee.{ofBits, binary32}
+use lib.ListN.{length, take, drop}
+use Rattle.linkstate.specs.Lists.{keep, each, empty}
+use Rattle.linkstate.specs.Bytes.{number, words, distinct, bytesOfWords}
+use Rattle.linkstate.specs.Elements.{Element, element, cut}
+use Rattle.linkstate.specs.Kinds.{Form, wholeNumber, twoNumbers, float, placeAndLength, srlgCount, formOf}
+use Rattle.linkstate.specs.Replies.{Run, place, Reading, whole, pair, bandwidth, part, count}
+
+-- A link attribute: its kind's BGP-LS code, where its value stands in its run (the first byte's offset, the length), and its BGP-LS value bytes.
+pub record Attribute : Type 0 where
+  pub code : ℕ
+  pub at : ℕ
+  pub len : ℕ
+  pub value : List ℕ
+
+-- The attribute of an element with a header of w + w bytes, its type's code and its BGP-LS value bytes.
+unfoldable pub attribute : ℕ → ℕ → List ℕ → ℕ → List ℕ → Attribute
+attribute w at v code value = record { code = code; at = at + (w + w); len = length v; value = value }
+
+-- The attributes of one kind, in byte order.
+unfoldable pub ofKind : ℕ → List Attribute → List Attribute
+ofKind k ts = keep (λ t. eqb k (t .code)) ts
+
+-- The different SRLGs of attributes, ascending.
+unfoldable pub srlgs : List Attribute → List ℕ
+srlgs ts = distinct (each (λ t. words (t .value)) (ofKind 1096 ts))
+
+unfoldable pub firstValue : List Attribute → List ℕ
+firstValue [] = []
+firstValue (t ∷ ts) = t .value
+
+-- A kind's value, as BGP-LS value bytes: the first; for SRLG all. No bytes: absent.
+unfoldable pub valueOf : ℕ → List Attribute → List ℕ
+valueOf k ts = cond (eqb k 1096) (bytesOfWords (srlgs ts)) (firstValue (ofKind k ts))
+
+-- The reading of a value, by its kind's form.
+unfoldable pub readingAs : Form → Run → Attribute → Reading
+readingAs wholeNumber run t = whole (number (t .value))
+readingAs twoNumbers run t = pair (number (take 4 (t .value))) (number (drop 4 (t .value)))
+readingAs float run t = bandwidth (ofBits binary32 (number (t .value)))
+readingAs placeAndLength run t = part (place run (t .at)) (t .len)
+readingAs srlgCount run t = count (length (distinct (words (t .value))))
+
+unfoldable pub reading : Run → Attribute → Reading
+reading run t = readingAs (formOf (t .code)) run t

@@ -1,0 +1,117 @@
+-- Document 01, "The fourteen kinds": one table, and what it says of an IS-IS type and of a BGP-LS code.
+use mathlib.Core.Bool.{Bool, true, false, cond, _&&_, not}
+use mathlib.Core.List.{List, [], _∷_, map}
+use Prim.Native.Nat.{ℕ, _%_}
+use lib.Dec.{eqb, leb}
+use Rattle.linkstate.specs.Lists.{keep, any, lookup}
+
+-- The lengths that a value may have.
+pub data Size : Type 0 where
+  exactly : ℕ → Size
+  foursFrom : (least : ℕ) → Size
+  foursWithin : (least most : ℕ) → Size
+
+unfoldable pub fits : Size → ℕ → Bool
+fits (exactly k) n = eqb n k
+fits (foursFrom least) n = eqb (n % 4) 0 && leb least n
+fits (foursWithin least most) n = eqb (n % 4) 0 && leb least n && leb n most
+
+-- Where an IS-IS link carries the kind: in elements of a type in run A, or as the SRLG values of runs B and C.
+pub data Carrier : Type 0 where
+  typeInA : ℕ → Carrier
+  valuesInBC : Carrier
+
+-- "1089, 1090 and 1091 belong to the link; the other eleven belong to applications."
+pub data Owner : Type 0 where
+  link : Owner
+  applications : Owner
+
+-- The readings: "a whole number", "two of four bytes each", "a bandwidth", "the value's place .. and length", "the count of different SRLGs".
+pub data Form : Type 0 where
+  wholeNumber : Form
+  twoNumbers : Form
+  float : Form
+  placeAndLength : Form
+  srlgCount : Form
+
+pub record Kind : Type 0 where
+  pub code : ℕ
+  pub carrier : Carrier
+  pub isisSize : Size
+  pub bgplsSize : Size
+  pub owner : Owner
+  pub form : Form
+
+unfoldable pub kind : ℕ → Carrier → Size → Size → Owner → Form → Kind
+kind c t i b o f = record { code = c; carrier = t; isisSize = i; bgplsSize = b; owner = o; form = f }
+
+-- The table (RFC 8919 section 3; RFC 9294 section 3; RFC 8571 section 2 for 1114 to 1120), ascending by code.
+unfoldable pub kinds : List Kind
+kinds =
+    kind 1088 (typeInA 3) (exactly 4) (exactly 4) applications wholeNumber
+    ∷ kind 1089 (typeInA 9) (exactly 4) (exactly 4) link float
+    ∷ kind 1090 (typeInA 10) (exactly 4) (exactly 4) link float
+    ∷ kind 1091 (typeInA 11) (exactly 32) (exactly 32) link placeAndLength
+    ∷ kind 1092 (typeInA 18) (exactly 3) (exactly 4) applications wholeNumber
+    ∷ kind 1096 valuesInBC (foursFrom 0) (foursFrom 0) applications srlgCount
+    ∷ kind 1114 (typeInA 33) (exactly 4) (exactly 4) applications wholeNumber
+    ∷ kind 1115 (typeInA 34) (exactly 8) (exactly 8) applications twoNumbers
+    ∷ kind 1116 (typeInA 35) (exactly 4) (exactly 4) applications wholeNumber
+    ∷ kind 1117 (typeInA 36) (exactly 4) (exactly 4) applications wholeNumber
+    ∷ kind 1118 (typeInA 37) (exactly 4) (exactly 4) applications float
+    ∷ kind 1119 (typeInA 38) (exactly 4) (exactly 4) applications float
+    ∷ kind 1120 (typeInA 39) (exactly 4) (exactly 4) applications float
+    ∷ kind 1173 (typeInA 14) (foursWithin 4 252) (foursFrom 4) applications placeAndLength
+    ∷ []
+
+unfoldable pub forApplications : Owner → Bool
+forApplications link = false
+forApplications applications = true
+
+unfoldable pub isApplications : Kind → Bool
+isApplications q = forApplications (q .owner)
+
+-- The codes of all fourteen, of the link's three, and of the eleven of an application's set.
+unfoldable pub codes : List ℕ
+codes = map (λ q. q .code) kinds
+
+unfoldable pub linkCodes : List ℕ
+linkCodes = map (λ q. q .code) (keep (λ q. not (isApplications q)) kinds)
+
+unfoldable pub applicationCodes : List ℕ
+applicationCodes = map (λ q. q .code) (keep isApplications kinds)
+
+unfoldable pub hasCode : ℕ → Kind → Bool
+hasCode c q = eqb c (q .code)
+
+unfoldable pub carriedAs : ℕ → Carrier → Bool
+carriedAs t (typeInA n) = eqb t n
+carriedAs t valuesInBC = false
+
+unfoldable pub hasType : ℕ → Kind → Bool
+hasType t q = carriedAs t (q .carrier)
+
+-- The BGP-LS code of an IS-IS type, 0 where "Unknown types are framed and skipped".
+unfoldable pub codeOfType : ℕ → ℕ
+codeOfType t = lookup (hasType t) (λ q. q .code) 0 kinds
+
+-- "a known kind .. has a wrong length" (4): in run A, at the top of a BGP-LS run, and inside a 1122.
+unfoldable pub wrongInA : ℕ → ℕ → Bool
+wrongInA t n = any (λ q. hasType t q && not (fits (q .isisSize) n)) kinds
+
+unfoldable pub wrongAtTop : ℕ → ℕ → Bool
+wrongAtTop c n = any (λ q. hasCode c q && not (fits (q .bgplsSize) n)) kinds
+
+-- "1089 to 1091 and 1122 inside 1122 are skipped as unknown."
+unfoldable pub wrongInside : ℕ → ℕ → Bool
+wrongInside c n = any (λ q. hasCode c q && not (fits (q .bgplsSize) n)) (keep isApplications kinds)
+
+-- Whether a code belongs to one of the fourteen, and to one of the link's three.
+unfoldable pub isCode : ℕ → Bool
+isCode c = any (hasCode c) kinds
+
+unfoldable pub isLinkCode : ℕ → Bool
+isLinkCode c = any (λ q. hasCode c q && not (isApplications q)) kinds
+
+unfoldable pub formOf : ℕ → Form
+formOf c = lookup (hasCode c) (λ q. q .form) wholeNumber kinds

@@ -1,0 +1,9 @@
+pub mod Lists
+pub mod Bytes
+pub mod Replies
+pub mod Elements
+pub mod Kinds
+pub mod Masks
+pub mod Attributes
+pub mod Sides
+pub mod Questions

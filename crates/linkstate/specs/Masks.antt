@@ -1,0 +1,66 @@
+-- Applications and the masks that name them. Document 01, "What comes in and what goes out" and "BGP-LS bytes"; RFC 8919 section 4.1, RFC 9294 section 2.
+use mathlib.Core.Bool.{Bool, true, false, cond}
+use mathlib.Core.List.{List, [], _∷_, map}
+use Prim.Native.Nat.{ℕ, zero, suc, _+_, _-_, _*_, _/_, _%_, _^_}
+use lib.Dec.{eqb, ltb}
+use lib.ListN.{getD}
+use Rattle.linkstate.specs.Lists.{numbers}
+
+-- "Bit 0 is the top bit (value 128) of the first mask byte. Bits not sent are 0."
+unfoldable pub bit : List ℕ → ℕ → Bool
+bit mask n = eqb (getD mask (n / 8) 0 / 2 ^ (7 - n % 8) % 2) 1
+
+-- "An application is standard 0 to 63 or user 0 to 63", as one number: standard n is n, user n is 64 + n. RSVP-TE is 0.
+unfoldable pub user : ℕ → ℕ
+user n = 64 + n
+
+-- Whether a standard and a user mask have an application's bit set.
+unfoldable pub inMasks : List ℕ → List ℕ → ℕ → Bool
+inMasks standardMask userMask a = cond (ltb a 64) (bit standardMask a) (bit userMask (a - 64))
+
+-- The applications other than RSVP-TE, standard before user.
+unfoldable pub others : List ℕ
+others = numbers 1 127
+
+unfoldable pub one : Bool → ℕ
+one true = 1
+one false = 0
+
+-- "application n as 2 to the n": the sum over the numbers below k that pass the test.
+unfoldable pub powersBelow : ℕ → (ℕ → Bool) → ℕ
+powersBelow zero p = 0
+powersBelow (suc k) p = powersBelow k p + one (p k) * 2 ^ k
+
+unfoldable pub asNumber : (ℕ → Bool) → ℕ
+asNumber p = powersBelow 64 p
+
+-- Whether n stands in a set that is kept as such a number.
+unfoldable pub inNumber : ℕ → ℕ → Bool
+inNumber m n = eqb (m / 2 ^ n % 2) 1
+
+-- The last number below k that passes the test, if any.
+pub data Last : Type 0 where
+  none : Last
+  last : ℕ → Last
+
+unfoldable pub lastBelow : ℕ → (ℕ → Bool) → Last
+lastBelow zero p = none
+lastBelow (suc k) p = cond (p k) (last k) (lastBelow k p)
+
+-- "Each mask is 0, 4 or 8 bytes, the least that holds its last set bit."
+unfoldable pub bytesToHold : Last → ℕ
+bytesToHold none = 0
+bytesToHold (last n) = cond (ltb n 32) 4 8
+
+unfoldable pub maskSize : (ℕ → Bool) → ℕ
+maskSize p = bytesToHold (lastBelow 64 p)
+
+-- The byte whose bits, from the top, are the test at n, n + 1, .., n + 7.
+unfoldable pub maskByte : (ℕ → Bool) → ℕ → ℕ
+maskByte p n =
+    128 * one (p n) + 64 * one (p (n + 1)) + 32 * one (p (n + 2)) + 16 * one (p (n + 3)) + 8 * one (p (n + 4)) + 4 * one (p (n + 5)) + 2 * one (p (n + 6))
+    + one (p (n + 7))
+
+-- The mask of the numbers below 64 that pass the test.
+unfoldable pub mask : (ℕ → Bool) → List ℕ
+mask p = map (λ i. maskByte p (8 * i)) (numbers 0 (maskSize p))

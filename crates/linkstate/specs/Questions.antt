@@ -1,0 +1,90 @@
+-- The services: what is asked of a link or of a BGP-LS run, and the reply. Document 01, "Numbers of the replies" and "The fourteen kinds".
+use mathlib.Core.Bool.{Bool, true, false, cond, _&&_, not}
+use mathlib.Core.List.{List, [], _∷_}
+use Prim.Native.Nat.{ℕ, _+_}
+use lib.Dec.{eqb, ltb}
+use lib.ListN.{length}
+use Rattle.linkstate.specs.Lists.{empty, put}
+use Rattle.linkstate.specs.Bytes.{bytesAt}
+use Rattle.linkstate.specs.Kinds.{isCode, isLinkCode}
+use Rattle.linkstate.specs.Masks.{user, asNumber}
+use Rattle.linkstate.specs.Attributes.{Attribute, ofKind, srlgs, reading}
+use Rattle.linkstate.specs.Replies.{Run, Verdict, refusedIf, _then_, unless, count, Reply, absent, found, askRefused, Asked, Named, listed, namedRefused, bytes, exportRefused, Exported}
+
+-- Whom a question is about: the general set, or an application.
+pub data Subject : Type 0 where
+  generally : Subject
+  standardNo : ℕ → Subject
+  userNo : ℕ → Subject
+
+-- What questions are put to, a link or a BGP-LS run: the run that places lie in, what the checks of its bytes say, and the attributes read
+-- together for a kind of the link, of RSVP-TE, of the general set, and of another application, with the applications that it names.
+pub record Source : Type 0 where
+  pub run : Run
+  pub bytes : List ℕ
+  pub verdict : Verdict
+  pub bandwidth : (code : ℕ) → List Attribute
+  pub rsvpTe : (code : ℕ) → List Attribute
+  pub general : (code : ℕ) → List Attribute
+  pub names : (application : ℕ) → Bool
+  pub application : (application code : ℕ) → List Attribute
+
+-- 6, "application number above 63"; the general set has none.
+unfoldable pub numberTooHigh : Subject → Bool
+numberTooHigh generally = false
+numberTooHigh (standardNo n) = ltb 63 n
+numberTooHigh (userNo n) = ltb 63 n
+
+-- The attributes of the subject's set.
+unfoldable pub setOf : Source → Subject → ℕ → List Attribute
+setOf s generally k = s .general k
+setOf s (standardNo n) k = cond (eqb n 0) (s .rsvpTe k) (s .application n k)
+setOf s (userNo n) k = s .application (user n) k
+
+-- "These three answer the same for every application and for the general set."
+unfoldable pub given : Source → Subject → ℕ → List Attribute
+given s whom k = cond (isLinkCode k) (s .bandwidth k) (setOf s whom k)
+
+-- "Order: 6, 7, 1, 2, then A from its start, B from its start, then 5; for a BGP-LS run 6, 7, 1, then the run from its start .., then 5."
+unfoldable pub beforeAnswer : Source → Subject → ℕ → Verdict
+beforeAnswer s whom k = refusedIf (numberTooHigh whom) 6 then refusedIf (not (isCode k)) 7 then s .verdict
+
+-- The reply where a value is looked for by its place: "absent, or found with a reading".
+unfoldable pub firstOf : Run → List Attribute → Reply
+firstOf run [] = absent
+firstOf run (t ∷ ts) = found (reading run t)
+
+unfoldable pub unwritten : List ℕ → Reply → Asked
+unwritten list r = record { reply = r; list = list }
+
+-- "the count of different SRLGs, which are written ascending to the front of a lent list of 32-bit numbers"; none at all is absent; 5 where they do not fit.
+unfoldable pub srlgAnswer : List ℕ → List ℕ → Asked
+srlgAnswer ns list =
+    cond (empty ns) (unwritten list absent)
+    (unless (refusedIf (ltb (length list) (length ns)) 5) (λ r. unwritten list (askRefused r))
+    (record { reply = found (count (length ns)); list = put list 0 ns }))
+
+unfoldable pub answer : Run → ℕ → List Attribute → List ℕ → Asked
+answer run k ts list = cond (eqb k 1096) (srlgAnswer (srlgs ts) list) (unwritten list (firstOf run (ofKind k ts)))
+
+-- The first service: one kind of one subject, with a lent list.
+unfoldable pub ask : Source → Subject → ℕ → List ℕ → Asked
+ask s whom k list = unless (beforeAnswer s whom k) (λ r. unwritten list (askRefused r)) (answer (s .run) k (given s whom k) list)
+
+unfoldable pub bytesOfFirst : List ℕ → List Attribute → List ℕ
+bytesOfFirst run [] = []
+bytesOfFirst run (t ∷ ts) = bytesAt run (t .at) (t .len)
+
+-- "Another entry hands back the value's bytes as a part of the caller's own run, empty if absent, refused, or 1096."
+unfoldable pub value : Source → Subject → ℕ → List ℕ
+value s whom k = unless (beforeAnswer s whom k) (λ r. []) (cond (eqb k 1096) [] (bytesOfFirst (s .bytes) (ofKind k (given s whom k))))
+
+-- The second service: "the link's named applications other than RSVP-TE".
+unfoldable pub listNamed : Source → Named
+listNamed s = unless (s .verdict) namedRefused (listed (asNumber (λ n. not (eqb n 0) && s .names n)) (asNumber (λ n. s .names (user n))))
+
+-- The third service, over the bytes to write: "5 | the whole result is longer than the lent buffer"; they start at the buffer's front.
+unfoldable pub write : Verdict → List ℕ → List ℕ → Exported
+write v result buffer =
+    unless (v then refusedIf (ltb (length buffer) (length result)) 5) (λ r. record { reply = exportRefused r; buffer = buffer })
+    (record { reply = bytes (length result); buffer = put buffer 0 result })
