@@ -25,7 +25,6 @@ pub struct Rule {
     pub code: u16,
 }
 
-
 // The rule of an IS-IS type byte.
 pub fn classify_type(b: u8) -> Rule
     ensures { λ r. ⌜ r ≡ ruleOfType b ⌝ }
