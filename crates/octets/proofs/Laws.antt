@@ -203,6 +203,14 @@ put-halves d e f at n p q h = rw (four-is n) (put-then d e f at (two (n / 65536)
 
 -- ---- equal runs
 
+and-true : (t : Bool) → (t && true) ≡ t
+and-true true = refl
+and-true false = refl
+
+and-false : (t : Bool) → (t && false) ≡ false
+and-false true = refl
+and-false false = refl
+
 pub same-complete : (x : List ℕ) → sameBytes x x ≡ true
 unfolding sameBytes
 same-complete [] = refl
@@ -221,26 +229,26 @@ same-sound (a ∷ x) (b ∷ y) e = go (eqb a b) refl e (same-sound x y)
 
 -- Runs of different lengths are not equal.
 pub same-lengths : (x y : List ℕ) → (length x ≡ length y → ⊥) → false ≡ sameBytes x y
-unfolding sameBytes
-same-lengths [] [] h = absurd (h refl)
-same-lengths [] (b ∷ y) h = refl
-same-lengths (a ∷ x) [] h = refl
-same-lengths (a ∷ x) (b ∷ y) h = go (eqb a b) (same-lengths x y (λ e. h (ap suc e)))
+same-lengths x y h = go (sameBytes x y) refl
   where
-    go : (t : Bool) → false ≡ sameBytes x y → false ≡ (t && sameBytes x y)
-    go true e = e
+    go : (t : Bool) → sameBytes x y ≡ t → false ≡ t
+    go true e = absurd (h (ap length (same-sound x y e)))
     go false e = refl
 
--- Two runs of one length from an index on: the bytes there are equal, or differ, or there are none.
-module _ (x y : List ℕ) (i : ℕ) (same : length x ≡ length y) where
-  pub same-next : i < length x → getD x i 0 ≡ getD y i 0 → sameBytes (drop (i + 1) x) (drop (i + 1) y) ≡ sameBytes (drop i x) (drop i y)
-  unfolding sameBytes
-  same-next h e = rw (add-one i, drop-cons x i 0 h, drop-cons y i 0 (omega arith), eq-eqb (getD x i 0) (getD y i 0) e)
+-- Two runs of one length from an index on, where the bytes before it gave the answer `was`, and with the bytes there it is `next`.
+module _ (x y : List ℕ) (i : ℕ) (level : length x ≡ length y) (was : Bool) where
+  abbrev Step : Bool → Type 0
+  Step next = (next && sameBytes (drop (i + 1) x) (drop (i + 1) y)) ≡ (was && sameBytes (drop i x) (drop i y))
 
-  pub same-differ : i < length x → (getD x i 0 ≡ getD y i 0 → ⊥) → false ≡ sameBytes (drop i x) (drop i y)
+  pub same-next : (next : Bool) → i < length x → getD x i 0 ≡ getD y i 0 → next ≡ was → Step next
   unfolding sameBytes
-  same-differ h e = rw (drop-cons x i 0 h, drop-cons y i 0 (omega arith), ne-eqb (getD x i 0) (getD y i 0) e)
+  same-next next h e f = rw (f, add-one i, drop-cons x i 0 h, drop-cons y i 0 (omega arith), eq-eqb (getD x i 0) (getD y i 0) e)
 
-  pub same-end : length x ≤ i → true ≡ sameBytes (drop i x) (drop i y)
+  pub same-differ : (next : Bool) → i < length x → (getD x i 0 ≡ getD y i 0 → ⊥) → next ≡ false → Step next
   unfolding sameBytes
-  same-end h = rw (drop-of-length-le x h, drop-of-length-le y {i = i} (omega arith))
+  same-differ next h e f =
+      rw (f, drop-cons x i 0 h, drop-cons y i 0 (omega arith), ne-eqb (getD x i 0) (getD y i 0) e) (sym (and-false was))
+
+  pub same-end : length x ≤ i → was ≡ (was && sameBytes (drop i x) (drop i y))
+  unfolding sameBytes
+  same-end h = rw (drop-of-length-le x h, drop-of-length-le y {i = i} (omega arith)) (sym (and-true was))

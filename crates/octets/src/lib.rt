@@ -18,7 +18,9 @@ pub fn read16(s: &[u8], at: usize) -> usize
     requires { ⌜ at + 2 ≤ length (now s) ⌝ }
     ensures { λ r. ⌜ (r ≡ number (bytesAt (now (s .entry)) at 2)) × (r < 65536) ⌝ }
 {
-    (wide(s[at]) * 256 + wide(s[at + 1])) as usize
+    let high = wide(s[at]);
+    let low = wide(s[at + 1]);
+    (high * 256 + low) as usize
 }
 
 // The number that three bytes write.
@@ -26,7 +28,9 @@ pub fn read24(s: &[u8], at: usize) -> u32
     requires { ⌜ at + 3 ≤ length (now s) ⌝ }
     ensures { λ r. ⌜ (r ≡ number (bytesAt (now (s .entry)) at 3)) × (r < 16777216) ⌝ }
 {
-    (read16(s, at) as u32) * 256 + wide(s[at + 2])
+    let high = read16(s, at) as u32;
+    let low = wide(s[at + 2]);
+    high * 256 + low
 }
 
 // The number that four bytes write.
@@ -34,7 +38,9 @@ pub fn read32(s: &[u8], at: usize) -> u32
     requires { ⌜ at + 4 ≤ length (now s) ⌝ }
     ensures { λ r. ⌜ (r ≡ number (bytesAt (now (s .entry)) at 4)) × (r < 4294967296) ⌝ }
 {
-    read24(s, at) * 256 + wide(s[at + 3])
+    let high = read24(s, at);
+    let low = wide(s[at + 3]);
+    high * 256 + low
 }
 
 // A number written as two bytes.
@@ -55,19 +61,20 @@ pub fn write32(out: &mut [u8], at: usize, x: u32)
     write16(out, at + 2, (x % 65536) as u16);
 }
 
-// Whether two runs are equal, byte by byte.
+// Whether two runs are equal. No way out of the loop, so that it is compiled to wide compares.
 pub fn same(x: &[u8], y: &[u8]) -> bool
     ensures { λ r. ⌜ r ≡ sameBytes (now (x .entry)) (now (y .entry)) ⌝ }
 {
     if x.len() != y.len() {
         return false;
     }
+    let mut equal = true;
     for i in 0..x.len() {
         if x[i] != y[i] {
-            return false;
+            equal = false;
         }
     }
-    true
+    equal
 }
 
 // Whether n bytes of s from p on equal m bytes of t from q on.

@@ -10,11 +10,8 @@ use Rattle.octets.proofs.read24.Tie as tie
 read16-requires : tie.Need-read16-requires
 read16-requires c κs = search needs
 
-cast-result : tie.Need-cast-result
-cast-result c = search needs
-
-mul-result : tie.Need-mul-result
-mul-result c = search needs
+cast-high : tie.Need-cast-high
+cast-high c = search needs
 
 add-wide : tie.Need-add-wide
 add-wide c = search needs
@@ -24,6 +21,9 @@ shared-slice-read-wide c = search needs
 
 wide-requires : tie.Need-wide-requires
 wide-requires c κs = search needs
+
+mul-result : tie.Need-mul-result
+mul-result c = search needs
 
 add-result : tie.Need-add-result
 add-result c = search needs
@@ -37,10 +37,10 @@ read24-spec =
     tie.close
     (tie.spec
     read16-requires
-    cast-result
-    mul-result
+    cast-high
     add-wide
     shared-slice-read-wide
     wide-requires
+    mul-result
     add-result
     returns)

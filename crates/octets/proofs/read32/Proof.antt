@@ -10,9 +10,6 @@ use Rattle.octets.proofs.read32.Tie as tie
 read24-requires : tie.Need-read24-requires
 read24-requires c κs = search needs
 
-mul-result : tie.Need-mul-result
-mul-result c = search needs
-
 add-wide : tie.Need-add-wide
 add-wide c = search needs
 
@@ -21,6 +18,9 @@ shared-slice-read-wide c = search needs
 
 wide-requires : tie.Need-wide-requires
 wide-requires c κs = search needs
+
+mul-result : tie.Need-mul-result
+mul-result c = search needs
 
 add-result : tie.Need-add-result
 add-result c = search needs
@@ -34,9 +34,9 @@ read32-spec =
     tie.close
     (tie.spec
     read24-requires
-    mul-result
     add-wide
     shared-slice-read-wide
     wide-requires
+    mul-result
     add-result
     returns)

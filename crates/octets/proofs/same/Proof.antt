@@ -1,7 +1,9 @@
--- `octets::same` meets its contract. The invariant: what is left decides.
+-- `octets::same` meets its contract. The invariant: what is found so far and what is left decide.
 -- Assumes nothing.
 use Prim.Native.Nat.{_≤_, _-_}
 use mathlib.Core.Path.{_≡_, refl, _∙_}
+use mathlib.Core.Bool.{_&&_}
+use mathlib.Core.Logic.{⊎-elim}
 use lib.ListN.{length, drop}
 use denote.Ref.{now}
 use native.Mathlib.Omega.{arith}
@@ -12,27 +14,22 @@ use Rattle.octets.proofs.same.Statement.{statement}
 use Rattle.octets.proofs.same.Tie as tie
 
 abbrev Inv-loop : tie.InvT-loop
-Inv-loop x y i₀ i-end i = (i ≤ length x) × (length x ≡ length y) × (sameBytes (drop i x) (drop i y) ≡ sameBytes x y) × (i-end ≡ length x)
+Inv-loop x y equal₀ i₀ i-end equal i = (i ≤ length x) × (length x ≡ length y) × (i-end ≡ length x) × ((equal && sameBytes (drop i x) (drop i y)) ≡ sameBytes x y)
 
 abbrev μ-loop : tie.MeasureT-loop
-μ-loop x y i₀ i-end i = length x - i
+μ-loop x y equal₀ i₀ i-end equal i = length x - i
 
 returns : tie.Need-returns Inv-loop μ-loop
-returns c = same-lengths _ _ (c .if1 .taken)
+returns c = same-lengths _ _ (λ e. omega arith)
 
 loop-holds : tie.Need-loop-holds Inv-loop μ-loop
-loop-holds c = (omega arith, c .if1 .left, refl, refl)
+loop-holds c = (omega arith, omega arith, omega arith, refl)
 
 shared-slice-read-if2 : tie.Need-shared-slice-read-if2 Inv-loop μ-loop
 shared-slice-read-if2 c = search needs
 
 shared-slice-read-if2-2 : tie.Need-shared-slice-read-if2-2 Inv-loop μ-loop
 shared-slice-read-if2-2 c = search needs
-
-returns-2 : tie.Need-returns-2 Inv-loop μ-loop
-returns-2 c = let l = c .before .before .before .before in
-    let a = l .before .before .args in
-    same-differ (now (a .x)) (now (a .y)) (l .loop .i) (l .loop .inv .1) (omega arith) (c .if2 .taken) ∙ l .loop .inv .2
 
 add-i : tie.Need-add-i Inv-loop μ-loop
 add-i c = search needs
@@ -43,12 +40,20 @@ loop-less c = search needs
 loop-again : tie.Need-loop-again Inv-loop μ-loop
 loop-again c = let l = c .before .before .before .before in
     let a = l .before .before .args in
-    (omega arith, l .loop .inv .1, same-next (now (a .x)) (now (a .y)) (l .loop .i) (l .loop .inv .1) (omega arith) (c .if2 .left) ∙ l .loop .inv .2, l .loop .inv .3)
+    let v = l .loop .inv in
+    (omega arith
+    , v .1
+    , v .2
+    , ⊎-elim
+      (λ w. same-differ (now (a .x)) (now (a .y)) (l .loop .i) (v .1) (l .loop .equal) (c .if2 .equal) (omega arith) (w .0 .taken) (w .1))
+      (λ w. same-next (now (a .x)) (now (a .y)) (l .loop .i) (v .1) (l .loop .equal) (c .if2 .equal) (omega arith) (w .0 .left) (w .1))
+      (c .if2 .came)
+    ∙ v .3)
 
-returns-3 : tie.Need-returns-3 Inv-loop μ-loop
-returns-3 c = let l = c .before in
+returns-2 : tie.Need-returns-2 Inv-loop μ-loop
+returns-2 c = let l = c .before in
     let a = l .before .before .args in
-    same-end (now (a .x)) (now (a .y)) (l .loop .i) (l .loop .inv .1) (omega arith) ∙ l .loop .inv .2
+    same-end (now (a .x)) (now (a .y)) (l .loop .i) (l .loop .inv .1) (l .loop .equal) (omega arith) ∙ l .loop .inv .3
 
 pub same-spec : {M : Type 1} → statement M
 same-spec =
@@ -60,8 +65,7 @@ same-spec =
     loop-holds
     shared-slice-read-if2
     shared-slice-read-if2-2
-    returns-2
     add-i
     loop-less
     loop-again
-    returns-3)
+    returns-2)
