@@ -1,13 +1,13 @@
 -- Laws of parts of a run, of big-endian numbers, of writes into a buffer, and of equal runs.
 -- Assumes nothing.
 use mathlib.Core.Path.{_≡_, refl, sym, _∙_, ap}
-use mathlib.Core.Bool.{Bool, true, false, _&&_}
+use mathlib.Core.Bool.{Bool, true, false, _&&_, and-true, and-false}
 use mathlib.Core.List.{List, [], _∷_, _++_, append-assoc}
 use Prim.Native.Nat.{ℕ, zero, suc, _+_, _-_, _*_, _/_, _%_, _^_, _≤_, _<_}
 use lib.Dec.{eqb}
 use lib.ListN.{length, take, drop, getD, set, length-append, length-drop, drop-of-length-le, length-set}
-use lib.Seq.{length-take-le, take-add, take-length, take-at, drop-at, drop-drop, drop-cons, sets-eq, paste, paste-zero, paste-suc}
-use native.Mathlib.Nat.{add-zero, zero-add, add-assoc, add-mul, mul-assoc, pow-suc, pow-succ', add-sub-cancel-left, mul-le-mul-right}
+use lib.Seq.{length-take-le, take-add, take-length, take-at, drop-at, drop-drop, drop-cons, getD-drop, sets-eq, paste, paste-zero, paste-suc}
+use native.Mathlib.Nat.{zero-add, add-assoc, add-mul, mul-assoc, pow-suc, pow-succ', add-sub-cancel-left, mul-le-mul-right}
 use native.Mathlib.Numerals.{add-one}
 use native.Mathlib.Omega.{arith}
 use borrow.Author.Tests.{eq-eqb, ne-eqb, eqb-true}
@@ -44,6 +44,16 @@ bytesAt-next s at n h = bytesAt-add s at n 1 ∙ ap (λ (l : List ℕ). bytesAt 
 -- Every number of a list is that of a byte.
 abbrev pub Octets : List ℕ → Type 0
 Octets s = (i : ℕ) → getD s i 0 < 256
+
+octets-take : (n : ℕ) (s : List ℕ) → Octets s → Octets (take n s)
+octets-take zero s all i = omega arith
+octets-take (suc n) [] all i = all i
+octets-take (suc n) (b ∷ s) all zero = all 0
+octets-take (suc n) (b ∷ s) all (suc i) = octets-take n s (λ j. all (suc j)) i
+
+pub octets-bytesAt : (s : List ℕ) (at n : ℕ) → Octets s → Octets (bytesAt s at n)
+unfolding bytesAt
+octets-bytesAt s at n all = octets-take n (drop at s) (λ i. rw (getD-drop at s i 0) (all (at + i)))
 
 -- ---- numbers
 
@@ -123,9 +133,10 @@ module _ (s : List ℕ) (at : ℕ) where
 
   -- One byte more, at any width.
   pub read-next : (n r b : ℕ) → Reads s at n r → Byte (at + n) b → at + n < length s → Reads s at (n + 1) (r * 256 + b)
-  read-next n r b d e h =
-      ( rw (bytesAt-next s at n h, number-next (bytesAt s at n) (getD s (at + n) 0)) (cc)
-      , rw (add-one n, pow-suc 256 n) (omega arith))
+  read-next n r b d e h = (
+    rw (bytesAt-next s at n h, number-next (bytesAt s at n) (getD s (at + n) 0)) (cc),
+    rw (add-one n, pow-suc 256 n) (omega arith),
+  )
 
 -- ---- writes into a buffer
 
@@ -196,20 +207,20 @@ module _ {A : Type 0} where
     unfolding put
     copy-end e = so ∙ ap (paste d at s) e ∙ rw (take-length s)
 
+-- What is written is read back.
+pub bytesAt-put : (d : List ℕ) (at : ℕ) (vs : List ℕ) → at + length vs ≤ length d → bytesAt (put d at vs) at (length vs) ≡ vs
+unfolding bytesAt put
+bytesAt-put d at vs room =
+    ap (λ (l : List ℕ). take (length vs) (drop at l)) (append-assoc (take at d) vs (drop (at + length vs) d))
+    ∙ ap (take (length vs)) (drop-at (take at d) (vs ++ drop (at + length vs) d) at (length-take-le at d (omega arith)))
+    ∙ take-at vs (drop (at + length vs) d) (length vs) refl
+
 -- The halves of a number, written one after the other.
 pub put-halves : (d e f : List ℕ) (at n : ℕ) → e ≡ put d at (two (n / 65536)) → f ≡ put e (at + 2) (two (n % 65536)) → at + 4 ≤ length d → f ≡ put d at (four n)
 unfolding two
 put-halves d e f at n p q h = rw (four-is n) (put-then d e f at (two (n / 65536)) (at + 2) (two (n % 65536)) p q refl (omega arith))
 
 -- ---- equal runs
-
-and-true : (t : Bool) → (t && true) ≡ t
-and-true true = refl
-and-true false = refl
-
-and-false : (t : Bool) → (t && false) ≡ false
-and-false true = refl
-and-false false = refl
 
 pub same-complete : (x : List ℕ) → sameBytes x x ≡ true
 unfolding sameBytes
@@ -227,13 +238,16 @@ same-sound (a ∷ x) (b ∷ y) e = go (eqb a b) refl e (same-sound x y)
     go true f e rest = cc (eqb-true a b f, rest e)
     go false f e rest = cc
 
--- Runs of different lengths are not equal.
-pub same-lengths : (x y : List ℕ) → (length x ≡ length y → ⊥) → false ≡ sameBytes x y
-same-lengths x y h = go (sameBytes x y) refl
+pub same-not : (x y : List ℕ) → (x ≡ y → ⊥) → false ≡ sameBytes x y
+same-not x y h = go (sameBytes x y) refl
   where
     go : (t : Bool) → sameBytes x y ≡ t → false ≡ t
-    go true e = absurd (h (ap length (same-sound x y e)))
+    go true e = absurd (h (same-sound x y e))
     go false e = refl
+
+-- Runs of different lengths are not equal.
+pub same-lengths : (x y : List ℕ) → (length x ≡ length y → ⊥) → false ≡ sameBytes x y
+same-lengths x y h = same-not x y (λ e. h (ap length e))
 
 -- Two runs of one length from an index on, where the bytes before it gave the answer `was`, and with the bytes there it is `next`.
 module _ (x y : List ℕ) (i : ℕ) (level : length x ≡ length y) (was : Bool) where

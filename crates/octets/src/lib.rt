@@ -61,7 +61,7 @@ pub fn write32(out: &mut [u8], at: usize, x: u32)
     write16(out, at + 2, (x % 65536) as u16);
 }
 
-// Whether two runs are equal. No way out of the loop, so that it is compiled to wide compares.
+// Whether two runs are equal. The loop has no early return, so it compiles to compares of many bytes at a time.
 pub fn same(x: &[u8], y: &[u8]) -> bool
     ensures { λ r. ⌜ r ≡ sameBytes (now (x .entry)) (now (y .entry)) ⌝ }
 {

@@ -1,5 +1,7 @@
 -- `octets::float_of` meets its contract: a pattern above that of infinity, sign apart, is a NaN, and no other is.
 -- Assumes nothing.
+use Prim.Native.Nat.{_%_}
+use native.Mathlib.Omega.{arith}
 use mathlib.Core.Path.{_≡_, refl, sym, _∙_}
 use mathlib.Core.Bool.{true}
 use lib.Ieee.{Float, nan, inf, fin, isNan, ofBits, binary32, div}
@@ -21,10 +23,14 @@ unfolding ofBits div
 zeros = refl
 
 returns : tie.Need-returns
-returns c = zeros ∙ sym (only _ (sym (nanBits-is binary32 _) ∙ nanBits-above binary32 _ ∙ lt-ltb _ _ (c .if1 .taken)))
+returns c =
+    let bits = c .before .args .bits in
+    zeros ∙ sym (only _ (sym (nanBits-is binary32 bits) ∙ nanBits-above binary32 bits ∙ lt-ltb 2139095040 (bits % 2147483648) (omega arith)))
 
 float-from-bits-result : tie.Need-float-from-bits-result
-float-from-bits-result c = rw (nanBits-above binary32 (c .before .args .bits), le-ltb 2139095040 _ (c .if1 .left)) tt
+float-from-bits-result c =
+    let bits = c .before .args .bits in
+    rw (nanBits-above binary32 bits, le-ltb 2139095040 (bits % 2147483648) (omega arith)) tt
 
 returns-2 : tie.Need-returns-2
 returns-2 c = search needs

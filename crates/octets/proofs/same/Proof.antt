@@ -40,15 +40,16 @@ loop-less c = search needs
 loop-again : tie.Need-loop-again Inv-loop μ-loop
 loop-again c = let l = c .before .before .before .before in
     let a = l .before .before .args in
-    let v = l .loop .inv in
-    (omega arith
-    , v .1
-    , v .2
-    , ⊎-elim
-      (λ w. same-differ (now (a .x)) (now (a .y)) (l .loop .i) (v .1) (l .loop .equal) (c .if2 .equal) (omega arith) (w .0 .taken) (w .1))
-      (λ w. same-next (now (a .x)) (now (a .y)) (l .loop .i) (v .1) (l .loop .equal) (c .if2 .equal) (omega arith) (w .0 .left) (w .1))
-      (c .if2 .came)
-    ∙ v .3)
+    let v = l .loop .inv in (
+      omega arith,
+      v .1,
+      v .2,
+      ⊎-elim
+          (λ w. same-differ (now (a .x)) (now (a .y)) (l .loop .i) (v .1) (l .loop .equal) (c .if2 .equal) (omega arith) (w .0 .taken) (w .1))
+          (λ w. same-next (now (a .x)) (now (a .y)) (l .loop .i) (v .1) (l .loop .equal) (c .if2 .equal) (omega arith) (w .0 .left) (w .1))
+          (c .if2 .came)
+          ∙ v .3,
+    )
 
 returns-2 : tie.Need-returns-2 Inv-loop μ-loop
 returns-2 c = let l = c .before in
