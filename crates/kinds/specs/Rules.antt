@@ -1,5 +1,5 @@
 -- The rule that the classifiers answer with, read off the one table of kinds.
-use mathlib.Core.Bool.{Bool, true, false, cond, _&&_}
+use mathlib.Core.Bool.{Bool, true, false, cond, _&&_, not}
 use mathlib.Core.List.{List, [], _∷_, map}
 use Prim.Native.Nat.{ℕ, suc}
 use lib.Dec.{eqb}
@@ -54,3 +54,11 @@ ruleOfType t = cond (eqb t 16) (rule Asla Any 1122) (lookup (hasType t) (ruleWit
 
 unfoldable pub ruleOfCode : ℕ → Rule
 ruleOfCode c = cond (eqb c 1122) (rule Asla Any 1122) (lookup (hasCode c) (ruleWith (λ q. q .bgplsSize)) (rule Unknown Any 0) kinds)
+
+-- Whether a length is wrong inside a 1122, where the link's kinds are unknown.
+unfoldable pub wrongInsideBy : Kind → Size → ℕ → Bool
+wrongInsideBy (Link i) s n = false
+wrongInsideBy (Application i) s n = not (fitsIn s n)
+wrongInsideBy Srlg s n = not (fitsIn s n)
+wrongInsideBy Asla s n = not (fitsIn s n)
+wrongInsideBy Unknown s n = not (fitsIn s n)
