@@ -28,7 +28,7 @@ unfoldable pub inRunA : T.Carrier → Bool
 inRunA (T.typeInA t) = true
 inRunA T.valuesInBC = false
 
--- "On side A a set is a grid, one row per kind": the codes of its ten rows.
+-- W7. A set on side A is a grid, one row per kind: the codes of its ten rows.
 unfoldable pub gridCodes : List ℕ
 gridCodes = map (λ q. q .code) (keep (λ q. isApplications q && inRunA (q .carrier)) kinds)
 
