@@ -4,18 +4,39 @@ ghost use mathlib.Core.Bool.{_||_, _&&_, not};
 ghost use Prim.Native.Nat.{ℕ, _+_, _≤_, _<_};
 ghost use lib.ListN.{length};
 ghost use Rattle.linkstate.specs.Lists.{put};
-ghost use Rattle.linkstate.specs.Masks.{bit, inMasks, asNumber, inNumber, lastBelow, maskSize, maskByte, mask};
-ghost use Rattle.masks.specs.Sets.{lastOf, IsNext};
+ghost use Rattle.linkstate.specs.Masks.{bit, inMasks, asNumber, inNumber, lastBelow, maskSize, mask};
+ghost use Rattle.masks.specs.Sets.{lastOf, IsNext, littleEndian, turnedPlace, exchanged};
 
-// The four bits of each number below 16 in the other order, four bits to each: a table that fits in a register.
-const REVERSED: u64 = 0xF7B3D591E6A2C480;
-
-// The byte whose bits, from the top, are those of b from the bottom.
-fn reversed(b: u64) -> u64
-    requires { ⌜ b < 256 ⌝ }
-    ensures { λ r. ⌜ r ≡ maskByte (inNumber b) 0 ⌝ }
+// The bits of m at the places of q, and those k above them, in each other's place.
+fn exchange(q: u64, m: u64, k: u32) -> u64
+    requires { ⌜ k < 64 ⌝ }
+    ensures { λ r. ⌜ ((n : ℕ) → n < 64 → inNumber r n ≡ exchanged (inNumber q) (inNumber m) k n) ⌝ }
 {
-    (REVERSED >> (b % 16 * 4)) % 16 * 16 + (REVERSED >> (b / 16 * 4)) % 16
+    (q & (m >> k)) | ((q & m) << k)
+}
+
+// The number whose bytes have their bits in the other order: neighbours change places, then twos, then fours.
+fn turned(m: u64) -> u64
+    ensures { λ r. ⌜ ((n : ℕ) → n < 64 → inNumber r n ≡ inNumber m (turnedPlace n)) ⌝ }
+{
+    let a = exchange(0x5555555555555555, m, 1);
+    let b = exchange(0x3333333333333333, a, 2);
+    exchange(0x0F0F0F0F0F0F0F0F, b, 4)
+}
+
+// The number whose bytes these are, the first the lowest.
+fn little_endian(s: &[u8]) -> u64
+    requires { ⌜ length (now s) ≤ 8 ⌝ }
+    ensures { λ r. ⌜ r ≡ littleEndian (now (s .entry)) ⌝ }
+{
+    let mut i = s.len();
+    let mut m: u64 = 0;
+    while 0 < i {
+        i -= 1;
+        let b = s[i] as u64;
+        m = m * 256 + b;
+    }
+    m
 }
 
 // The applications of a mask, as a number.
@@ -23,13 +44,7 @@ pub fn mask_number(s: &[u8]) -> u64
     requires { ⌜ length (now s) ≤ 8 ⌝ }
     ensures { λ r. ⌜ r ≡ asNumber (bit (now (s .entry))) ⌝ }
 {
-    let mut i = s.len();
-    let mut m: u64 = 0;
-    while 0 < i {
-        i -= 1;
-        m = m * 256 + reversed(s[i] as u64);
-    }
-    m
+    turned(little_endian(s))
 }
 
 // Whether application n is in the set m.
@@ -125,8 +140,9 @@ pub fn write_mask(m: u64, out: &mut [u8], at: usize) -> usize
     ensures { λ r. ⌜ (r ≡ maskSize (inNumber m)) × (now (out .exit) ≡ put (now (out .entry)) at (mask (inNumber m))) ⌝ }
 {
     let size = mask_size(m);
+    let r = turned(m);
     for i in 0..size {
-        out[at + i] = reversed((m >> (8 * i)) % 256) as u8;
+        out[at + i] = ((r >> (8 * i)) % 256) as u8;
     }
     size
 }

@@ -1,6 +1,6 @@
 -- `masks::joined` meets its contract.
 -- Assumes nothing.
-use Rattle.masks.proofs.Laws.{or-in}
+use Rattle.masks.proofs.Steps.{or-in}
 use Rattle.masks.proofs.joined.Statement.{statement}
 use Rattle.masks.proofs.joined.Tie as tie
 

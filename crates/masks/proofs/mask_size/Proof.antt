@@ -3,7 +3,7 @@
 use mathlib.Core.Path.{sym, ap, _∙_}
 use native.Mathlib.Omega.{arith}
 use Rattle.linkstate.specs.Masks.{maskSize, inNumber}
-use Rattle.masks.proofs.Laws.{size-zero, size-four, size-eight}
+use Rattle.masks.proofs.Steps.{size-zero, size-four, size-eight}
 use Rattle.masks.proofs.mask_size.Statement.{statement}
 use Rattle.masks.proofs.mask_size.Tie as tie
 

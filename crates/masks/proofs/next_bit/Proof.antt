@@ -2,7 +2,7 @@
 -- Assumes nothing.
 use native.Mathlib.Omega.{arith}
 use borrow.Author.Needs.{needs}
-use Rattle.masks.proofs.Laws.{next-end, next-none, next-some}
+use Rattle.masks.proofs.Steps.{next-end, next-none, next-some}
 use Rattle.masks.proofs.next_bit.Statement.{statement}
 use Rattle.masks.proofs.next_bit.Tie as tie
 

@@ -1,6 +1,6 @@
 -- `masks::without` meets its contract.
 -- Assumes nothing.
-use Rattle.masks.proofs.Laws.{minus-in}
+use Rattle.masks.proofs.Steps.{minus-in}
 use Rattle.masks.proofs.without.Statement.{statement}
 use Rattle.masks.proofs.without.Tie as tie
 
