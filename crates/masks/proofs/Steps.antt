@@ -63,7 +63,8 @@ raised x k n = go (leb k n) refl
 
 -- an operation that goes digit by digit says of the members what it says of a digit
 module _ (op : ℕ → ℕ → ℕ) (says : Bool → Bool → Bool)
-    (digits : (a b n : ℕ) → op a b / 2 ^ n % 2 ≡ op (a / 2 ^ n % 2) (b / 2 ^ n % 2))
+    (shr : (a b k : ℕ) → op a b / 2 ^ k ≡ op (a / 2 ^ k) (b / 2 ^ k))
+    (low : (a b k : ℕ) → op a b % 2 ^ k ≡ op (a % 2 ^ k) (b % 2 ^ k))
     (table : (x y : Bool) → eqb (op (one x) (one y)) 1 ≡ says x y) where
   op-in : (a b n : ℕ) → inNumber (op a b) n ≡ says (inNumber a n) (inNumber b n)
   unfolding inNumber
@@ -72,10 +73,7 @@ module _ (op : ℕ → ℕ → ℕ) (says : Bool → Bool → Bool)
       let y = b / 2 ^ n % 2 in
       let e : x ≡ one (eqb x 1) = sym (digit-one x (omega arith)) in
       let f : y ≡ one (eqb y 1) = sym (digit-one y (omega arith)) in
-      ap (λ (d : ℕ). eqb d 1) (digits a b n ∙ ap₂ op e f) ∙ table (eqb x 1) (eqb y 1)
-
-or-digits : (a b n : ℕ) → bitOr a b / 2 ^ n % 2 ≡ bitOr (a / 2 ^ n % 2) (b / 2 ^ n % 2)
-or-digits a b n = ap (λ (x : ℕ). x % 2) (or-shr a b n) ∙ or-mod (a / 2 ^ n) (b / 2 ^ n) 1
+      ap (λ (d : ℕ). eqb d 1) (ap (λ (d : ℕ). d % 2) (shr a b n) ∙ low (a / 2 ^ n) (b / 2 ^ n) 1 ∙ ap₂ op e f) ∙ table (eqb x 1) (eqb y 1)
 
 or-table : (x y : Bool) → eqb (bitOr (one x) (one y)) 1 ≡ x || y
 unfolding one
@@ -85,10 +83,7 @@ or-table false true = refl
 or-table false false = refl
 
 pub or-in : (a b n : ℕ) → inNumber (bitOr a b) n ≡ inNumber a n || inNumber b n
-or-in = op-in bitOr (λ x y. x || y) or-digits or-table
-
-and-digits : (a b n : ℕ) → bitAnd a b / 2 ^ n % 2 ≡ bitAnd (a / 2 ^ n % 2) (b / 2 ^ n % 2)
-and-digits a b n = ap (λ (x : ℕ). x % 2) (and-shr a b n) ∙ and-mod (a / 2 ^ n) (b / 2 ^ n) 1
+or-in = op-in bitOr (λ x y. x || y) or-shr or-mod or-table
 
 and-table : (x y : Bool) → eqb (bitAnd (one x) (one y)) 1 ≡ x && y
 unfolding one
@@ -98,27 +93,24 @@ and-table false true = refl
 and-table false false = refl
 
 and-in : (a b n : ℕ) → inNumber (bitAnd a b) n ≡ inNumber a n && inNumber b n
-and-in = op-in bitAnd (λ x y. x && y) and-digits and-table
+and-in = op-in bitAnd (λ x y. x && y) and-shr and-mod and-table
 
--- the digits of a that b does not have
-abbrev minus : ℕ → ℕ → ℕ
-minus a b = bitXor a (bitAnd a b)
-
-minus-digits : (a b n : ℕ) → minus a b / 2 ^ n % 2 ≡ minus (a / 2 ^ n % 2) (b / 2 ^ n % 2)
-minus-digits a b n =
-    let x = a / 2 ^ n in
-    ap (λ (i : ℕ). i % 2) (xor-shr a (bitAnd a b) n) ∙ xor-mod x (bitAnd a b / 2 ^ n) 1
-    ∙ ap (bitXor (x % 2)) (and-digits a b n)
-
-minus-table : (x y : Bool) → eqb (minus (one x) (one y)) 1 ≡ x && not y
+xor-table : (x y : Bool) → eqb (bitXor (one x) (one y)) 1 ≡ cond x (not y) y
 unfolding one
-minus-table true true = refl
-minus-table true false = refl
-minus-table false true = refl
-minus-table false false = refl
+xor-table true true = refl
+xor-table true false = refl
+xor-table false true = refl
+xor-table false false = refl
 
+-- the members of a that b does not have
 pub minus-in : (a b n : ℕ) → inNumber (bitXor a (bitAnd a b)) n ≡ inNumber a n && not (inNumber b n)
-minus-in = op-in minus (λ x y. x && not y) minus-digits minus-table
+minus-in a b n =
+    op-in bitXor (λ x y. cond x (not y) y) xor-shr xor-mod xor-table a (bitAnd a b) n
+    ∙ ap (λ (y : Bool). cond (inNumber a n) (not y) y) (and-in a b n) ∙ less (inNumber a n) (inNumber b n)
+  where
+    less : (x y : Bool) → cond x (not (x && y)) (x && y) ≡ x && not y
+    less true y = refl
+    less false y = refl
 
 -- ---- the bits of each byte in the other order
 
