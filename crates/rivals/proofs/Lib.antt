@@ -1,3 +1,4 @@
 pub mod ListLaws
 pub mod Sums
 pub mod Sizes
+pub mod MaskLaws
