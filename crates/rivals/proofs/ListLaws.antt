@@ -2,7 +2,7 @@
 use mathlib.Core.Path.{_≡_, refl, sym, ap, ap₂, _∙_, subst}
 use mathlib.Core.Logic.{_⊎_, inl, inr}
 use mathlib.Core.Bool.{Bool, true, false, cond, _&&_, _||_, not, false≢true}
-use mathlib.Core.List.{List, [], _∷_, _++_, map, append-assoc, List·Memᴰ, List·Memᴰ·head, List·Memᴰ·tail, List·Memᴰ·cases-cons}
+use mathlib.Core.List.{List, [], _∷_, _++_, map, append-assoc, List·Memᴰ, List·Memᴰ·head, List·Memᴰ·tail, List·Memᴰ·cases-cons, List·Memᴰ·append-cases}
 use Prim.Native.Nat.{ℕ, zero, suc, _+_, _≤_, _<_}
 use native.Mathlib.Omega.{arith}
 use borrow.Author.Tests.{eqb-true, eqb-false, eq-eqb, ne-eqb, not-true}
@@ -212,6 +212,15 @@ module _ {A B : Type 0} where
   unfolding each
   each-append f [] ys = refl
   each-append f (x ∷ xs) ys = rw (each-append f xs ys) (sym (append-assoc (f x) (each f xs) (each f ys)))
+
+  pub each-mem : (f : A → List B) {y : B} (xs : List A) → List·Memᴰ y (each f xs) → (x : A) × List·Memᴰ x xs × List·Memᴰ y (f x)
+  unfolding each
+  each-mem f [] h = elim h [ ]
+  each-mem f {y = y} (x ∷ xs) h = go (List·Memᴰ·append-cases (f x) h) (λ k. each-mem f xs k)
+    where
+      go : List·Memᴰ y (f x) ⊎ List·Memᴰ y (each f xs) → (List·Memᴰ y (each f xs) → (z : A) × List·Memᴰ z xs × List·Memᴰ y (f z)) → (z : A) × List·Memᴰ z (x ∷ xs) × List·Memᴰ y (f z)
+      go (inl k) r = (x, List·Memᴰ·head refl, k)
+      go (inr k) r = let q = r k in (q .0, List·Memᴰ·tail (q .1), q .2)
 
   pub map-append : (f : A → B) (xs ys : List A) → map f (xs ++ ys) ≡ map f xs ++ map f ys
   map-append f [] ys = refl
