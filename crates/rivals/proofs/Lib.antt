@@ -4,3 +4,4 @@ pub mod Sizes
 pub mod MaskLaws
 pub mod KindLaws
 pub mod RunLaws
+pub mod ExportSize
