@@ -5,3 +5,4 @@ pub mod MaskLaws
 pub mod KindLaws
 pub mod RunLaws
 pub mod ExportSize
+pub mod Shortest
