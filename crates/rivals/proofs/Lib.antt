@@ -4,5 +4,7 @@ pub mod Sizes
 pub mod MaskLaws
 pub mod KindLaws
 pub mod RunLaws
+pub mod Groups
 pub mod ExportSize
 pub mod Shortest
+pub mod Bounds

@@ -30,6 +30,7 @@ use Rattle.rivals.proofs.Sizes.{weight, whole, cost, costs, value-cost,
 use Rattle.rivals.proofs.MaskLaws.{bit-length, mask-least}
 use Rattle.rivals.proofs.KindLaws.{codes-different, application-codes-different, others-different, top-of}
 use Rattle.rivals.proofs.RunLaws.{accepted-faults, aslaWeight, aslas-weight, masks-fit, named-set}
+use Rattle.rivals.proofs.Groups.{leader-row}
 use Rattle.rivals.proofs.ExportSize.{generalCost, groupCost, length-export}
 
 -- ---- what an ASLA names
@@ -54,11 +55,7 @@ not-general d a h = go (ltb a 64) refl
         let z : a ≡ user (a - 64) = omega arith in
         rw (ne-eqb (length (d .userMask)) 0 (λ y. omega (arith, user-bit d (a - 64) (rw z at h)))) (and-false (eqb (length (d .standardMask)) 0))
 
--- ---- groups
-
-pub leader-row : (m : Meaning) (a b : ℕ) → row (m .set a) ≡ row (m .set b) → leader m a ≡ leader m b
-unfolding leader
-leader-row m a b e = ap (λ (x : List (List ℕ)). lookup (λ c. m .named c && sameRows (row (m .set c)) x) (λ c. c) 0 others) e
+-- ---- classes
 
 -- The class of an ASLA: 0 for the general ones, else the leader of the group of what it names.
 class : Meaning → Advertisement → ℕ

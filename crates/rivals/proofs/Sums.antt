@@ -66,6 +66,11 @@ module _ {A : Type 0} where
   sumIf-cond p w (x ∷ xs) = ap (λ (n : ℕ). cond (p x) (w x) 0 + n) (sumIf-cond p w xs)
 
   -- One element weighs at most what all do.
+  pub sumOf-one : (w : A → ℕ) {x : A} (xs : List A) → List·Memᴰ x xs → w x ≤ sumOf w xs
+  unfolding sumOf
+  sumOf-one w (y ∷ xs) (List·Memᴰ·head e) = rw (sym e) (omega arith)
+  sumOf-one w (y ∷ xs) (List·Memᴰ·tail k) = omega (arith, sumOf-one w xs k)
+
   pub sumIf-one : (p : A → Bool) (w : A → ℕ) {x : A} (xs : List A) → List·Memᴰ x xs → p x ≡ true → w x ≤ sumIf p w xs
   unfolding sumIf
   sumIf-one p w (y ∷ xs) (List·Memᴰ·head e) h = rw (sym e, h) (omega arith)
