@@ -8,3 +8,4 @@ pub mod Groups
 pub mod ExportSize
 pub mod Shortest
 pub mod Bounds
+pub mod ReadBack
