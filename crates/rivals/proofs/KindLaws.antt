@@ -50,7 +50,22 @@ applications : all (λ k. not (isLinkCode k) && member k codes) applicationCodes
 unfolding computing
 applications = refl
 
+no-asla : all (λ k. not (eqb k 1122)) codes ≡ true
+unfolding computing
+no-asla = refl
+
 -- ---- of a code
+
+pub not-asla : {k : ℕ} → List·Memᴰ k codes → eqb k 1122 ≡ false
+not-asla {k} h = not-true (eqb k 1122) (all-mem (λ k. not (eqb k 1122)) codes no-asla h)
+
+pub low-code : {k : ℕ} → List·Memᴰ k lowCodes → List·Memᴰ k codes
+unfolding lowCodes
+low-code h = keep-mem (λ k. ltb k 1122) codes h .1
+
+pub high-code : {k : ℕ} → List·Memᴰ k highCodes → List·Memᴰ k codes
+unfolding highCodes
+high-code h = keep-mem (λ k. ltb 1122 k) codes h .1
 
 pub application-code : {k : ℕ} → List·Memᴰ k applicationCodes → (isLinkCode k ≡ false) × List·Memᴰ k codes
 application-code {k} h =

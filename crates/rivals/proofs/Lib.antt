@@ -9,3 +9,4 @@ pub mod ExportSize
 pub mod Shortest
 pub mod Bounds
 pub mod ReadBack
+pub mod RoundTrip

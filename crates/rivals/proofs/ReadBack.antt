@@ -35,7 +35,7 @@ read-one at t v rest =
   where
     s : List ℕ
     s = bytesOf (tlv t v) ++ rest
-  
+
     type-is : typeOf 2 s ≡ t
     type-is = omega arith
 
