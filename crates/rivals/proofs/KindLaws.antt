@@ -1,17 +1,17 @@
 -- What the table of kinds says of its codes, by computing; and the values at the top of a run, which are the link's bandwidths and the RSVP-TE set.
-use mathlib.Core.Path.{_≡_, refl, sym, ap, _∙_}
-use mathlib.Core.Bool.{Bool, true, false, cond, _&&_, not, false≢true}
+use mathlib.Core.Path.{_≡_, refl, sym, ap, _∙_, subst}
+use mathlib.Core.Bool.{Bool, true, false, cond, _&&_, _||_, not, false≢true}
 use mathlib.Core.List.{List, [], _∷_, _++_, map, List·Memᴰ}
 use Prim.Native.Nat.{ℕ}
-use borrow.Author.Tests.{not-true}
+use borrow.Author.Tests.{eqb-true, not-true}
 use lib.Dec.{eqb, ltb}
 use Rattle.linkstate.specs.Lists.{keep, any, all, member}
-use Rattle.linkstate.specs.Kinds.{Kind, kinds, codes, linkCodes, applicationCodes, isApplications, isLinkCode, hasCode, fits, wrongAtTop, wrongInside}
+use Rattle.linkstate.specs.Kinds.{Kind, kinds, codes, linkCodes, applicationCodes, isApplications, isCode, isLinkCode, hasCode, fits, wrongAtTop, wrongInside}
 use Rattle.linkstate.specs.Masks.{others}
 use Rattle.linkstate.specs.Meaning.{Meaning, row}
 use Rattle.linkstate.specs.Export.{topValue}
 use Rattle.linkstate.proofs.Computing.{computing}
-use Rattle.rivals.proofs.ListLaws.{and-l, and-r, all-mem, any-no, mem-any, keep-mem, map-at, map-ext, member-mem, mem-member, different}
+use Rattle.rivals.proofs.ListLaws.{and-l, and-r, all-mem, any-no, any-mem, mem-any, mem-map, keep-mem, map-at, map-ext, member-mem, mem-member, different}
 
 -- ---- computed
 
@@ -54,7 +54,29 @@ no-asla : all (λ k. not (eqb k 1122)) codes ≡ true
 unfolding computing
 no-asla = refl
 
+bytes-at-top : all (λ k. eqb k 1096 || wrongAtTop k 0) codes ≡ true
+unfolding computing
+bytes-at-top = refl
+
+bytes-inside : all (λ k. eqb k 1096 || isLinkCode k || wrongInside k 0) codes ≡ true
+unfolding computing
+bytes-inside = refl
+
 -- ---- of a code
+
+pub code-mem : (k : ℕ) → isCode k ≡ true → List·Memᴰ k codes
+unfolding isCode codes hasCode
+code-mem k h =
+    let q = any-mem (hasCode k) kinds h in
+    let e : k ≡ q .0 .code = eqb-true k (q .0 .code) (q .2) in
+    subst (λ (c : ℕ). List·Memᴰ c (map (λ q. q .code) kinds)) (sym e) (mem-map (λ q. q .code) kinds (q .1))
+
+-- A kind other than SRLG is wrong without bytes.
+pub top-bytes : {k : ℕ} → List·Memᴰ k codes → eqb k 1096 ≡ false → wrongAtTop k 0 ≡ true
+top-bytes {k} h n = let e = all-mem (λ k. eqb k 1096 || wrongAtTop k 0) codes bytes-at-top h in rw n at e
+
+pub inside-bytes : {k : ℕ} → List·Memᴰ k codes → eqb k 1096 ≡ false → isLinkCode k ≡ false → wrongInside k 0 ≡ true
+inside-bytes {k} h n l = let e = all-mem (λ k. eqb k 1096 || isLinkCode k || wrongInside k 0) codes bytes-inside h in rw (n, l) at e
 
 pub not-asla : {k : ℕ} → List·Memᴰ k codes → eqb k 1122 ≡ false
 not-asla {k} h = not-true (eqb k 1122) (all-mem (λ k. not (eqb k 1122)) codes no-asla h)

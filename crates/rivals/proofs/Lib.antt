@@ -12,3 +12,4 @@ pub mod ReadBack
 pub mod RoundTrip
 pub mod Acceptance
 pub mod SrlgLaws
+pub mod Reader
