@@ -2,16 +2,17 @@
 use mathlib.Core.Path.{_≡_, refl, sym, ap, _∙_, subst}
 use mathlib.Core.Bool.{Bool, true, false, cond, _&&_, _||_, not, false≢true}
 use mathlib.Core.List.{List, [], _∷_, _++_, map, List·Memᴰ}
-use Prim.Native.Nat.{ℕ}
-use borrow.Author.Tests.{eqb-true, not-true}
+use Prim.Native.Nat.{ℕ, _+_, _-_}
+use native.Mathlib.Omega.{arith}
+use borrow.Author.Tests.{eqb-true, eqb-false, ltb-false, not-true}
 use lib.Dec.{eqb, ltb}
-use Rattle.linkstate.specs.Lists.{keep, any, all, member}
+use Rattle.linkstate.specs.Lists.{numbers, keep, any, all, member}
 use Rattle.linkstate.specs.Kinds.{Kind, kinds, codes, linkCodes, applicationCodes, isApplications, isCode, isLinkCode, hasCode, fits, wrongAtTop, wrongInside}
-use Rattle.linkstate.specs.Masks.{others}
+use Rattle.linkstate.specs.Masks.{user, others}
 use Rattle.linkstate.specs.Meaning.{Meaning, row}
 use Rattle.linkstate.specs.Export.{topValue}
 use Rattle.linkstate.proofs.Computing.{computing}
-use Rattle.rivals.proofs.ListLaws.{and-l, and-r, all-mem, any-no, any-mem, mem-any, mem-map, keep-mem, map-at, map-ext, member-mem, mem-member, different}
+use Rattle.rivals.proofs.ListLaws.{and-l, and-r, all-mem, any-no, any-mem, mem-any, mem-map, keep-mem, map-at, map-ext, member-mem, mem-member, mem-numbers, different}
 
 -- ---- computed
 
@@ -62,6 +63,22 @@ bytes-inside : all (λ k. eqb k 1096 || isLinkCode k || wrongInside k 0) codes �
 unfolding computing
 bytes-inside = refl
 
+-- ---- applications
+
+pub standard-other : (n : ℕ) → ltb 63 n ≡ false → eqb n 0 ≡ false → member n others ≡ true
+unfolding others
+standard-other n h z =
+    let l = ltb-false 63 n h in
+    let p : 1 + (n - 1) ≡ n = let q : (n ≡ 0 → ⊥) = eqb-false n 0 z in omega arith in
+    mem-member (numbers 1 127) (subst (λ (i : ℕ). List·Memᴰ i (numbers 1 127)) p (mem-numbers 127 1 (n - 1) (omega arith)))
+
+pub user-other : (n : ℕ) → ltb 63 n ≡ false → member (user n) others ≡ true
+unfolding others user
+user-other n h =
+    let l = ltb-false 63 n h in
+    let p : 1 + (63 + n) ≡ 64 + n = omega arith in
+    mem-member (numbers 1 127) (subst (λ (i : ℕ). List·Memᴰ i (numbers 1 127)) p (mem-numbers 127 1 (63 + n) (omega arith)))
+
 -- ---- of a code
 
 pub code-mem : (k : ℕ) → isCode k ≡ true → List·Memᴰ k codes
@@ -99,6 +116,12 @@ link-code {k} h =
     let e = all-mem (λ k. isLinkCode k && member k codes) linkCodes links h in
     (and-l (isLinkCode k) (member k codes) e, member-mem k codes (and-r (isLinkCode k) (member k codes) e))
 
+pub link-mem : {k : ℕ} → List·Memᴰ k codes → isLinkCode k ≡ true → List·Memᴰ k linkCodes
+link-mem {k} h e = let o = all-mem (λ k. cond (isLinkCode k) (member k linkCodes) (member k applicationCodes)) codes owned h in member-mem k linkCodes (rw e at o)
+
+pub application-mem : {k : ℕ} → List·Memᴰ k codes → isLinkCode k ≡ false → List·Memᴰ k applicationCodes
+application-mem {k} h e = let o = all-mem (λ k. cond (isLinkCode k) (member k linkCodes) (member k applicationCodes)) codes owned h in member-mem k applicationCodes (rw e at o)
+
 -- A right length at the top of a run is right inside a 1122.
 pub right-inside : (c n : ℕ) → wrongAtTop c n ≡ false → wrongInside c n ≡ false
 unfolding wrongAtTop wrongInside
@@ -117,11 +140,11 @@ module _ (m : Meaning) (g : ℕ → List ℕ) where
   -- Where the bandwidths and the RSVP-TE set are those of g, so are the values at the top, and the other way round.
   pub top-of : map (m .bandwidth) linkCodes ≡ map g linkCodes → row (m .rsvpTe) ≡ row g → (k : ℕ) → List·Memᴰ k codes → topValue m k ≡ g k
   unfolding topValue row
-  top-of e d k h = go (isLinkCode k) (all-mem (λ k. cond (isLinkCode k) (member k linkCodes) (member k applicationCodes)) codes owned h)
+  top-of e d k h = go (isLinkCode k) refl
     where
-      go : (b : Bool) → cond b (member k linkCodes) (member k applicationCodes) ≡ true → cond b (m .bandwidth k) (m .rsvpTe k) ≡ g k
-      go true i = map-at (m .bandwidth) g linkCodes e (member-mem k linkCodes i)
-      go false i = map-at (m .rsvpTe) g applicationCodes d (member-mem k applicationCodes i)
+      go : (b : Bool) → isLinkCode k ≡ b → cond b (m .bandwidth k) (m .rsvpTe k) ≡ g k
+      go true i = map-at (m .bandwidth) g linkCodes e (link-mem h i)
+      go false i = map-at (m .rsvpTe) g applicationCodes d (application-mem h i)
 
   pub bandwidths-of : ((k : ℕ) → List·Memᴰ k codes → topValue m k ≡ g k) → map (m .bandwidth) linkCodes ≡ map g linkCodes
   unfolding topValue

@@ -251,6 +251,12 @@ unfolding numbers
 numbers-mem from (suc n) (List·Memᴰ·head e) = omega arith
 numbers-mem from (suc n) (List·Memᴰ·tail k) = omega (arith, numbers-mem (suc from) n k)
 
+pub mem-numbers : (n from i : ℕ) → i < n → List·Memᴰ (from + i) (numbers from n)
+unfolding numbers
+mem-numbers zero from i h = absurd (omega arith)
+mem-numbers (suc n) from zero h = List·Memᴰ·head {x = from} (omega arith)
+mem-numbers (suc n) from (suc i) h = List·Memᴰ·tail (subst (λ (x : ℕ). List·Memᴰ x (numbers (suc from) n)) (omega arith) (mem-numbers n (suc from) i (omega arith)))
+
 pub length-numbers : (n from : ℕ) → length (numbers from n) ≡ n
 unfolding numbers
 length-numbers zero from = refl

@@ -13,7 +13,7 @@ use lib.Seq.{take-length}
 use Rattle.linkstate.specs.Lists.{keep, any, all, each, empty, put, member}
 use Rattle.linkstate.specs.Bytes.{bytesAt, distinct, words, four, bytesOfWords}
 use Rattle.linkstate.specs.Kinds.{kinds, codes, hasCode, isCode, isLinkCode, wrongAtTop, wrongInside}
-use Rattle.linkstate.specs.Masks.{user}
+use Rattle.linkstate.specs.Masks.{user, others}
 use Rattle.linkstate.specs.Replies.{runA, runBgpLs, place, Refusal, Verdict, accepted, refused, fault, faultOfCall, refusedIf, _then_, unless, Reply, absent, found, askRefused, Asked, count}
 use Rattle.linkstate.specs.Elements.{Element, element, elements, faults}
 use Rattle.linkstate.specs.Attributes.{Attribute, attribute, ofKind, srlgs, firstValue, valueOf, reading}
@@ -23,11 +23,11 @@ use Rattle.linkstate.specs.Meaning.{Meaning, meaning, Accepted}
 use Rattle.linkstate.specs.BgpLs.{aslaHeader, innerElements, checkInner, checkAsla, checkTop, advertisement, attributesOf, advertisementsOf, aslas, topLevel, runSide, runSource}
 use Rattle.linkstate.proofs.Computing.{computing}
 use Rattle.linkstate.proofs.ElementLaws.{at-place, rest-place}
-use Rattle.rivals.specs.Reads.{setMeant, meant, Tells, tellsAbsent, tellsReading, tellsSrlgs, tellsTooMany, Reads}
+use Rattle.rivals.specs.Reads.{applicationMeant, setMeant, meant, Tells, tellsAbsent, tellsReading, tellsSrlgs, tellsTooMany, Reads}
 use Rattle.rivals.proofs.ListLaws.{or-l, all-mem, any-mem, mem-map, keep-mem, each-mem, member-mem}
 use Rattle.rivals.proofs.Sizes.{not-refused}
 use Rattle.rivals.proofs.SrlgLaws.{distinct-twice}
-use Rattle.rivals.proofs.KindLaws.{code-mem, not-asla, top-bytes, inside-bytes}
+use Rattle.rivals.proofs.KindLaws.{standard-other, user-other, code-mem, not-asla, top-bytes, inside-bytes}
 use Rattle.rivals.proofs.RunLaws.{accepted-faults, faults-mem, attribute-mem, asla-mem, asla-checked, no-L}
 
 -- ---- what is given, and what is meant
@@ -36,17 +36,35 @@ value-cond : (k : ℕ) (b : Bool) (x y : List Attribute) → cond b (valueOf k x
 value-cond k true x y = refl
 value-cond k false x y = refl
 
-set-meant : (s : Source) (whom : Subject) (k : ℕ) → setMeant (meaning s) whom k ≡ valueOf k (setOf s whom k)
-unfolding setMeant setOf meaning
-set-meant s generally k = refl
-set-meant s (standardNo n) k = value-cond k (eqb n 0) (s .rsvpTe k) (s .application n k)
-set-meant s (userNo n) k = refl
+module _ (r : List ℕ) (k : ℕ) where
+  -- An application that no ASLA names gets the general set.
+  application-meant : (a : ℕ) → member a others ≡ true → applicationMeant (meaning (runSource r)) a k ≡ valueOf k (applicationSet a (runSide r))
+  unfolding applicationMeant meaning runSource applicationSet
+  application-meant a h = rw (h, no-L r a) (go (named a (runSide r)))
+    where
+      go : (b : Bool)
+          → cond b (valueOf k (cond b (ofLive (names a) (runSide r)) (generalSet (runSide r)))) (valueOf k (generalSet (runSide r)))
+          ≡ valueOf k (cond b (ofLive (names a) (runSide r)) (generalSet (runSide r)))
+      go true = refl
+      go false = refl
 
--- A meaning is read from what a question is given.
-pub meant-given : (s : Source) (whom : Subject) (k : ℕ) → meant (meaning s) whom k ≡ valueOf k (given s whom k)
-unfolding meant given meaning
-meant-given s whom k =
-    ap (λ (v : List ℕ). cond (isLinkCode k) (valueOf k (s .bandwidth k)) v) (set-meant s whom k) ∙ value-cond k (isLinkCode k) (s .bandwidth k) (setOf s whom k)
+  set-meant : (whom : Subject) → numberTooHigh whom ≡ false → setMeant (meaning (runSource r)) whom k ≡ valueOf k (setOf (runSource r) whom k)
+  unfolding setMeant setOf numberTooHigh meaning runSource
+  set-meant generally h = refl
+  set-meant (standardNo n) h = go (eqb n 0) refl
+    where
+      go : (b : Bool) → eqb n 0 ≡ b
+          → cond b (valueOf k (topLevel r)) (applicationMeant (meaning (runSource r)) n k) ≡ valueOf k (cond b (topLevel r) (applicationSet n (runSide r)))
+      go true e = refl
+      go false e = application-meant n (standard-other n h e)
+  set-meant (userNo n) h = application-meant (user n) (user-other n h)
+
+  -- A meaning is read from what a question is given.
+  pub meant-given : (whom : Subject) → numberTooHigh whom ≡ false → meant (meaning (runSource r)) whom k ≡ valueOf k (given (runSource r) whom k)
+  unfolding meant given meaning
+  meant-given whom h =
+      let s = runSource r in
+      ap (λ (v : List ℕ). cond (isLinkCode k) (valueOf k (s .bandwidth k)) v) (set-meant whom h) ∙ value-cond k (isLinkCode k) (s .bandwidth k) (setOf s whom k)
 
 -- ---- where a given attribute comes from
 
@@ -199,7 +217,7 @@ module _ (r : List ℕ) (ok : Accepted (runSource r)) (whom : Subject) (n : numb
 
   meant-is : meant (meaning (runSource r)) whom k ≡ valueOf k attributes
   unfolding attributes
-  meant-is = meant-given (runSource r) whom k
+  meant-is = meant-given r k whom n
 
   asked-is : ask (runSource r) whom k list ≡ answer runBgpLs k attributes list
   unfolding ask unless runSource attributes

@@ -15,12 +15,16 @@ use Rattle.linkstate.specs.Questions.{Subject, generally, standardNo, userNo, u
 use Rattle.linkstate.specs.Meaning.{Meaning}
 use Rattle.linkstate.specs.BgpLs.{runSource}
 
--- The value of a kind that a meaning has for a subject.
+-- The set of an application other than RSVP-TE: its own where it is named, else the general set.
+unfoldable pub applicationMeant : Meaning → ℕ → ℕ → List ℕ
+applicationMeant m a k = cond (m .named a) (m .set a k) (m .general k)
+
 unfoldable pub setMeant : Meaning → Subject → ℕ → List ℕ
 setMeant m generally k = m .general k
-setMeant m (standardNo n) k = cond (eqb n 0) (m .rsvpTe k) (m .set n k)
-setMeant m (userNo n) k = m .set (user n) k
+setMeant m (standardNo n) k = cond (eqb n 0) (m .rsvpTe k) (applicationMeant m n k)
+setMeant m (userNo n) k = applicationMeant m (user n) k
 
+-- The value of a kind that a meaning has for a subject.
 unfoldable pub meant : Meaning → Subject → ℕ → List ℕ
 meant m whom k = cond (isLinkCode k) (m .bandwidth k) (setMeant m whom k)
 
