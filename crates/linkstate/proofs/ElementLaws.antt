@@ -1,11 +1,10 @@
 -- Laws on the elements of a run that any walk needs, over w, the number of bytes of a type and of a length:
 -- what one step of a walk sees, a view of all steps (`framed`), and that each value stands in the run at its place (`at-place`).
-use mathlib.Core.Path.{_≡_, refl, sym, ap, _∙_, subst}
+use mathlib.Core.Path.{_≡_, refl, sym, ap, _∙_}
 use mathlib.Core.Logic.{_⊎_, inl, inr}
 use mathlib.Core.Bool.{Bool, true, false, cond}
 use mathlib.Core.List.{List, [], _∷_, _++_, map, List·Memᴰ, List·Memᴰ·cases-cons}
 use Prim.Native.Nat.{ℕ, zero, suc, pred, _+_, _≤_, _<_}
-use native.Mathlib.Nat.{le-refl}
 use native.Mathlib.Omega.{arith}
 use borrow.Author.Tests.{le-leb, lt-leb, leb-true, leb-false}
 use lib.Dec.{leb}

@@ -1,17 +1,17 @@
 -- Document 01: "A link is *accepted* when no number but 5 refuses its export, a BGP-LS run when none but 5, 6 or 7 refuses a question to it."
 -- The definitions say `accepted` of the checks of the bytes: these theorems tie the two.
 use mathlib.Core.Path.{_≡_, refl, sym, ap, _∙_}
-use mathlib.Core.Bool.{Bool, true, false, cond, _&&_, _||_, not, false≢true}
+use mathlib.Core.Bool.{Bool, true, false, cond, not, false≢true}
 use mathlib.Core.List.{List, [], _∷_}
-use Prim.Native.Nat.{ℕ, _+_}
+use Prim.Native.Nat.{ℕ}
 use native.Mathlib.Omega.{arith}
 use borrow.Author.Tests.{not-true}
 use lib.Dec.{eqb, ltb}
 use lib.ListN.{length}
 use Rattle.linkstate.specs.Lists.{all, empty, member, put}
 use Rattle.linkstate.specs.Kinds.{isCode, wrongAtTop, wrongInside}
-use Rattle.linkstate.specs.Attributes.{Attribute, ofKind, srlgs, reading}
-use Rattle.linkstate.specs.Replies.{Run, runA, runBgpLs, place, Refusal, Verdict, accepted, refused, fault, faultOfCall, refusedIf, _then_, unless, count, Reply, absent, found, askRefused, Asked, bytes, exportRefused, Exported}
+use Rattle.linkstate.specs.Attributes.{Attribute, ofKind, srlgs}
+use Rattle.linkstate.specs.Replies.{Run, runA, runBgpLs, place, Refusal, Verdict, accepted, refused, fault, faultOfCall, refusedIf, _then_, unless, count, absent, found, askRefused, Asked, bytes, exportRefused, Exported}
 use Rattle.linkstate.specs.Elements.{Element, element, cut, elements, faults}
 use Rattle.linkstate.specs.Questions.{Subject, generally, Source, numberTooHigh, given, beforeAnswer, firstOf, unwritten, srlgAnswer, answer, ask, write}
 use Rattle.linkstate.specs.Meaning.{Accepted}
@@ -22,7 +22,7 @@ use Rattle.rivals.proofs.ListLaws.{all-mem, member-mem}
 -- ---- the numbers that a verdict may refuse by
 
 -- A verdict refuses, if at all, by one of these numbers.
-unfoldable pub by : List ℕ → Verdict → Bool
+unfoldable by : List ℕ → Verdict → Bool
 by ns accepted = true
 by ns (refused x) = member (x .number) ns
 

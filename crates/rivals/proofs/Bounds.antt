@@ -1,18 +1,18 @@
 -- The export is within the reader's 524,288 bytes, and the value of each of its TLVs has a length of two bytes: each set has at most 4,000 bytes,
 -- and there are at most 129 of them.
-use mathlib.Core.Path.{_≡_, refl, sym, ap, _∙_}
+use mathlib.Core.Path.{_≡_, refl, ap, _∙_}
 use mathlib.Core.Logic.{_⊎_, inl, inr}
-use mathlib.Core.Bool.{Bool, true, false, cond, _&&_}
-use mathlib.Core.List.{List, [], _∷_, _++_, map, List·Memᴰ, List·Memᴰ·append-cases, Memᴰ·append-left, Memᴰ·append-right}
+use mathlib.Core.Bool.{Bool, true, false, cond}
+use mathlib.Core.List.{List, _++_, map, List·Memᴰ, List·Memᴰ·append-cases}
 use Prim.Native.Nat.{ℕ, _+_, _≤_, zero-le}
 use native.Mathlib.Omega.{arith}
 use lib.Dec.{eqb}
 use lib.ListN.{length}
-use Rattle.linkstate.specs.Lists.{all, each, empty}
+use Rattle.linkstate.specs.Lists.{all, empty}
 use Rattle.linkstate.specs.Kinds.{codes, applicationCodes}
 use Rattle.linkstate.specs.Masks.{user, others, maskSize}
 use Rattle.linkstate.specs.Meaning.{Meaning, row}
-use Rattle.linkstate.specs.Export.{Tlv, tlv, bytesOf, present, topValue, leader, inGroup, aslaValue, aslaValues, tlvs, export}
+use Rattle.linkstate.specs.Export.{tlv, present, topValue, leader, inGroup, aslaValues, tlvs, export}
 use Rattle.linkstate.specs.WellFormed.{Values, WellFormed}
 use Rattle.linkstate.proofs.Computing.{computing}
 use Rattle.rivals.proofs.ListLaws.{and-l, map-mem}
@@ -27,10 +27,14 @@ use Rattle.rivals.proofs.Groups.{asla-is}
 set-small : (ks : List ℕ) (f : ℕ → List ℕ) → Values ks f → costs ks f ≤ 4000
 set-small ks f ok = omega (arith, ok .small, length-bytes (present ks f), size-present ks f)
 
--- A TLV of a set has a value of at most 4,000 bytes.
-pub tlv-within : (ks : List ℕ) (f : ℕ → List ℕ) → costs ks f ≤ 4000 → {t : ℕ} {v : List ℕ} → List·Memᴰ (tlv t v) (present ks f) → length v ≤ 4000
+-- A TLV weighs no more than all.
+tlv-within : (ks : List ℕ) (f : ℕ → List ℕ) → costs ks f ≤ 4000 → {t : ℕ} {v : List ℕ} → List·Memᴰ (tlv t v) (present ks f) → length v ≤ 4000
 unfolding size
 tlv-within ks f h i = omega (arith, sumOf-one size (present ks f) i, size-present ks f)
+
+-- Each length of a set's TLVs fits its two bytes: so do those inside a 1122.
+pub set-lengths-within : (ks : List ℕ) (f : ℕ → List ℕ) → Values ks f → {t : ℕ} {v : List ℕ} → List·Memᴰ (tlv t v) (present ks f) → length v ≤ 65535
+set-lengths-within ks f ok i = omega (arith, tlv-within ks f (set-small ks f ok) i)
 
 others-times : sumOf (λ a. 4024) others ≡ 511048
 unfolding sumOf computing
@@ -90,7 +94,7 @@ module _ (m : Meaning) (ok : WellFormed m) where
         set-small applicationCodes (q .1) (q .3),
       )
 
-  -- Each length fits its two bytes.
+  -- Each length of the export's TLVs fits its two bytes.
   pub lengths-within : {t : ℕ} {v : List ℕ} → List·Memᴰ (tlv t v) (tlvs m) → length v ≤ 65535
   unfolding tlvs lowCodes highCodes
   lengths-within {t} {v} i = go (List·Memᴰ·append-cases (present lowCodes (topValue m) ++ map (tlv 1122) (aslaValues m)) i)

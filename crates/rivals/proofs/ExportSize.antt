@@ -2,14 +2,14 @@
 use mathlib.Core.Path.{_≡_, refl, sym, ap, _∙_, fun-ext}
 use mathlib.Core.Bool.{Bool, true, false, cond}
 use mathlib.Core.List.{List, [], _∷_, _++_, map}
-use Prim.Native.Nat.{ℕ, _+_, _≤_}
+use Prim.Native.Nat.{ℕ, _+_}
 use native.Mathlib.Omega.{arith}
 use lib.ListN.{length, length-append}
 use Rattle.linkstate.specs.Lists.{all, each, empty}
 use Rattle.linkstate.specs.Kinds.{codes, applicationCodes}
 use Rattle.linkstate.specs.Masks.{user, others, maskSize, mask}
 use Rattle.linkstate.specs.Meaning.{Meaning, row}
-use Rattle.linkstate.specs.Export.{Tlv, tlv, bytesOf, present, topValue, aslaValue, generalValues, inGroup, leaders, groupValue, aslaValues, tlvs, export}
+use Rattle.linkstate.specs.Export.{tlv, bytesOf, present, topValue, aslaValue, generalValues, inGroup, leaders, groupValue, aslaValues, tlvs, export}
 use Rattle.rivals.proofs.Sums.{sumOf, sumOf-append, sumOf-map, sumOf-keep, sumIf-cond}
 use Rattle.rivals.proofs.Sizes.{costs, size, length-bytes, size-present, cost}
 use Rattle.rivals.proofs.MaskLaws.{length-mask, no-bits}

@@ -1,12 +1,12 @@
 -- What the table of kinds says of its codes, by computing; and the values at the top of a run, which are the link's bandwidths and the RSVP-TE set.
-use mathlib.Core.Path.{_≡_, refl, sym, ap, _∙_, subst}
+use mathlib.Core.Path.{_≡_, refl, sym, _∙_, subst}
 use mathlib.Core.Bool.{Bool, true, false, cond, _&&_, _||_, not, false≢true}
-use mathlib.Core.List.{List, [], _∷_, _++_, map, List·Memᴰ}
+use mathlib.Core.List.{List, _∷_, _++_, map, List·Memᴰ}
 use Prim.Native.Nat.{ℕ, _+_, _-_}
 use native.Mathlib.Omega.{arith}
 use borrow.Author.Tests.{eqb-true, eqb-false, ltb-false, not-true}
 use lib.Dec.{eqb, ltb}
-use Rattle.linkstate.specs.Lists.{numbers, keep, any, all, member}
+use Rattle.linkstate.specs.Lists.{numbers, keep, all, member}
 use Rattle.linkstate.specs.Kinds.{Kind, kinds, codes, linkCodes, applicationCodes, isApplications, isCode, isLinkCode, hasCode, fits, wrongAtTop, wrongInside}
 use Rattle.linkstate.specs.Masks.{user, others}
 use Rattle.linkstate.specs.Meaning.{Meaning, row}

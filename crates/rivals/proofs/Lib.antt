@@ -13,3 +13,5 @@ pub mod RoundTrip
 pub mod Acceptance
 pub mod SrlgLaws
 pub mod Reader
+pub mod ExportRead
+pub mod Example

@@ -76,11 +76,6 @@ module _ {A : Type 0} where
   all-mem p (y ∷ xs) h (List·Memᴰ·head e) = ap p e ∙ and-l (p y) (all p xs) h
   all-mem p (y ∷ xs) h (List·Memᴰ·tail k) = all-mem p xs (and-r (p y) (all p xs) h) k
 
-  pub mem-all : (p : A → Bool) (xs : List A) → ((x : A) → List·Memᴰ x xs → p x ≡ true) → all p xs ≡ true
-  unfolding all
-  mem-all p [] h = refl
-  mem-all p (x ∷ xs) h = rw (h x (List·Memᴰ·head refl)) (mem-all p xs (λ y k. h y (List·Memᴰ·tail k)))
-
   -- ---- keep
 
   pub mem-keep : (p : A → Bool) {x : A} (xs : List A) → List·Memᴰ x xs → p x ≡ true → List·Memᴰ x (keep p xs)

@@ -1,15 +1,14 @@
 -- A written mask has exactly the bits of its test (`bit-mask`), and any mask of 0, 4 or 8 bytes that has these bits is at least as long (`mask-least`).
 use mathlib.Core.Path.{_≡_, refl, sym, ap, _∙_}
 use mathlib.Core.Logic.{_⊎_, inl, inr}
-use mathlib.Core.Bool.{Bool, true, false, cond, _&&_, _||_, not, false≢true}
-use mathlib.Core.List.{List, [], _∷_, map}
+use mathlib.Core.Bool.{Bool, true, false, cond, _||_, false≢true}
+use mathlib.Core.List.{List}
 use Prim.Native.Nat.{ℕ, zero, suc, _+_, _-_, _*_, _/_, _%_, _^_, _≤_, _<_, zero-le}
 use native.Mathlib.Nat.{le-refl, zero-div}
 use native.Mathlib.Omega.{arith}
 use borrow.Author.Tests.{eqb-true, ltb-true, ltb-false}
 use lib.Dec.{eqb, ltb}
-use lib.ListN.{length, getD, length-map, List·getD-eq-default}
-use Rattle.linkstate.specs.Lists.{numbers}
+use lib.ListN.{length, length-map, List·getD-eq-default}
 use Rattle.linkstate.specs.Masks.{bit, one, Last, none, last, lastBelow, bytesToHold, maskSize, maskByte, mask}
 use Rattle.linkstate.specs.BgpLs.{isMaskLength}
 use Rattle.rivals.proofs.ListLaws.{length-numbers, getD-numbers}

@@ -2,12 +2,12 @@
 -- "Places are not part of" a meaning, so attributes are compared without them (`unplaced`).
 use mathlib.Core.Path.{_≡_, refl, sym, ap, ap₂, _∙_, subst}
 use mathlib.Core.Bool.{Bool, true, false, cond, _&&_, _||_, not}
-use mathlib.Core.List.{List, [], _∷_, _++_, map, append-nil, append-assoc, List·Memᴰ, List·Memᴰ·head, List·Memᴰ·tail}
-use Prim.Native.Nat.{ℕ, _+_, _*_, _/_, _%_, _≤_, _<_}
+use mathlib.Core.List.{List, [], _∷_, _++_, map, append-nil, List·Memᴰ, List·Memᴰ·head, List·Memᴰ·tail}
+use Prim.Native.Nat.{ℕ, _+_, _≤_}
 use native.Mathlib.Omega.{arith}
-use borrow.Author.Tests.{eqb-true, eqb-false, eq-eqb, ne-eqb, not-true}
+use borrow.Author.Tests.{eqb-true, not-true}
 use lib.Dec.{eqb}
-use lib.ListN.{length, take, drop, getD, length-append}
+use lib.ListN.{length, take, drop, length-append}
 use lib.Seq.{take-at, drop-at, drop-drop}
 use Rattle.linkstate.specs.Lists.{keep, each, empty, member}
 use Rattle.linkstate.specs.Bytes.{numberFrom, number, two, words, distinct, bytesOfWords}
@@ -18,7 +18,7 @@ use Rattle.linkstate.specs.Sides.{Advertisement}
 use Rattle.linkstate.specs.BgpLs.{sabmLength, udabmLength, notIgnored, aslaHeader, innerElements, attributesOf, advertisement, advertisementsOf}
 use Rattle.linkstate.specs.Export.{Tlv, tlv, bytesOf, present}
 use Rattle.linkstate.proofs.ElementLaws.{none-left, first-whole, moved, elements-moved}
-use Rattle.rivals.proofs.ListLaws.{and-l, and-r, eqb-sym, keep-append, keep-map, different}
+use Rattle.rivals.proofs.ListLaws.{and-l, and-r, keep-map, different}
 
 -- ---- elements
 

@@ -1,30 +1,28 @@
 -- Demand 2, the reader's side: every question to an accepted run is answered by what the run means. An attribute that is read was checked,
 -- so a kind other than SRLG is never found without bytes, and it stands in the run at its place.
 use mathlib.Core.Path.{_≡_, refl, sym, ap, ap₂, _∙_, subst}
-use mathlib.Core.Logic.{_⊎_, inl, inr}
-use mathlib.Core.Bool.{Bool, true, false, cond, _&&_, _||_, not, false≢true}
-use mathlib.Core.List.{List, [], _∷_, _++_, map, List·Memᴰ, List·Memᴰ·head, List·Memᴰ·tail}
-use Prim.Native.Nat.{ℕ, _+_, _≤_, _<_}
+use mathlib.Core.Bool.{Bool, true, false, cond, false≢true}
+use mathlib.Core.List.{List, [], _∷_, List·Memᴰ, List·Memᴰ·head}
+use Prim.Native.Nat.{ℕ, _+_}
 use native.Mathlib.Omega.{arith}
-use borrow.Author.Tests.{eqb-true, eqb-false, ltb-true, ltb-false, not-true, ne-eqb}
+use borrow.Author.Tests.{eqb-true, ltb-true, ltb-false}
 use lib.Dec.{eqb, ltb}
 use lib.ListN.{length, drop}
 use lib.Seq.{take-length}
-use Rattle.linkstate.specs.Lists.{keep, any, all, each, empty, put, member}
+use Rattle.linkstate.specs.Lists.{keep, each, empty, put, member}
 use Rattle.linkstate.specs.Bytes.{bytesAt, distinct, words, four, bytesOfWords}
-use Rattle.linkstate.specs.Kinds.{kinds, codes, hasCode, isCode, isLinkCode, wrongAtTop, wrongInside}
+use Rattle.linkstate.specs.Kinds.{isCode, isLinkCode, wrongAtTop, wrongInside}
 use Rattle.linkstate.specs.Masks.{user, others}
-use Rattle.linkstate.specs.Replies.{runA, runBgpLs, place, Refusal, Verdict, accepted, refused, fault, faultOfCall, refusedIf, _then_, unless, Reply, absent, found, askRefused, Asked, count}
-use Rattle.linkstate.specs.Elements.{Element, element, elements, faults}
+use Rattle.linkstate.specs.Replies.{runA, runBgpLs, place, Refusal, accepted, refused, fault, faultOfCall, refusedIf, _then_, unless, found, askRefused, count}
+use Rattle.linkstate.specs.Elements.{elements}
 use Rattle.linkstate.specs.Attributes.{Attribute, attribute, ofKind, srlgs, firstValue, valueOf, reading}
-use Rattle.linkstate.specs.Sides.{Advertisement, Side, general, names, named, namedWithL, ofLive, generalSet, applicationSet}
-use Rattle.linkstate.specs.Questions.{Subject, generally, standardNo, userNo, Source, numberTooHigh, setOf, given, beforeAnswer, firstOf, unwritten, srlgAnswer, answer, ask, bytesOfFirst, value}
-use Rattle.linkstate.specs.Meaning.{Meaning, meaning, Accepted}
-use Rattle.linkstate.specs.BgpLs.{aslaHeader, innerElements, checkInner, checkAsla, checkTop, advertisement, attributesOf, advertisementsOf, aslas, topLevel, runSide, runSource}
-use Rattle.linkstate.proofs.Computing.{computing}
+use Rattle.linkstate.specs.Sides.{Advertisement, general, names, named, ofLive, generalSet, applicationSet}
+use Rattle.linkstate.specs.Questions.{Subject, generally, standardNo, userNo, numberTooHigh, setOf, given, beforeAnswer, firstOf, unwritten, srlgAnswer, answer, ask, bytesOfFirst, value}
+use Rattle.linkstate.specs.Meaning.{meaning, Accepted}
+use Rattle.linkstate.specs.BgpLs.{aslaHeader, innerElements, checkInner, checkTop, advertisement, attributesOf, aslas, topLevel, runSide, runSource}
 use Rattle.linkstate.proofs.ElementLaws.{at-place, rest-place}
 use Rattle.rivals.specs.Reads.{applicationMeant, setMeant, meant, Tells, tellsAbsent, tellsReading, tellsSrlgs, tellsTooMany, Reads}
-use Rattle.rivals.proofs.ListLaws.{or-l, all-mem, any-mem, mem-map, keep-mem, each-mem, member-mem}
+use Rattle.rivals.proofs.ListLaws.{keep-mem, each-mem}
 use Rattle.rivals.proofs.Sizes.{not-refused}
 use Rattle.rivals.proofs.SrlgLaws.{distinct-twice}
 use Rattle.rivals.proofs.KindLaws.{standard-other, user-other, code-mem, not-asla, top-bytes, inside-bytes}

@@ -5,24 +5,23 @@ use mathlib.Core.Bool.{Bool, true, false, cond, _&&_, not}
 use mathlib.Core.List.{List, [], _∷_, _++_, map, append-nil, append-assoc, List·Memᴰ, List·Memᴰ·head, List·Memᴰ·tail}
 use Prim.Native.Nat.{ℕ, _+_, _-_, _≤_, _<_}
 use native.Mathlib.Omega.{arith}
-use borrow.Author.Tests.{eqb-false, ne-eqb, not-true, ltb-true, ltb-false, le-ltb}
+use borrow.Author.Tests.{ltb-true, ltb-false, le-ltb}
 use lib.Dec.{eqb, ltb}
 use lib.ListN.{length, take, drop, length-map}
 use lib.Seq.{take-at, drop-at, drop-drop}
-use Rattle.linkstate.specs.Lists.{keep, any, all, count, each, empty, member}
-use Rattle.linkstate.specs.Kinds.{codes, applicationCodes, wrongAtTop, wrongInside}
+use Rattle.linkstate.specs.Lists.{keep, all, count, each, empty, member}
+use Rattle.linkstate.specs.Kinds.{codes, applicationCodes}
 use Rattle.linkstate.specs.Masks.{bit, user, inMasks, others, maskSize, mask}
-use Rattle.linkstate.specs.Replies.{runBgpLs, Verdict, accepted, refusedIf, _then_}
-use Rattle.linkstate.specs.Elements.{Element, elements, faults}
+use Rattle.linkstate.specs.Replies.{runBgpLs, accepted, refusedIf, _then_}
+use Rattle.linkstate.specs.Elements.{Element, elements}
 use Rattle.linkstate.specs.Attributes.{Attribute, ofKind, srlgs, firstValue, valueOf}
 use Rattle.linkstate.specs.Bytes.{distinct, bytesOfWords}
-use Rattle.linkstate.specs.Sides.{Advertisement, Side, general, names, named, ofLive, generalSet, applicationSet}
-use Rattle.linkstate.specs.Meaning.{Meaning, meaning, row, Same, Accepted}
-use Rattle.linkstate.specs.BgpLs.{sabmLength, udabmLength, aslaHeader, isMaskLength, notIgnored, innerElements, checkInner, checkAsla, checkTop, runVerdict, attributesOf, advertisement, advertisementsOf, aslas, topLevel, runSide, runSource}
+use Rattle.linkstate.specs.Sides.{Advertisement, general, names, named, ofLive, generalSet, applicationSet}
+use Rattle.linkstate.specs.Meaning.{Meaning, meaning, row, Accepted}
+use Rattle.linkstate.specs.BgpLs.{sabmLength, udabmLength, aslaHeader, notIgnored, innerElements, checkInner, checkAsla, checkTop, runVerdict, attributesOf, advertisement, advertisementsOf, aslas, topLevel, runSide, runSource}
 use Rattle.linkstate.specs.Export.{Tlv, tlv, bytesOf, present, topValue, aslaValue, generalValues, leader, inGroup, leaders, groupValue, aslaValues, tlvs, export}
 use Rattle.linkstate.specs.Rival.{IsRival}
 use Rattle.linkstate.specs.WellFormed.{Values, WellFormed}
-use Rattle.linkstate.proofs.Computing.{computing}
 use Rattle.rivals.proofs.ListLaws.{and-r, absorb, all-mem, keep-append, keep-ext, keep-keep, keep-map, keep-no, any-keep, count-keep, empty-nil, map-ext, map-mem, mem-map, map-append, each-append, keep-mem, member-mem, mem-member, numbers-mem, different}
 use Rattle.rivals.proofs.MaskLaws.{length-mask, size-is-length, no-bits, bit-mask}
 use Rattle.rivals.proofs.KindLaws.{codes-different, application-codes-different, lowCodes, highCodes, low-high, not-asla, low-code, high-code, right-inside, bandwidths-of, rsvpTe-of}
@@ -36,7 +35,7 @@ use Rattle.rivals.proofs.ReadBack.{placed, read-back, Sound, none, more
 -- ---- an ASLA that was written
 
 -- What is read of it: the masks of its test, and its set.
-unfoldable pub written : (ℕ → Bool) → (ℕ → List ℕ) → Advertisement
+unfoldable written : (ℕ → Bool) → (ℕ → List ℕ) → Advertisement
 written p f = record { L = false; standardMask = mask p; userMask = mask (λ n. p (user n)); attributes = map plain (present applicationCodes f) }
 
 others-range : {a : ℕ} → List·Memᴰ a others → (1 ≤ a) × (a < 128)
@@ -46,9 +45,6 @@ others-range h = numbers-mem 1 127 h
 module _ (p : ℕ → Bool) (f : ℕ → List ℕ) where
   set : List ℕ
   set = each bytesOf (present applicationCodes f)
-
-  masks : List ℕ
-  masks = mask p ++ mask (λ n. p (user n))
 
   sabm-is : sabmLength (aslaValue p f) ≡ maskSize p
   unfolding sabmLength aslaValue

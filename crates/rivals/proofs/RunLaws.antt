@@ -1,22 +1,22 @@
 -- What is known of an accepted BGP-LS run: each element passed its check, its advertisements are its 1122s that are not ignored,
 -- their masks have 0, 4 or 8 bytes, and none has L. Their parts weigh together what the 1122s weigh.
-use mathlib.Core.Path.{_≡_, refl, sym, ap, _∙_, subst}
+use mathlib.Core.Path.{_≡_, refl}
 use mathlib.Core.Logic.{_⊎_, inl, inr}
-use mathlib.Core.Bool.{Bool, true, false, cond, _&&_, not, false≢true}
+use mathlib.Core.Bool.{Bool, true, false, cond, _&&_, not}
 use mathlib.Core.List.{List, [], _∷_, _++_, List·Memᴰ, List·Memᴰ·cases-cons, List·Memᴰ·eq-of-singleton}
-use Prim.Native.Nat.{ℕ, _+_, _-_, _≤_, _<_, zero-le}
+use Prim.Native.Nat.{ℕ, _+_, _-_, _≤_, zero-le}
 use native.Mathlib.Omega.{arith}
 use borrow.Author.Tests.{eqb-true, ltb-false}
 use lib.Dec.{eqb, ltb}
-use lib.ListN.{length, take, drop, length-drop}
+use lib.ListN.{length, drop, length-drop}
 use lib.Seq.{length-take-le}
-use Rattle.linkstate.specs.Lists.{keep, any, each}
-use Rattle.linkstate.specs.Replies.{Run, runBgpLs, Verdict, accepted, refused, fault, refusedIf, _then_}
+use Rattle.linkstate.specs.Lists.{each}
+use Rattle.linkstate.specs.Replies.{Run, runBgpLs, Verdict, accepted, fault, refusedIf, _then_}
 use Rattle.linkstate.specs.Elements.{Element, element, cut, elements, faults}
 use Rattle.linkstate.specs.Attributes.{Attribute, attribute}
-use Rattle.linkstate.specs.Sides.{Advertisement, Side, names, named, namedWithL, ofLive, generalSet, applicationSet}
+use Rattle.linkstate.specs.Sides.{Advertisement, names, named, namedWithL, ofLive, applicationSet}
 use Rattle.linkstate.specs.Meaning.{Accepted}
-use Rattle.linkstate.specs.BgpLs.{sabmLength, udabmLength, aslaHeader, isMaskLength, notIgnored, innerElements, checkInner, checkAsla, checkTop, runVerdict, attributesOf, advertisement, advertisementsOf, aslas, topLevel, runSide, runSource}
+use Rattle.linkstate.specs.BgpLs.{sabmLength, udabmLength, aslaHeader, isMaskLength, notIgnored, innerElements, checkInner, checkAsla, checkTop, runVerdict, attributesOf, advertisement, advertisementsOf, aslas, runSide, runSource}
 use Rattle.linkstate.specs.Kinds.{wrongAtTop}
 use Rattle.rivals.proofs.ListLaws.{and-l, and-r, eqb-sym, any-no, each-mem}
 use Rattle.rivals.proofs.Sums.{sumOf, sumIf}

@@ -1,24 +1,23 @@
 -- Demand 3: no rival is shorter than the export. A rival's bytes are parted by type, its ASLAs by class (0 for general ones, else the
 -- leader of the group of what they name), and each part of the export is bounded by the part of the rival that must carry the same values.
 use mathlib.Core.Path.{_≡_, refl, sym, ap, _∙_, subst}
-use mathlib.Core.Bool.{Bool, true, false, cond, _&&_, _||_, not, false≢true}
-use mathlib.Core.List.{List, [], _∷_, _++_, map, append-nil, List·Memᴰ, List·Memᴰ·eq-of-singleton}
+use mathlib.Core.Bool.{Bool, true, false, cond, _&&_, false≢true}
+use mathlib.Core.List.{List, [], _∷_, append-nil, List·Memᴰ, List·Memᴰ·eq-of-singleton}
 use Prim.Native.Nat.{ℕ, _+_, _-_, _/_, _≤_, _<_, zero-le}
-use native.Mathlib.Nat.{le-trans, le-add-left}
+use native.Mathlib.Nat.{le-add-left}
 use native.Mathlib.Omega.{arith}
 use borrow.Author.Tests.{eqb-true, eq-eqb, ne-eqb, ltb-true, ltb-false, lt-ltb, le-ltb}
 use lib.Dec.{eqb, ltb}
 use lib.ListN.{length}
-use Rattle.linkstate.specs.Lists.{keep, any, all, count, each, lookup, empty, member, sameRows}
-use Rattle.linkstate.specs.Bytes.{words, distinct, bytesOfWords}
-use Rattle.linkstate.specs.Kinds.{codes, linkCodes, applicationCodes}
-use Rattle.linkstate.specs.Masks.{bit, user, inMasks, others, maskSize}
+use Rattle.linkstate.specs.Lists.{keep, all, each, lookup, empty, member}
+use Rattle.linkstate.specs.Kinds.{codes, applicationCodes}
+use Rattle.linkstate.specs.Masks.{user, inMasks, others, maskSize}
 use Rattle.linkstate.specs.Replies.{accepted}
 use Rattle.linkstate.specs.Elements.{elements}
-use Rattle.linkstate.specs.Attributes.{Attribute, ofKind, srlgs, firstValue, valueOf}
-use Rattle.linkstate.specs.Sides.{Advertisement, Side, general, names, named, ofLive, generalSet, applicationSet}
-use Rattle.linkstate.specs.Meaning.{Meaning, meaning, row, Same, Accepted}
-use Rattle.linkstate.specs.BgpLs.{isMaskLength, aslas, topLevel, runSide, runSource, checkTop, attributesOf, advertisementsOf}
+use Rattle.linkstate.specs.Attributes.{Attribute, valueOf}
+use Rattle.linkstate.specs.Sides.{Advertisement, general, names, named, ofLive, generalSet}
+use Rattle.linkstate.specs.Meaning.{Meaning, meaning, row}
+use Rattle.linkstate.specs.BgpLs.{isMaskLength, aslas, topLevel, runSide, runSource, checkTop}
 use Rattle.linkstate.specs.Replies.{runBgpLs}
 use Rattle.linkstate.specs.Export.{topValue, leader, inGroup, export}
 use Rattle.linkstate.specs.Rival.{IsRival}

@@ -1,9 +1,9 @@
 -- What attributes and values weigh in bytes. A kind's value, written with its type and length, is no longer than the attributes that
 -- it was read from (`value-cost`), and the attributes of an accepted list of elements are the whole list (`whole`).
-use mathlib.Core.Path.{_≡_, refl, sym, ap, _∙_}
+use mathlib.Core.Path.{_≡_, refl}
 use mathlib.Core.Bool.{Bool, true, false, cond}
-use mathlib.Core.List.{List, [], _∷_, _++_, map}
-use Prim.Native.Nat.{ℕ, zero, suc, _+_, _*_, _≤_, _<_, zero-le}
+use mathlib.Core.List.{List, [], _∷_}
+use Prim.Native.Nat.{ℕ, suc, _+_, _*_, _≤_, zero-le}
 use native.Mathlib.Nat.{le-refl, le-trans}
 use native.Mathlib.Omega.{arith}
 use borrow.Author.Tests.{eqb-true}
@@ -12,7 +12,7 @@ use lib.ListN.{length, length-append, length-drop}
 use Rattle.linkstate.specs.Lists.{keep, each, empty}
 use Rattle.linkstate.specs.Bytes.{words, insert, distinct, four, bytesOfWords, two}
 use Rattle.linkstate.specs.Replies.{Run, Verdict, accepted, refused, Refusal, fault, _then_}
-use Rattle.linkstate.specs.Elements.{Element, element, cut, sizeOf, elements, faults}
+use Rattle.linkstate.specs.Elements.{Element, sizeOf, elements, faults}
 use Rattle.linkstate.specs.Attributes.{Attribute, attribute, ofKind, srlgs, firstValue, valueOf}
 use Rattle.linkstate.specs.BgpLs.{attributesOf}
 use Rattle.linkstate.specs.Export.{Tlv, tlv, bytesOf, present}

@@ -1,14 +1,14 @@
 -- Demand 2, the reader's side: when a reply of a BGP-LS run is the one that a meaning gives.
 use mathlib.Core.Path.{_≡_}
-use mathlib.Core.Bool.{Bool, true, false, cond}
+use mathlib.Core.Bool.{true, false, cond}
 use mathlib.Core.List.{List, []}
 use Prim.Native.Nat.{ℕ, _≤_, _<_}
 use lib.Dec.{eqb}
 use lib.ListN.{length}
-use Rattle.linkstate.specs.Lists.{empty, put, member}
+use Rattle.linkstate.specs.Lists.{empty, put}
 use Rattle.linkstate.specs.Bytes.{bytesAt, distinct, bytesOfWords}
 use Rattle.linkstate.specs.Kinds.{isLinkCode}
-use Rattle.linkstate.specs.Masks.{user, others}
+use Rattle.linkstate.specs.Masks.{user}
 use Rattle.linkstate.specs.Replies.{runA, runBgpLs, place, count, absent, found, askRefused, Asked}
 use Rattle.linkstate.specs.Attributes.{reading}
 use Rattle.linkstate.specs.Questions.{Subject, generally, standardNo, userNo, unwritten, ask, value}
