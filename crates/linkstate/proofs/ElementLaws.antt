@@ -1,6 +1,6 @@
 -- Laws on the elements of a run that any walk needs, over w, the number of bytes of a type and of a length:
 -- what one step of a walk sees, a view of all steps (`framed`), and that each value stands in the run at its place (`at-place`).
-use mathlib.Core.Path.{_≡_, refl, sym, ap, ap₂, _∙_}
+use mathlib.Core.Path.{_≡_, refl, sym, ap, _∙_}
 use mathlib.Core.Logic.{_⊎_, inl, inr}
 use mathlib.Core.Bool.{Bool, true, false, cond}
 use mathlib.Core.List.{List, [], _∷_, _++_, map, List·Memᴰ, List·Memᴰ·cases-cons}
@@ -8,7 +8,7 @@ use Prim.Native.Nat.{ℕ, zero, suc, pred, _+_, _≤_, _<_}
 use native.Mathlib.Omega.{arith}
 use borrow.Author.Tests.{le-leb, lt-leb, leb-true, leb-false}
 use lib.Dec.{leb}
-use lib.ListN.{length, take, drop, length-drop, take-append-drop, drop-of-length-le}
+use lib.ListN.{length, take, drop, length-drop, take-append-drop}
 use lib.Seq.{drop-nil, drop-drop, take-append-le, drop-append-le, length-take-le, take-length}
 use Rattle.linkstate.specs.Bytes.{bytesAt}
 use Rattle.linkstate.specs.Elements.{Element, element, cut, typeOf, lengthOf, sizeOf, elementsAfter, elements}
@@ -47,33 +47,6 @@ module _ (w : ℕ) where
       behind : (n : ℕ) → 0 < n → elements w (suc at + pred n) (drop (pred n) bs) ≡ elements w (at + n) (drop n (b ∷ bs))
       behind zero q = absurd (omega arith)
       behind (suc n) q = let z : suc at + n ≡ at + suc n = omega arith in ap (λ (i : ℕ). elements w i (drop n bs)) z
-
--- ---- one step at a position
-
--- What a walk over s sees at its position p, where s begins at the offset `at`.
-module _ (w : ℕ) (at : ℕ) (s : List ℕ) (p : ℕ) where
-  pub end-at : length s ≤ p → elements w (at + p) (drop p s) ≡ []
-  end-at h = rw (drop-of-length-le s {i = p} h) (none-left w (at + p))
-
-  -- Fewer bytes than a header has.
-  pub short-at : p < length s → length s < p + (w + w) → elements w (at + p) (drop p s) ≡ cut (at + p) ∷ []
-  unfolding sizeOf
-  short-at h g = first-cut w (at + p) (drop p s) (omega (arith, length-drop p s)) (omega (arith, length-drop p s))
-
-  -- A value that runs past the end.
-  pub past-at : p < length s → length s < p + sizeOf w (drop p s) → elements w (at + p) (drop p s) ≡ cut (at + p) ∷ []
-  past-at h g = first-cut w (at + p) (drop p s) (omega (arith, length-drop p s)) (omega (arith, length-drop p s))
-
-  pub whole-at : 0 < w → p + sizeOf w (drop p s) ≤ length s
-      → elements w (at + p) (drop p s)
-      ≡ element (at + p) (typeOf w (drop p s)) (bytesAt s (p + (w + w)) (lengthOf w (drop p s)))
-      ∷ elements w (at + (p + sizeOf w (drop p s))) (drop (p + sizeOf w (drop p s)) s)
-  unfolding bytesAt
-  whole-at q h =
-      let z : at + p + sizeOf w (drop p s) ≡ at + (p + sizeOf w (drop p s)) = omega arith in
-      first-whole w q (at + p) (drop p s) (omega (arith, length-drop p s))
-      ∙ ap₂ (λ (v : List ℕ) (es : List Element). element (at + p) (typeOf w (drop p s)) v ∷ es) (ap (take (lengthOf w (drop p s))) (drop-drop (w + w) p s))
-      (ap₂ (elements w) z (drop-drop (sizeOf w (drop p s)) p s))
 
 -- ---- all steps
 
