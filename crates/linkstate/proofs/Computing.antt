@@ -1,7 +1,7 @@
 -- Opens every definition of the crate at once: a proof by computing says `unfolding computing`.
 use Rattle.linkstate.specs.Lists.{numbers, keep, any, all, count, each, lookup, empty, put, member, sameBytes, sameRows}
 use Rattle.linkstate.specs.Bytes.{numberFrom, number, two, four, bytesAt, words, insert, distinct, bytesOfWords}
-use Rattle.linkstate.specs.Replies.{place, fault, faultOfCall, refusedIf, _then_, unless}
+use Rattle.linkstate.specs.Replies.{place, refusalAt, fault, faultOfCall, refusedIf, _then_, unless}
 use Rattle.linkstate.specs.Elements.{typeOf, lengthOf, sizeOf, elementsAfter, elements, faults}
 use Rattle.linkstate.specs.Kinds.{fits, kind, kinds, forApplications, isApplications, codes, linkCodes, applicationCodes, hasCode, carriedAs, hasType, codeOfType, wrongInA, wrongAtTop, wrongInside, isCode, isLinkCode, formOf}
 use Rattle.linkstate.specs.Masks.{bit, user, inMasks, others, one, powersBelow, asNumber, inNumber, lastBelow, bytesToHold, maskSize, maskByte, mask}
@@ -13,5 +13,5 @@ use Rattle.linkstate.specs.Export.{bytesOf, present, topValue, aslaValue
 use Rattle.linkstate.specs.BgpLs.{sabmLength, udabmLength, aslaHeader, isMaskLength, notIgnored, innerElements, checkInner, checkAsla, checkTop, runVerdict, attributesOf, advertisement, advertisementsOf, aslas, topLevel, runSide, runSource}
 
 unfoldable pub computing : Unit {0}
-unfolding numbers keep any all count each lookup empty put member sameBytes sameRows numberFrom number two four bytesAt words insert distinct bytesOfWords place fault faultOfCall refusedIf _then_ unless typeOf lengthOf sizeOf elementsAfter elements faults fits kind kinds forApplications isApplications codes linkCodes applicationCodes hasCode carriedAs hasType codeOfType wrongInA wrongAtTop wrongInside isCode isLinkCode formOf bit user inMasks others one powersBelow asNumber inNumber lastBelow bytesToHold maskSize maskByte mask attribute ofKind srlgs firstValue valueOf readingAs reading general names named namedWithL ofLive generalSet applicationSet rsvpTeKind rsvpTeAlone maximumBandwidth reservableBandwidth bandwidthKind numberTooHigh setOf given beforeAnswer firstOf unwritten srlgAnswer answer ask bytesOfFirst value listNamed write meaning row bytesOf present topValue aslaValue generalValues leader inGroup leaders groupValue aslaValues tlvs export sabmLength udabmLength aslaHeader isMaskLength notIgnored innerElements checkInner checkAsla checkTop runVerdict attributesOf advertisement advertisementsOf aslas topLevel runSide runSource
+unfolding numbers keep any all count each lookup empty put member sameBytes sameRows numberFrom number two four bytesAt words insert distinct bytesOfWords place refusalAt fault faultOfCall refusedIf _then_ unless typeOf lengthOf sizeOf elementsAfter elements faults fits kind kinds forApplications isApplications codes linkCodes applicationCodes hasCode carriedAs hasType codeOfType wrongInA wrongAtTop wrongInside isCode isLinkCode formOf bit user inMasks others one powersBelow asNumber inNumber lastBelow bytesToHold maskSize maskByte mask attribute ofKind srlgs firstValue valueOf readingAs reading general names named namedWithL ofLive generalSet applicationSet rsvpTeKind rsvpTeAlone maximumBandwidth reservableBandwidth bandwidthKind numberTooHigh setOf given beforeAnswer firstOf unwritten srlgAnswer answer ask bytesOfFirst value listNamed write meaning row bytesOf present topValue aslaValue generalValues leader inGroup leaders groupValue aslaValues tlvs export sabmLength udabmLength aslaHeader isMaskLength notIgnored innerElements checkInner checkAsla checkTop runVerdict attributesOf advertisement advertisementsOf aslas topLevel runSide runSource
 computing = tt

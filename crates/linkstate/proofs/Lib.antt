@@ -1,2 +1,4 @@
 pub mod Computing
+pub mod Vectors
 pub mod ElementLaws
+pub mod WalkLaws

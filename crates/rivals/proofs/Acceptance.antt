@@ -11,7 +11,7 @@ use lib.ListN.{length}
 use Rattle.linkstate.specs.Lists.{all, empty, member, put}
 use Rattle.linkstate.specs.Kinds.{isCode, wrongAtTop, wrongInside}
 use Rattle.linkstate.specs.Attributes.{Attribute, ofKind, srlgs}
-use Rattle.linkstate.specs.Replies.{Run, runA, runBgpLs, place, Refusal, Verdict, accepted, refused, fault, faultOfCall, refusedIf, _then_, unless, count, absent, found, askRefused, Asked, bytes, exportRefused, Exported}
+use Rattle.linkstate.specs.Replies.{Run, runA, runBgpLs, refusalAt, Refusal, Verdict, accepted, refused, fault, faultOfCall, refusedIf, _then_, unless, count, absent, found, askRefused, Asked, bytes, exportRefused, Exported}
 use Rattle.linkstate.specs.Elements.{Element, element, cut, elements, faults}
 use Rattle.linkstate.specs.Questions.{Subject, generally, Source, numberTooHigh, given, beforeAnswer, firstOf, unwritten, srlgAnswer, answer, ask, write}
 use Rattle.linkstate.specs.Meaning.{Accepted}
@@ -33,7 +33,7 @@ module _ (ns : List ℕ) where
   by-then (refused x) w h k = h
 
   by-fault : (n : ℕ) (run : Run) (at : ℕ) → member n ns ≡ true → by ns (fault n run at) ≡ true
-  unfolding by fault
+  unfolding by fault refusalAt
   by-fault n run at h = h
 
   by-cond : (b : Bool) (u w : Verdict) → by ns u ≡ true → by ns w ≡ true → by ns (cond b u w) ≡ true
@@ -41,7 +41,7 @@ module _ (ns : List ℕ) where
   by-cond false u w h k = k
 
   by-if : (b : Bool) (n : ℕ) → member n ns ≡ true → by ns (refusedIf b n) ≡ true
-  unfolding by refusedIf faultOfCall fault
+  unfolding by refusedIf faultOfCall fault refusalAt
   by-if true n h = h
   by-if false n h = refl
 
@@ -143,16 +143,13 @@ asked-accepted r h = go (runVerdict r) refl
 
 -- None but 5 refuses the export of what is accepted,
 pub accepted-written : (result buffer : List ℕ) (x : Refusal) → write accepted result buffer .reply ≡ exportRefused x → x .number ≡ 5
-unfolding write _then_ unless refusedIf faultOfCall fault
+unfolding write _then_ unless refusedIf faultOfCall fault refusalAt
 accepted-written result buffer x e = go (ltb (length buffer) (length result)) e
   where
-    five : Refusal
-    five = record { number = 5; at = place runA 0 }
-
     go : (b : Bool)
-        → unless {A = Exported} (cond b (refused five) accepted) (λ r. record { reply = exportRefused r; buffer = buffer }) (record { reply = bytes (length result); buffer = put buffer 0 result }) .reply ≡ exportRefused x
+        → unless {A = Exported} (cond b (refused (refusalAt 5 runA 0)) accepted) (λ r. record { reply = exportRefused r; buffer = buffer }) (record { reply = bytes (length result); buffer = put buffer 0 result }) .reply ≡ exportRefused x
         → x .number ≡ 5
-    go true d = let z : x ≡ five = cc in ap (λ (y : Refusal). y .number) z
+    go true d = let z : x ≡ refusalAt 5 runA 0 = cc in ap (λ (y : Refusal). y .number) z
     go false d = let z : _≡_ {A = ℕ} 0 1 = cc in absurd (omega arith)
 
 -- and what is refused is so in its export, with the buffer untouched.

@@ -13,7 +13,7 @@ use Rattle.linkstate.specs.Lists.{keep, each, empty, put, member}
 use Rattle.linkstate.specs.Bytes.{bytesAt, distinct, words, four, bytesOfWords}
 use Rattle.linkstate.specs.Kinds.{isCode, isLinkCode, wrongAtTop, wrongInside}
 use Rattle.linkstate.specs.Masks.{user, others}
-use Rattle.linkstate.specs.Replies.{runA, runBgpLs, place, Refusal, accepted, refused, fault, faultOfCall, refusedIf, _then_, unless, found, askRefused, count}
+use Rattle.linkstate.specs.Replies.{runA, runBgpLs, refusalAt, accepted, refused, fault, faultOfCall, refusedIf, _then_, unless, found, askRefused, count}
 use Rattle.linkstate.specs.Elements.{elements}
 use Rattle.linkstate.specs.Attributes.{Attribute, attribute, ofKind, srlgs, firstValue, valueOf, reading}
 use Rattle.linkstate.specs.Sides.{Advertisement, general, names, named, ofLive, generalSet, applicationSet}
@@ -195,12 +195,9 @@ unfolding srlgAnswer bytesOfWords each four empty unless refusedIf faultOfCall f
 srlgs-tell r k list e [] d = tellsAbsent refl
 srlgs-tell r k list e (n ∷ ns) d = go (ltb (length list) (length (n ∷ ns))) refl
   where
-    five : Refusal
-    five = record { number = 5; at = place runA 0 }
-
     go : (b : Bool) → ltb (length list) (length (n ∷ ns)) ≡ b
         → Tells r k (bytesOfWords (n ∷ ns)) list
-        (unless (cond b (refused five) accepted) (λ r. unwritten list (askRefused r)) (record { reply = found (count (length (n ∷ ns))); list = put list 0 (n ∷ ns) }))
+        (unless (cond b (refused (refusalAt 5 runA 0)) accepted) (λ r. unwritten list (askRefused r)) (record { reply = found (count (length (n ∷ ns))); list = put list 0 (n ∷ ns) }))
     go true c = tellsTooMany (n ∷ ns) refl e d refl (ltb-true (length list) (length (n ∷ ns)) c)
     go false c = tellsSrlgs (n ∷ ns) refl e d refl (ltb-false (length list) (length (n ∷ ns)) c)
 

@@ -9,7 +9,7 @@ use Rattle.linkstate.specs.Lists.{empty, put}
 use Rattle.linkstate.specs.Bytes.{bytesAt, distinct, bytesOfWords}
 use Rattle.linkstate.specs.Kinds.{isLinkCode}
 use Rattle.linkstate.specs.Masks.{user}
-use Rattle.linkstate.specs.Replies.{runA, runBgpLs, place, count, absent, found, askRefused, Asked}
+use Rattle.linkstate.specs.Replies.{runA, runBgpLs, refusalAt, count, absent, found, askRefused, Asked}
 use Rattle.linkstate.specs.Attributes.{reading}
 use Rattle.linkstate.specs.Questions.{Subject, generally, standardNo, userNo, unwritten, ask, value}
 use Rattle.linkstate.specs.Meaning.{Meaning}
@@ -40,7 +40,7 @@ pub data Tells (run : List ℕ) (k : ℕ) (v list : List ℕ) : Asked → Type 0
       → Tells run k v list (record { reply = found (count (length ns)); list = put list 0 ns })
   -- or 5, where the list is too short for them.
   tellsTooMany : (ns : List ℕ) → empty v ≡ false → eqb k 1096 ≡ true → distinct ns ≡ ns → bytesOfWords ns ≡ v → length list < length ns
-      → Tells run k v list (unwritten list (askRefused (record { number = 5; at = place runA 0 })))
+      → Tells run k v list (unwritten list (askRefused (refusalAt 5 runA 0)))
 
 -- Both entries of the reader give the meaning's value: the question, and the one that hands back the bytes (none for SRLG).
 pub record Reads (run : List ℕ) (m : Meaning) (whom : Subject) (k : ℕ) (list : List ℕ) : Type 0 where

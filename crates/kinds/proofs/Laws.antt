@@ -1,0 +1,218 @@
+-- The table of kinds against the classifiers' ranges, and what a rule says of lengths and codes.
+use mathlib.Core.Path.{_≡_, refl, sym, ap, ap₂, _∙_, subst}
+use mathlib.Core.Bool.{Bool, true, false, cond, _&&_, _||_, not}
+use mathlib.Core.List.{List, [], _∷_}
+use Prim.Native.Nat.{ℕ, zero, suc, _+_, _-_, _%_, _≤_, _<_}
+use native.Mathlib.Omega.{arith}
+use borrow.Author.Tests.{eqb-true, ne-eqb, eq-eqb, le-leb, lt-leb}
+use lib.Dec.{eqb, leb}
+use Rattle.linkstate.specs.Lists.{any, keep, lookup}
+use Rattle.linkstate.specs.Kinds as T
+use Rattle.linkstate.specs.Kinds.{kinds, hasType, hasCode, isApplications, codeOfType, wrongInA, wrongAtTop, wrongInside}
+use Rattle.kinds.specs.declared.Kind.the-variants.{Application, Asla, Unknown}
+use Rattle.kinds.specs.declared.Size.the-variants.{Exactly, FoursFrom, FoursWithin, Any}
+use Rattle.kinds.specs.declared.Size.{Size}
+use Rattle.kinds.specs.declared.Rule.{Rule}
+use Rattle.kinds.specs.Rules.{rule, ruleWith, sizeOf, kindOf, ruleOfType, ruleOfCode, fitsIn, wrongInsideBy}
+use Rattle.kinds.proofs.Computing.{computing}
+
+-- a fact at seven numbers in a row holds in their range
+seven : (P : ℕ → Type 0) (k : ℕ) → P k → P (k + 1) → P (k + 2) → P (k + 3) → P (k + 4) → P (k + 5) → P (k + 6) → (b : ℕ) → k ≤ b → b < k + 7 → P b
+seven P k p0 p1 p2 p3 p4 p5 p6 b h g = let e : k + (b - k) ≡ b = omega arith in subst P e (go (b - k) (omega arith))
+  where
+    go : (d : ℕ) → d < 7 → P (k + d)
+    go zero l = let e : k ≡ k + 0 = omega arith in subst P e p0
+    go (suc zero) l = p1
+    go (suc (suc zero)) l = p2
+    go (suc (suc (suc zero))) l = p3
+    go (suc (suc (suc (suc zero)))) l = p4
+    go (suc (suc (suc (suc (suc zero))))) l = p5
+    go (suc (suc (suc (suc (suc (suc zero)))))) l = p6
+    go (suc (suc (suc (suc (suc (suc (suc d))))))) l = absurd (omega arith)
+
+-- IS-IS types 33 to 39
+pub type-range : (b : ℕ) → 33 ≤ b → b < 40 → rule (Application (b - 31)) (Exactly (cond (eqb b 34) 8 4)) (b + 1081) ≡ ruleOfType b
+unfolding computing
+type-range = seven (λ b. rule (Application (b - 31)) (Exactly (cond (eqb b 34) 8 4)) (b + 1081) ≡ ruleOfType b) 33 refl refl refl refl refl refl refl
+
+-- BGP-LS codes 1114 to 1120
+pub code-range : (c : ℕ) → 1114 ≤ c → c < 1121 → rule (Application (c - 1112)) (Exactly (cond (eqb c 1115) 8 4)) c ≡ ruleOfCode c
+unfolding computing
+code-range = seven (λ c. rule (Application (c - 1112)) (Exactly (cond (eqb c 1115) 8 4)) c ≡ ruleOfCode c) 1114 refl refl refl refl refl refl refl
+
+-- any other type and any other code is unknown
+pub type-unknown : (b : ℕ)
+    → (b ≡ 3 → ⊥) → (b ≡ 9 → ⊥) → (b ≡ 10 → ⊥) → (b ≡ 11 → ⊥) → (b ≡ 14 → ⊥) → (b ≡ 16 → ⊥) → (b ≡ 18 → ⊥) → ((k : ℕ) → 33 ≤ k → k < 40 → b ≡ k → ⊥)
+    → rule Unknown Any 0 ≡ ruleOfType b
+unfolding computing
+type-unknown b n3 n9 n10 n11 n14 n16 n18 out =
+    let away : (k : ℕ) → 33 ≤ k → k < 40 → eqb b k ≡ false = λ k h g. ne-eqb b k (out k h g) in
+    simp (ne-eqb b 3 n3, ne-eqb b 9 n9, ne-eqb b 10 n10, ne-eqb b 11 n11, ne-eqb b 14 n14, ne-eqb b 16 n16, ne-eqb b 18 n18, away 33 (omega arith) (omega arith), away 34 (omega arith) (omega arith), away 35 (omega arith) (omega arith), away 36 (omega arith) (omega arith), away 37 (omega arith) (omega arith), away 38 (omega arith) (omega arith), away 39 (omega arith) (omega arith))
+
+pub code-unknown : (c : ℕ)
+    → (c ≡ 1088 → ⊥) → (c ≡ 1089 → ⊥) → (c ≡ 1090 → ⊥) → (c ≡ 1091 → ⊥) → (c ≡ 1092 → ⊥) → (c ≡ 1096 → ⊥) → (c ≡ 1122 → ⊥) → (c ≡ 1173 → ⊥)
+    → ((k : ℕ) → 1114 ≤ k → k < 1121 → c ≡ k → ⊥)
+    → rule Unknown Any 0 ≡ ruleOfCode c
+unfolding computing
+code-unknown c n88 n89 n90 n91 n92 n96 n122 n173 out =
+    let away : (k : ℕ) → 1114 ≤ k → k < 1121 → eqb c k ≡ false = λ k h g. ne-eqb c k (out k h g) in
+    simp (ne-eqb c 1088 n88, ne-eqb c 1089 n89, ne-eqb c 1090 n90, ne-eqb c 1091 n91, ne-eqb c 1092 n92, ne-eqb c 1096 n96, ne-eqb c 1122 n122, ne-eqb c 1173 n173, away 1114 (omega arith) (omega arith), away 1115 (omega arith) (omega arith), away 1116 (omega arith) (omega arith), away 1117 (omega arith) (omega arith), away 1118 (omega arith) (omega arith), away 1119 (omega arith) (omega arith), away 1120 (omega arith) (omega arith))
+
+-- the ranges with the length that an inner test picked
+pub type-at : (b n : ℕ) → 33 ≤ b → b < 40 → n ≡ cond (eqb b 34) 8 4 → rule (Application (b - 31)) (Exactly n) (b + 1081) ≡ ruleOfType b
+type-at b n h g e = ap (λ (k : ℕ). rule (Application (b - 31)) (Exactly k) (b + 1081)) e ∙ type-range b h g
+
+pub code-at : (c n : ℕ) → 1114 ≤ c → c < 1121 → n ≡ cond (eqb c 1115) 8 4 → rule (Application (c - 1112)) (Exactly n) c ≡ ruleOfCode c
+code-at c n h g e = ap (λ (k : ℕ). rule (Application (c - 1112)) (Exactly k) c) e ∙ code-range c h g
+
+pub eight : (b k n : ℕ) → b ≡ k → n ≡ 8 → n ≡ cond (eqb b k) 8 4
+eight b k n h e = rw (eq-eqb b k h) e
+
+pub four : (b k n : ℕ) → (b ≡ k → ⊥) → n ≡ 4 → n ≡ cond (eqb b k) 8 4
+four b k n h e = rw (ne-eqb b k h) e
+
+-- lengths, test by test
+module _ (s : Size) (n least : ℕ) where
+  pub exactly-is : s ≡ Exactly least → eqb n least ≡ fitsIn s n
+  unfolding computing
+  exactly-is e = rw e
+
+  pub from-odd : s ≡ FoursFrom least → (n % 4 ≡ 0 → ⊥) → false ≡ fitsIn s n
+  unfolding computing
+  from-odd e h = rw (e, ne-eqb (n % 4) 0 h)
+
+  pub from-is : s ≡ FoursFrom least → n % 4 ≡ 0 → leb least n ≡ fitsIn s n
+  unfolding computing
+  from-is e h = rw (e, h)
+
+  module _ (most : ℕ) (e : s ≡ FoursWithin least most) where
+    pub within-odd : (n % 4 ≡ 0 → ⊥) → false ≡ fitsIn s n
+    unfolding computing
+    within-odd h = rw (e, ne-eqb (n % 4) 0 h)
+
+    pub within-low : n % 4 ≡ 0 → n < least → false ≡ fitsIn s n
+    unfolding computing
+    within-low h l = rw (e, h, lt-leb least n l)
+
+    pub within-is : n % 4 ≡ 0 → least ≤ n → leb n most ≡ fitsIn s n
+    unfolding computing
+    within-is h l = rw (e, h, le-leb least n l)
+
+-- ---- rules and lengths: a table's row is found once, so a wrong length is one that does not fit the rule's size
+
+abbrev Once : {A : Type 0} → (A → Bool) → List A → Type 0
+Once p [] = Unit {0}
+Once p (q ∷ qs) = (p q ≡ true → any p qs ≡ false) × Once p qs
+
+none-wrong : {A : Type 0} (p g : A → Bool) (qs : List A) → any p qs ≡ false → any (λ q. p q && g q) qs ≡ false
+unfolding any
+none-wrong p g [] h = refl
+none-wrong p g (q ∷ qs) h = go (p q) h (λ e. none-wrong p g qs e)
+  where
+    go : (b : Bool) → b || any p qs ≡ false → (any p qs ≡ false → any (λ q. p q && g q) qs ≡ false) → (b && g q) || any (λ q. p q && g q) qs ≡ false
+    go true h f = absurd (let z : _≡_ {A = ℕ} 0 1 = cc in omega arith)
+    go false h f = f h
+
+any-lookup : {A : Type 0} (p g : A → Bool) (qs : List A) → Once p qs → any (λ q. p q && g q) qs ≡ lookup p g false qs
+unfolding any lookup
+any-lookup p g [] o = refl
+any-lookup p g (q ∷ qs) o = go (p q) (g q) (o .0) (any-lookup p g qs (o .1))
+  where
+    go : (b c : Bool) → (b ≡ true → any p qs ≡ false) → any (λ q. p q && g q) qs ≡ lookup p g false qs → (b && c) || any (λ q. p q && g q) qs ≡ cond b c (lookup p g false qs)
+    go true true h f = refl
+    go true false h f = none-wrong p g qs (h refl)
+    go false c h f = f
+
+lookup-map : {A B C : Type 0} (f : B → C) (p : A → Bool) (g : A → B) (h : A → C) (d : B) (qs : List A) → ((q : A) → f (g q) ≡ h q) → f (lookup p g d qs) ≡ lookup p h (f d) qs
+unfolding lookup
+lookup-map f p g h d [] e = refl
+lookup-map f p g h d (q ∷ qs) e = go (p q) (e q) (lookup-map f p g h d qs e)
+  where
+    go : (b : Bool) → f (g q) ≡ h q → f (lookup p g d qs) ≡ lookup p h (f d) qs → f (cond b (g q) (lookup p g d qs)) ≡ cond b (h q) (lookup p h (f d) qs)
+    go true x y = x
+    go false x y = y
+
+-- No type and no code stands twice in the table: a computed test, where a row answers to its own key alone.
+module _ (p : ℕ → T.Kind → Bool) (key : T.Kind → ℕ) where
+  alone : List T.Kind → Bool
+  alone [] = true
+  alone (q ∷ qs) = not (any (p (key q)) qs) && alone qs
+
+  once : ((t : ℕ) (q : T.Kind) → p t q ≡ true → key q ≡ t) → (qs : List T.Kind) → alone qs ≡ true → (t : ℕ) → Once (p t) qs
+  unfolding alone
+  once own [] h t = tt
+  once own (q ∷ qs) h t = go (any (p (key q)) qs) refl (alone qs) refl h (λ e. once own qs e t)
+    where
+      go : (b : Bool) → any (p (key q)) qs ≡ b → (c : Bool) → alone qs ≡ c → not b && c ≡ true → (alone qs ≡ true → Once (p t) qs) → Once (p t) (q ∷ qs)
+      go true e c f h r = absurd (let z : _≡_ {A = ℕ} 0 1 = cc in omega arith)
+      go false e true f h r = (λ x. subst (λ (k : ℕ). any (p k) qs ≡ false) (own t q x) e, r f)
+      go false e false f h r = absurd (let z : _≡_ {A = ℕ} 0 1 = cc in omega arith)
+
+carried : T.Carrier → ℕ
+carried (T.typeInA n) = n
+carried T.valuesInBC = 0
+
+carried-own : (t : ℕ) (w : T.Carrier) → T.carriedAs t w ≡ true → carried w ≡ t
+unfolding T.carriedAs carried
+carried-own t (T.typeInA n) h = sym (eqb-true t n h)
+carried-own t T.valuesInBC h = absurd (let z : _≡_ {A = ℕ} 0 1 = cc in omega arith)
+
+types-once : (t : ℕ) → Once (hasType t) kinds
+unfolding computing alone carried
+types-once = once hasType (λ q. carried (q .carrier)) (λ t q. carried-own t (q .carrier)) kinds refl
+
+codes-once : (c : ℕ) → Once (hasCode c) kinds
+unfolding computing alone
+codes-once = once hasCode (λ q. q .code) (λ c q h. sym (eqb-true c (q .code) h)) kinds refl
+
+size-fits : (s : T.Size) (n : ℕ) → fitsIn (sizeOf s) n ≡ T.fits s n
+unfolding fitsIn sizeOf
+size-fits (T.exactly k) n = refl
+size-fits (T.foursFrom l) n = refl
+size-fits (T.foursWithin l m) n = refl
+
+-- What a test f says of the rule that is found by p is what a test of the table's row says. ASLA's own rule stands apart: it has no row.
+module _ (p : ℕ → T.Kind → Bool) (size : T.Kind → T.Size) (asla t : ℕ) (f : Rule → Bool) (wrong : T.Kind → Bool) where
+  by-rule : Once (p t) kinds → ((q : T.Kind) → f (ruleWith size q) ≡ wrong q) → f (rule Unknown Any 0) ≡ false → f (rule Asla Any 1122) ≡ false → lookup (p asla) wrong false kinds ≡ false
+      → any (λ q. p t q && wrong q) kinds ≡ f (cond (eqb t asla) (rule Asla Any 1122) (lookup (p t) (ruleWith size) (rule Unknown Any 0) kinds))
+  by-rule o same unknown own h = any-lookup (p t) wrong kinds o ∙ go (eqb t asla) refl
+    where
+      go : (b : Bool) → eqb t asla ≡ b → lookup (p t) wrong false kinds ≡ f (cond b (rule Asla Any 1122) (lookup (p t) (ruleWith size) (rule Unknown Any 0) kinds))
+      go true e = subst (λ (x : ℕ). lookup (p x) wrong false kinds ≡ false) (sym (eqb-true t asla e)) h ∙ sym own
+      go false e = ap (λ (d : Bool). lookup (p t) wrong d kinds) (sym unknown) ∙ sym (lookup-map f (p t) (ruleWith size) wrong (rule Unknown Any 0) kinds same)
+
+-- A wrong length is one that does not fit the rule's size: in run A, and at the top of a BGP-LS run.
+pub wrong-in-a : (t n : ℕ) → wrongInA t n ≡ not (fitsIn ((ruleOfType t) .size) n)
+unfolding computing
+wrong-in-a t n =
+    by-rule hasType (λ q. q .isisSize) 16 t (λ r. not (fitsIn (r .size) n)) (λ q. not (T.fits (q .isisSize) n)) (types-once t) (λ q. ap not (size-fits (q .isisSize) n)) refl refl refl
+
+pub wrong-at-top : (c n : ℕ) → wrongAtTop c n ≡ not (fitsIn ((ruleOfCode c) .size) n)
+unfolding computing
+wrong-at-top c n =
+    by-rule hasCode (λ q. q .bgplsSize) 1122 c (λ r. not (fitsIn (r .size) n)) (λ q. not (T.fits (q .bgplsSize) n)) (codes-once c) (λ q. ap not (size-fits (q .bgplsSize) n)) refl refl refl
+
+-- Inside a 1122 the link's kinds are unknown.
+any-keep : {A : Type 0} (a p g : A → Bool) (qs : List A) → any (λ q. p q && g q) (keep a qs) ≡ any (λ q. p q && (a q && g q)) qs
+unfolding any keep
+any-keep a p g [] = refl
+any-keep {A = A} a p g (q ∷ qs) = go (a q) (p q) (g q) refl refl (any-keep a p g qs)
+  where
+    go : (x y z : Bool) → p q ≡ y → g q ≡ z → any (λ q. p q && g q) (keep a qs) ≡ any (λ q. p q && (a q && g q)) qs
+        → any (λ q. p q && g q) (cond x (q ∷ keep a qs) (keep a qs)) ≡ (y && (x && z)) || any (λ q. p q && (a q && g q)) qs
+    go true y z i j e = ap₂ (λ (b : Bool) (c : Bool). b || c) (ap₂ (λ (b : Bool) (c : Bool). b && c) i j) e
+    go false true z i j e = e
+    go false false z i j e = e
+
+owner-wrong : (o : T.Owner) (w : T.Carrier) (c : ℕ) (s : T.Size) (n : ℕ) → wrongInsideBy (kindOf o w c) (sizeOf s) n ≡ T.forApplications o && not (T.fits s n)
+unfolding wrongInsideBy kindOf T.forApplications
+owner-wrong T.link w c s n = refl
+owner-wrong T.applications (T.typeInA t) c s n = ap not (size-fits s n)
+owner-wrong T.applications T.valuesInBC c s n = ap not (size-fits s n)
+
+pub wrong-inside : (c n : ℕ) → wrongInside c n ≡ wrongInsideBy ((ruleOfCode c) .kind) ((ruleOfCode c) .size) n
+unfolding computing
+wrong-inside c n =
+    any-keep isApplications (hasCode c) (λ q. not (T.fits (q .bgplsSize) n)) kinds
+    ∙ by-rule hasCode (λ q. q .bgplsSize) 1122 c (λ r. wrongInsideBy (r .kind) (r .size) n) (λ q. isApplications q && not (T.fits (q .bgplsSize) n)) (codes-once c)
+    (λ q. owner-wrong (q .owner) (q .carrier) (q .code) (q .bgplsSize) n) refl refl refl
