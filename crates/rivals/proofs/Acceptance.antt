@@ -1,5 +1,5 @@
--- Document 01: "A link is *accepted* when no number but 5 refuses its export, a BGP-LS run when none but 5, 6 or 7 refuses a question to it."
--- The definitions say `accepted` of the checks of the bytes: these theorems tie the two.
+-- Rule L18, what accepted means. The definitions say it of the checks of the bytes; these theorems say it of the replies: what is accepted is refused
+-- a question by 5, 6 or 7 only and an export by 5 only, and what is not accepted is refused by what the checks say.
 use mathlib.Core.Path.{_≡_, refl, sym, ap, _∙_}
 use mathlib.Core.Bool.{Bool, true, false, cond, not, false≢true}
 use mathlib.Core.List.{List, [], _∷_}

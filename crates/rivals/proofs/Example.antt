@@ -1,7 +1,6 @@
 -- The theorems at the link M S G of document 01: what they assume of a meaning is met, and no rival of it has fewer than 44 bytes.
--- And an export with a group of two, an empty set, and no general set.
 use mathlib.Core.Path.{_≡_, refl, sym, ap, subst}
-use mathlib.Core.Bool.{Bool, true, false, cond, _||_, false≢true}
+use mathlib.Core.Bool.{Bool, true, false, cond, false≢true}
 use mathlib.Core.List.{List, [], _∷_}
 use Prim.Native.Nat.{ℕ, _≤_}
 use native.Mathlib.Omega.{arith}
@@ -9,7 +8,6 @@ use borrow.Author.Tests.{eqb-true}
 use lib.Dec.{eqb}
 use lib.ListN.{length}
 use Rattle.linkstate.specs.Lists.{member, empty}
-use Rattle.linkstate.specs.Bytes.{distinct}
 use Rattle.linkstate.specs.Kinds.{applicationCodes, isLinkCode, wrongAtTop}
 use Rattle.linkstate.specs.Masks.{others}
 use Rattle.linkstate.specs.Meaning.{Meaning}
@@ -73,25 +71,3 @@ msg-rival = subst (λ (r : List ℕ). IsRival msg r) msg-export (export-is-rival
 pub msg-shortest : (r : List ℕ) → IsRival msg r → 44 ≤ length r
 unfolding msg-bytes
 msg-shortest r h = omega (arith, shortest msg r msg-well h, ap length msg-export)
-
--- SR Policy and user 0 have the same set, LFA is named and has none, and neither RSVP-TE nor the general set has one: two ASLAs, 36 bytes.
-unfoldable pub grouped : Meaning
-grouped =
-    record {
-      bandwidth = λ k. [];
-      rsvpTe = λ k. [];
-      general = λ k. [];
-      named = λ a. eqb a 1 || eqb a 2 || eqb a 64;
-      set = λ a k. cond (eqb a 2) [] (metric 20 k);
-    }
-
-pub grouped-export : export grouped
-    ≡ 0x04 ∷ 0x62 ∷ 0x00 ∷ 0x14 ∷ 0x04 ∷ 0x04 ∷ 0x00 ∷ 0x00 ∷ 0x40 ∷ 0x00 ∷ 0x00 ∷ 0x00 ∷ 0x80 ∷ 0x00 ∷ 0x00 ∷ 0x00 ∷ 0x04 ∷ 0x44 ∷ 0x00 ∷ 0x04 ∷ 0x00 ∷ 0x00 ∷ 0x00
-    ∷ 0x14 ∷ 0x04 ∷ 0x62 ∷ 0x00 ∷ 0x08 ∷ 0x04 ∷ 0x00 ∷ 0x00 ∷ 0x00 ∷ 0x20 ∷ 0x00 ∷ 0x00 ∷ 0x00 ∷ []
-unfolding computing metric grouped
-grouped-export = refl
-
--- SRLGs ascend, without repeats.
-pub srlgs-example : distinct (7 ∷ 3 ∷ 7 ∷ []) ≡ 3 ∷ 7 ∷ []
-unfolding computing
-srlgs-example = refl

@@ -1,5 +1,5 @@
--- Demand 2: "Our BGP-LS bytes, read by our reader, give the same bandwidths, RSVP-TE set, general set, named applications and set for each":
--- whatever is asked of the export of a meaning is answered by that meaning.
+-- Demand 2, our bytes read by our reader: whatever is asked of the export of a meaning, for the link, RSVP-TE, the general set or any other application,
+-- is answered by that meaning, and the applications that it lists are those that the meaning names.
 use mathlib.Core.Path.{_≡_, refl, sym, ap₂, _∙_}
 use mathlib.Core.Bool.{Bool, true, false, cond, false≢true}
 use mathlib.Core.List.{List}

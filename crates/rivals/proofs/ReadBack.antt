@@ -1,5 +1,5 @@
 -- Reading back what was written: the elements of written TLVs are these TLVs, one behind the other, and a set that is written is read.
--- "Places are not part of" a meaning, so attributes are compared without them (`unplaced`).
+-- Places are no part of a meaning (rule L17), so attributes are compared without them (`unplaced`).
 use mathlib.Core.Path.{_≡_, refl, sym, ap, ap₂, _∙_, subst}
 use mathlib.Core.Bool.{Bool, true, false, cond, _&&_, _||_, not}
 use mathlib.Core.List.{List, [], _∷_, _++_, map, append-nil, List·Memᴰ, List·Memᴰ·head, List·Memᴰ·tail}

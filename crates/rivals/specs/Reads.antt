@@ -1,4 +1,4 @@
--- Demand 2, the reader's side: when a reply of a BGP-LS run is the one that a meaning gives.
+-- Demand 2, the reader's side: when the replies of a BGP-LS run are those that a meaning gives (rules K4, K6, L9, L10).
 use mathlib.Core.Path.{_≡_}
 use mathlib.Core.Bool.{true, false, cond}
 use mathlib.Core.List.{List, []}
@@ -15,7 +15,7 @@ use Rattle.linkstate.specs.Questions.{Subject, generally, standardNo, userNo, u
 use Rattle.linkstate.specs.Meaning.{Meaning}
 use Rattle.linkstate.specs.BgpLs.{runSource}
 
--- The set of an application other than RSVP-TE: its own where it is named, else the general set.
+-- L10. The set of an application other than RSVP-TE: its own where it is named, else the general set.
 unfoldable pub applicationMeant : Meaning → ℕ → ℕ → List ℕ
 applicationMeant m a k = cond (m .named a) (m .set a k) (m .general k)
 
@@ -28,7 +28,7 @@ setMeant m (userNo n) k = applicationMeant m (user n) k
 unfoldable pub meant : Meaning → Subject → ℕ → List ℕ
 meant m whom k = cond (isLinkCode k) (m .bandwidth k) (setMeant m whom k)
 
--- What a question leaves, its reply and the lent list, tells the value v of kind k:
+-- K4. What a question leaves, its reply and the lent list, tells the value v of kind k:
 pub data Tells (run : List ℕ) (k : ℕ) (v list : List ℕ) : Asked → Type 0 where
   -- absent where v has no bytes;
   tellsAbsent : v ≡ [] → Tells run k v list (unwritten list absent)
@@ -42,7 +42,7 @@ pub data Tells (run : List ℕ) (k : ℕ) (v list : List ℕ) : Asked → Type 0
   tellsTooMany : (ns : List ℕ) → empty v ≡ false → eqb k 1096 ≡ true → distinct ns ≡ ns → bytesOfWords ns ≡ v → length list < length ns
       → Tells run k v list (unwritten list (askRefused (refusalAt 5 runA 0)))
 
--- Both entries of the reader give the meaning's value: the question, and the one that hands back the bytes (none for SRLG).
+-- K4, K6. Both entries of the reader give the meaning's value: the question, and the one that hands back the bytes (none for SRLG).
 pub record Reads (run : List ℕ) (m : Meaning) (whom : Subject) (k : ℕ) (list : List ℕ) : Type 0 where
   pub asked : Tells run k (meant m whom k) list (ask (runSource run) whom k list)
   pub bytes : value (runSource run) whom k ≡ cond (eqb k 1096) [] (meant m whom k)
