@@ -21,6 +21,13 @@ use Rattle.rivals.proofs.ListLaws.{all-mem, member-mem}
 
 -- ---- the numbers that a verdict may refuse by
 
+-- What may refuse a call whose bytes are accepted, and what the checks of a run refuse by.
+abbrev pub ofCalls : List ℕ
+ofCalls = 5 ∷ 6 ∷ 7 ∷ []
+
+abbrev pub ofRuns : List ℕ
+ofRuns = 1 ∷ 3 ∷ 4 ∷ []
+
 -- A verdict refuses, if at all, by one of these numbers.
 unfoldable by : List ℕ → Verdict → Bool
 by ns accepted = true
@@ -61,36 +68,32 @@ module _ (ns : List ℕ) where
 
 -- ---- questions
 
-answer-by : (run : Run) (k : ℕ) (ts : List Attribute) (list : List ℕ) (x : Refusal) → answer run k ts list .reply ≡ askRefused x → member (x .number) (5 ∷ 6 ∷ 7 ∷ []) ≡ true
+answer-by : (run : Run) (k : ℕ) (ts : List Attribute) (list : List ℕ) (x : Refusal) → answer run k ts list .reply ≡ askRefused x → member (x .number) ofCalls ≡ true
 unfolding answer srlgAnswer unwritten firstOf member
 answer-by run k ts list x e = go (eqb k 1096) e
   where
-    ns : List ℕ
-    ns = 5 ∷ 6 ∷ 7 ∷ []
-
-    first : (us : List Attribute) → firstOf run us ≡ askRefused x → member (x .number) ns ≡ true
+    first : (us : List Attribute) → firstOf run us ≡ askRefused x → member (x .number) ofCalls ≡ true
     first [] d = let z : _≡_ {A = ℕ} 0 1 = cc in absurd (omega arith)
     first (t ∷ us) d = let z : _≡_ {A = ℕ} 0 1 = cc in absurd (omega arith)
 
-    all : (b : Bool) → cond b (unwritten list absent)
+    several : (b : Bool) → cond b (unwritten list absent)
         (unless (refusedIf (ltb (length list) (length (srlgs ts))) 5) (λ r. unwritten list (askRefused r)) (record { reply = found (count (length (srlgs ts))); list = put list 0 (srlgs ts) }))
-        .reply ≡ askRefused x → member (x .number) ns ≡ true
-    all true d = first [] d
-    all false d = by-unless ns (refusedIf (ltb (length list) (length (srlgs ts))) 5) list _ (by-if ns (ltb (length list) (length (srlgs ts))) 5 refl) (λ y c. let z : _≡_ {A = ℕ} 0 1 = cc in absurd (omega arith)) x d
+        .reply ≡ askRefused x → member (x .number) ofCalls ≡ true
+    several true d = first [] d
+    several false d = by-unless ofCalls (refusedIf (ltb (length list) (length (srlgs ts))) 5) list _ (by-if ofCalls (ltb (length list) (length (srlgs ts))) 5 refl) (λ y c. let z : _≡_ {A = ℕ} 0 1 = cc in absurd (omega arith)) x d
 
-    go : (b : Bool) → cond b (srlgAnswer (srlgs ts) list) (unwritten list (firstOf run (ofKind k ts))) .reply ≡ askRefused x → member (x .number) ns ≡ true
-    go true d = all (empty (srlgs ts)) d
+    go : (b : Bool) → cond b (srlgAnswer (srlgs ts) list) (unwritten list (firstOf run (ofKind k ts))) .reply ≡ askRefused x → member (x .number) ofCalls ≡ true
+    go true d = several (empty (srlgs ts)) d
     go false d = first (ofKind k ts) d
 
 -- None but 5, 6 or 7 refuses a question to what is accepted,
 pub accepted-asked : (s : Source) → Accepted s → (whom : Subject) (k : ℕ) (list : List ℕ) (x : Refusal)
-    → ask s whom k list .reply ≡ askRefused x → member (x .number) (5 ∷ 6 ∷ 7 ∷ []) ≡ true
+    → ask s whom k list .reply ≡ askRefused x → member (x .number) ofCalls ≡ true
 unfolding ask beforeAnswer by member
 accepted-asked s h whom k list x e =
-    let ns : List ℕ = 5 ∷ 6 ∷ 7 ∷ [] in
-    by-unless ns (beforeAnswer s whom k) list (answer (s .run) k (given s whom k) list)
-    (by-then ns (refusedIf (numberTooHigh whom) 6) (refusedIf (not (isCode k)) 7 then s .verdict) (by-if ns (numberTooHigh whom) 6 refl)
-    (by-then ns (refusedIf (not (isCode k)) 7) (s .verdict) (by-if ns (not (isCode k)) 7 refl) (ap (by ns) h)))
+    by-unless ofCalls (beforeAnswer s whom k) list (answer (s .run) k (given s whom k) list)
+    (by-then ofCalls (refusedIf (numberTooHigh whom) 6) (refusedIf (not (isCode k)) 7 then s .verdict) (by-if ofCalls (numberTooHigh whom) 6 refl)
+    (by-then ofCalls (refusedIf (not (isCode k)) 7) (s .verdict) (by-if ofCalls (not (isCode k)) 7 refl) (ap (by ofCalls) h)))
     (answer-by (s .run) k (given s whom k) list) x e
 
 -- and a question that 6 and 7 let pass is refused by what the bytes are refused by.
@@ -101,33 +104,30 @@ refused-asked s x h whom k list n c = rw (n, c, h)
 
 -- ---- BGP-LS runs
 
-run-by : (r : List ℕ) → by (1 ∷ 3 ∷ 4 ∷ []) (runVerdict r) ≡ true
+run-by : (r : List ℕ) → by ofRuns (runVerdict r) ≡ true
 unfolding runVerdict checkTop checkAsla checkInner member by
-run-by r = by-then ns (refusedIf (ltb 524288 (length r)) 1) _ (by-if ns (ltb 524288 (length r)) 1 refl) (by-faults ns refl runBgpLs checkTop top (elements 2 0 r))
+run-by r = by-then ofRuns (refusedIf (ltb 524288 (length r)) 1) _ (by-if ofRuns (ltb 524288 (length r)) 1 refl) (by-faults ofRuns refl runBgpLs checkTop top (elements 2 0 r))
   where
-    ns : List ℕ
-    ns = 1 ∷ 3 ∷ 4 ∷ []
+    lengths : (b : Bool) (at : ℕ) → by ofRuns (cond b (fault 4 runBgpLs at) accepted) ≡ true
+    lengths b at = by-cond ofRuns b (fault 4 runBgpLs at) accepted (by-fault ofRuns 4 runBgpLs at refl) refl
 
-    lengths : (b : Bool) (at : ℕ) → by ns (cond b (fault 4 runBgpLs at) accepted) ≡ true
-    lengths b at = by-cond ns b (fault 4 runBgpLs at) accepted (by-fault ns 4 runBgpLs at refl) refl
-
-    asla : (at : ℕ) (v : List ℕ) → by ns (checkAsla at v) ≡ true
+    asla : (at : ℕ) (v : List ℕ) → by ofRuns (checkAsla at v) ≡ true
     asla at v =
-        by-cond ns (ltb (length v) 4) (fault 3 runBgpLs at) _ (by-fault ns 3 runBgpLs at refl)
-        (by-cond ns (not (notIgnored v)) accepted _ refl
-        (by-cond ns (ltb (length v) (aslaHeader v)) (fault 3 runBgpLs at) _ (by-fault ns 3 runBgpLs at refl)
-        (by-faults ns refl runBgpLs checkInner (λ o t w. lengths (wrongInside t (length w)) o) (innerElements at v))))
+        by-cond ofRuns (ltb (length v) 4) (fault 3 runBgpLs at) _ (by-fault ofRuns 3 runBgpLs at refl)
+        (by-cond ofRuns (not (notIgnored v)) accepted _ refl
+        (by-cond ofRuns (ltb (length v) (aslaHeader v)) (fault 3 runBgpLs at) _ (by-fault ofRuns 3 runBgpLs at refl)
+        (by-faults ofRuns refl runBgpLs checkInner (λ o t w. lengths (wrongInside t (length w)) o) (innerElements at v))))
 
-    top : (at t : ℕ) (v : List ℕ) → by ns (checkTop at t v) ≡ true
-    top at t v = by-cond ns (eqb t 1122) (checkAsla at v) _ (asla at v) (lengths (wrongAtTop t (length v)) at)
+    top : (at t : ℕ) (v : List ℕ) → by ofRuns (checkTop at t v) ≡ true
+    top at t v = by-cond ofRuns (eqb t 1122) (checkAsla at v) _ (asla at v) (lengths (wrongAtTop t (length v)) at)
 
-apart : all (λ n. not (member n (5 ∷ 6 ∷ 7 ∷ []))) (1 ∷ 3 ∷ 4 ∷ []) ≡ true
+apart : all (λ n. not (member n ofCalls)) ofRuns ≡ true
 unfolding all member
 apart = refl
 
--- A run is accepted exactly when none but 5, 6 or 7 refuses a question to it.
+-- So a run is accepted exactly when none but 5, 6 or 7 refuses a question to it: the other direction.
 pub asked-accepted : (r : List ℕ)
-    → ((whom : Subject) (k : ℕ) (list : List ℕ) (x : Refusal) → ask (runSource r) whom k list .reply ≡ askRefused x → member (x .number) (5 ∷ 6 ∷ 7 ∷ []) ≡ true)
+    → ((whom : Subject) (k : ℕ) (list : List ℕ) (x : Refusal) → ask (runSource r) whom k list .reply ≡ askRefused x → member (x .number) ofCalls ≡ true)
     → Accepted (runSource r)
 unfolding runSource computing by
 asked-accepted r h = go (runVerdict r) refl
@@ -135,9 +135,9 @@ asked-accepted r h = go (runVerdict r) refl
     go : (v : Verdict) → runVerdict r ≡ v → v ≡ accepted
     go accepted e = refl
     go (refused x) e =
-        let one : member (x .number) (1 ∷ 3 ∷ 4 ∷ []) ≡ true = sym (ap (by (1 ∷ 3 ∷ 4 ∷ [])) e) ∙ run-by r in
+        let one : member (x .number) ofRuns ≡ true = sym (ap (by ofRuns) e) ∙ run-by r in
         let other = h generally 1088 [] x (ap (λ (a : Asked). a .reply) (refused-asked (runSource r) x e generally 1088 [] refl refl)) in
-        absurd (false≢true (sym (not-true (member (x .number) (5 ∷ 6 ∷ 7 ∷ [])) (all-mem (λ n. not (member n (5 ∷ 6 ∷ 7 ∷ []))) (1 ∷ 3 ∷ 4 ∷ []) apart (member-mem (x .number) (1 ∷ 3 ∷ 4 ∷ []) one))) ∙ other))
+        absurd (false≢true (sym (not-true (member (x .number) ofCalls) (all-mem (λ n. not (member n ofCalls)) ofRuns apart (member-mem (x .number) ofRuns one))) ∙ other))
 
 -- ---- exports
 

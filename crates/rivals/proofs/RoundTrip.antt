@@ -325,6 +325,9 @@ module _ (m : Meaning) where
     naming-aslas : (a : ℕ) → member a others ≡ true → map unplacedAsla (keep (names a) (aslas (export m))) ≡ cond (m .named a) (groupAsla (leader m a) ∷ []) []
     naming-aslas a h = sym (keep-unplaced (names a) (names-unplaced a) (aslas (export m))) ∙ ap (keep (names a)) aslas-back ∙ keep-names a h
 
+    one-asla : (a : ℕ) → member a others ≡ true → m .named a ≡ true → map unplacedAsla (keep (names a) (aslas (export m))) ≡ groupAsla (leader m a) ∷ []
+    one-asla a h n = naming-aslas a h ∙ rw n
+
     -- ---- the meaning
 
     -- An empty general set is not written, and is read from no ASLA.
@@ -366,16 +369,14 @@ module _ (m : Meaning) where
     unfolding ofLive runSide groupAsla
     application-back a h n =
         let k = leader-facts m ok a n in
-        let only : map unplacedAsla (keep (names a) (aslas (export m))) ≡ groupAsla (leader m a) ∷ [] = naming-aslas a h ∙ rw n in
         sym (k .2) ∙ set-back (inGroup m (leader m a)) (m .set (leader m a)) (ok .set (leader m a) (k .1))
-        ∙ ap (λ (ds : List Advertisement). row (λ k. valueOf k (each (λ d. d .attributes) ds))) (sym only)
+        ∙ ap (λ (ds : List Advertisement). row (λ k. valueOf k (each (λ d. d .attributes) ds))) (sym (one-asla a h n))
         ∙ row-unplaced (keep (names a) (aslas (export m)))
         ∙ ap (λ (ts : List Attribute). row (λ k. valueOf k ts)) (sym (named-set (export m) a (sym (named-back a h) ∙ n)))
 
     once : (a : ℕ) → member a others ≡ true → m .named a ≡ true → count (names a) (aslas (export m)) ≡ 1
     once a h n =
-        let only : map unplacedAsla (keep (names a) (aslas (export m))) ≡ groupAsla (leader m a) ∷ [] = naming-aslas a h ∙ rw n in
-        count-keep (names a) (aslas (export m)) ∙ sym (length-map (keep (names a) (aslas (export m))) unplacedAsla) ∙ ap length only
+        count-keep (names a) (aslas (export m)) ∙ sym (length-map (keep (names a) (aslas (export m))) unplacedAsla) ∙ ap length (one-asla a h n)
 
     -- ---- the checks
 
