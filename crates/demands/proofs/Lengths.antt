@@ -10,7 +10,7 @@ use borrow.Author.Tests.{leb-true, le-leb, eqb-true, eq-eqb, not-true, not-false
 use lib.Dec.{leb, eqb}
 use Rattle.linkstate.specs.Lists.{any, all, lookup, member}
 use Rattle.linkstate.specs.Kinds.{Size, exactly, foursFrom, foursWithin, fits, Carrier, typeInA, valuesInBC, Kind, kind, kinds, codes, hasCode, hasType, carriedAs, codeOfType, wrongInA, wrongAtTop}
-use Rattle.demands.proofs.ListLaws.{and-l, and-r, or-false, all-mem, mem-any, any-none, none-any, lookup-cases}
+use Rattle.demands.proofs.ListLaws.{and-l, and-r, all-mem, mem-any, any-none, none-any, lookup-cases}
 
 -- Type, length and value: 4 bytes and at most 2,048 of SRLGs, at most 252 of an extended group, 32 of unreserved bandwidth, 8 of min/max delay, else 4.
 unfoldable pub limit : ℕ → ℕ

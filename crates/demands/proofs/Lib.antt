@@ -1,3 +1,6 @@
 pub mod ListLaws
 pub mod SrlgLaws
 pub mod Lengths
+pub mod Passed
+pub mod SetValues
+pub mod Sides

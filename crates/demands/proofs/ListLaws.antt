@@ -29,9 +29,13 @@ pub or-r : (a b : Bool) → a || b ≡ false → b ≡ false
 or-r true b h = absurd (false≢true (sym h))
 or-r false b h = h
 
-pub or-false : (a : Bool) → a || false ≡ a
-or-false true = refl
-or-false false = refl
+pub and-true : (a : Bool) → a && true ≡ a
+and-true true = refl
+and-true false = refl
+
+pub and-false : (a : Bool) → a && false ≡ false
+and-false true = refl
+and-false false = refl
 
 -- A predicate that both branches have.
 pub of-cond : {A : Type 0} (P : A → Type 0) (b : Bool) (x y : A) → P x → P y → P (cond b x y)

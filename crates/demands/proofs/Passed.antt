@@ -1,0 +1,77 @@
+-- What a check that passed tells: none of its tests held, every element in turn passed its own check, and no element is longer than its run.
+-- Assumes nothing.
+use mathlib.Core.Path.{_≡_, refl, ap₂, _∙_}
+use mathlib.Core.Logic.{_⊎_, inl, inr}
+use mathlib.Core.Bool.{Bool, true, false, cond}
+use mathlib.Core.List.{List, [], _∷_, List·Memᴰ, List·Memᴰ·cases-cons, List·Memᴰ·not-nil}
+use Prim.Native.Nat.{ℕ, zero, suc, pred, _+_, _-_, _≤_, zero-le}
+use native.Mathlib.Omega.{arith}
+use borrow.Author.Tests.{leb-true}
+use lib.Dec.{leb}
+use lib.ListN.{length, take, drop, length-take, length-drop}
+use Rattle.linkstate.specs.Replies.{Run, Verdict, accepted, refused, Refusal, fault, faultOfCall, refusedIf, _then_}
+use Rattle.linkstate.specs.Elements.{Element, element, cut, typeOf, lengthOf, sizeOf, elementsAfter, elements, faults}
+use Rattle.demands.proofs.ListLaws.{sumOf}
+
+no-refusal : {A : Type 0} {r : Refusal} → refused r ≡ accepted → A
+no-refusal h = let z : _≡_ {A = ℕ} 0 1 = cc in absurd (omega arith)
+
+pub then-l : (u w : Verdict) → u then w ≡ accepted → u ≡ accepted
+unfolding _then_
+then-l accepted w h = refl
+then-l (refused r) w h = h
+
+pub then-r : (u w : Verdict) → u then w ≡ accepted → w ≡ accepted
+unfolding _then_
+then-r accepted w h = h
+then-r (refused r) w h = no-refusal h
+
+-- A test that leads to a refusal did not hold.
+pub unfaulted : (b : Bool) (n : ℕ) (run : Run) (at : ℕ) (w : Verdict) → cond b (fault n run at) w ≡ accepted → (b ≡ false) × (w ≡ accepted)
+unfolding fault
+unfaulted true n run at w h = no-refusal h
+unfaulted false n run at w h = (refl, h)
+
+pub unrefused : (b : Bool) (n : ℕ) → refusedIf b n ≡ accepted → b ≡ false
+unfolding refusedIf faultOfCall fault
+unrefused true n h = no-refusal h
+unrefused false n h = refl
+
+pub checked : (run : Run) (check : ℕ → ℕ → List ℕ → Verdict) (es : List Element) → faults run check es ≡ accepted
+    → (at t : ℕ) (v : List ℕ) → List·Memᴰ (element at t v) es → check at t v ≡ accepted
+unfolding faults fault
+checked run check [] h at t v i = absurd (List·Memᴰ·not-nil i)
+checked run check (cut o ∷ es) h at t v i = no-refusal h
+checked run check (element o s w ∷ es) h at t v i = go (List·Memᴰ·cases-cons i) (checked run check es (then-r (check o s w) (faults run check es) h) at t v)
+  where
+    go : (element at t v ≡ element o s w) ⊎ List·Memᴰ (element at t v) es → (List·Memᴰ (element at t v) es → check at t v ≡ accepted) → check at t v ≡ accepted
+    go (inl e) f =
+        let x : at ≡ o = cc in
+        let y : t ≡ s = cc in
+        let z : v ≡ w = cc in
+        rw (x, y, z) (then-l (check o s w) (faults run check es) h)
+    go (inr j) f = f j
+
+-- How many bytes the value of an element has.
+unfoldable pub valueLength : Element → ℕ
+valueLength (element at t v) = length v
+valueLength (cut at) = 0
+
+values-after : (w at k : ℕ) (s : List ℕ) → sumOf valueLength (elementsAfter w at k s) ≤ length s - k
+unfolding sumOf elementsAfter sizeOf valueLength
+values-after w at k [] = zero-le
+values-after w at (suc k) (b ∷ bs) = omega (arith, values-after w (suc at) k bs)
+values-after w at zero (b ∷ bs) = go (leb (sizeOf w (b ∷ bs)) (length (b ∷ bs))) refl (values-after w (suc at) (pred (sizeOf w (b ∷ bs))) bs)
+  where
+    value : List ℕ
+    value = take (lengthOf w (b ∷ bs)) (drop (w + w) (b ∷ bs))
+
+    go : (t : Bool) → leb (sizeOf w (b ∷ bs)) (length (b ∷ bs)) ≡ t → sumOf valueLength (elementsAfter w (suc at) (pred (sizeOf w (b ∷ bs))) bs) ≤ length bs - pred (sizeOf w (b ∷ bs))
+        → sumOf valueLength (cond t (element at (typeOf w (b ∷ bs)) value ∷ elementsAfter w (suc at) (pred (sizeOf w (b ∷ bs))) bs) (cut at ∷ [])) ≤ length (b ∷ bs) - 0
+    go true e h = omega (arith, leb-true (sizeOf w (b ∷ bs)) (length (b ∷ bs)) e, length-take (lengthOf w (b ∷ bs)) (drop (w + w) (b ∷ bs)), length-drop (w + w) (b ∷ bs))
+    go false e h = zero-le
+
+-- The values of elements are no longer, together, than the bytes that they were read from.
+pub values-within : (w at : ℕ) (s : List ℕ) → sumOf valueLength (elements w at s) ≤ length s
+unfolding elements
+values-within w at s = omega (arith, values-after w at 0 s)

@@ -1,0 +1,80 @@
+-- The value of a kind, from the attributes that are read together: absent, or of a right length. For SRLG this needs only that few bytes were read,
+-- for any other kind that each attribute has a right length. A set of such values is within the bounds of `Values`. Assumes nothing.
+use mathlib.Core.Path.{_≡_, refl, sym, ap, _∙_, subst}
+use mathlib.Core.Bool.{Bool, true, false, cond, false≢true}
+use mathlib.Core.List.{List, [], _∷_, _++_, List·Memᴰ, List·Memᴰ·head, List·Memᴰ·tail, List·Memᴰ·append-cases}
+use mathlib.Core.Logic.{_⊎_, inl, inr}
+use Prim.Native.Nat.{ℕ, _+_, _*_, _≤_}
+use native.Mathlib.Omega.{arith}
+use borrow.Author.Tests.{eqb-true}
+use lib.Dec.{eqb}
+use lib.ListN.{length, length-append}
+use Rattle.linkstate.specs.Lists.{keep, each, empty, member}
+use Rattle.linkstate.specs.Bytes.{two, words, distinct, bytesOfWords}
+use Rattle.linkstate.specs.Kinds.{codes, wrongAtTop}
+use Rattle.linkstate.specs.Attributes.{Attribute, ofKind, srlgs, firstValue, valueOf}
+use Rattle.linkstate.specs.Export.{Tlv, tlv, bytesOf, present}
+use Rattle.linkstate.specs.WellFormed.{Values}
+use Rattle.demands.proofs.ListLaws.{sumOf, keep-mem, member-mem}
+use Rattle.demands.proofs.SrlgLaws.{canonical-twice, length-bytesOfWords, valueBytes, length-srlgs}
+use Rattle.demands.proofs.Lengths.{limit, RightLength, fours-right}
+
+-- A value is absent or has a right length.
+abbrev pub Right : ℕ → List ℕ → Type 0
+Right k v = empty v ≡ false → RightLength k (length v)
+
+-- Attributes of known kinds have right lengths.
+abbrev pub Sound : List Attribute → Type 0
+Sound ts = (t : Attribute) → List·Memᴰ t ts → member (t .code) codes ≡ true → RightLength (t .code) (length (t .value))
+
+pub sound-append : (ts us : List Attribute) → Sound ts → Sound us → Sound (ts ++ us)
+sound-append ts us f g t i = go (List·Memᴰ·append-cases ts i)
+  where
+    go : List·Memᴰ t ts ⊎ List·Memᴰ t us → member (t .code) codes ≡ true → RightLength (t .code) (length (t .value))
+    go (inl j) = f t j
+    go (inr j) = g t j
+
+-- ---- one value
+
+-- Any kind but SRLG: the value is that of one of the attributes.
+pub first-right : (k : ℕ) (ts : List Attribute) → eqb k 1096 ≡ false → member k codes ≡ true → Sound ts → Right k (valueOf k ts)
+unfolding valueOf ofKind firstValue empty
+first-right k ts e m s = rw e (go (keep (λ t. eqb k (t .code)) ts) (λ t i. keep-mem (λ t. eqb k (t .code)) ts i))
+  where
+    go : (us : List Attribute) → ((t : Attribute) → List·Memᴰ t us → (eqb k (t .code) ≡ true) × List·Memᴰ t ts) → Right k (firstValue us)
+    go [] f h = absurd (false≢true (sym h))
+    go (t ∷ us) f h =
+        let q = f t (List·Memᴰ·head refl) in
+        let c : k ≡ t .code = eqb-true k (t .code) (q .0) in
+        rw c (s t (q .1) (rw c at m))
+
+-- SRLGs.
+pub srlgs-right : (ts : List Attribute) → valueBytes ts ≤ 2048 → Right 1096 (valueOf 1096 ts)
+unfolding valueOf
+srlgs-right ts h e = rw (length-bytesOfWords (srlgs ts)) (fours-right (length (srlgs ts)) (omega (arith, length-srlgs ts)))
+
+-- SRLGs are in written form, whatever was read.
+pub srlgs-canonical : (ts : List Attribute) → bytesOfWords (distinct (words (valueOf 1096 ts))) ≡ valueOf 1096 ts
+unfolding valueOf srlgs
+srlgs-canonical ts = canonical-twice (each (λ t. words (t .value)) (ofKind 1096 ts))
+
+-- ---- a set
+
+pub length-present : (ks : List ℕ) (f : ℕ → List ℕ) → ((k : ℕ) → List·Memᴰ k ks → Right k (f k)) → length (each bytesOf (present ks f)) ≤ sumOf limit ks
+unfolding each present bytesOf two sumOf
+length-present [] f h = omega arith
+length-present (k ∷ ks) f h = go (empty (f k)) refl (length-present ks f (λ j i. h j (List·Memᴰ·tail i)))
+  where
+    go : (b : Bool) → empty (f k) ≡ b → length (each bytesOf (present ks f)) ≤ sumOf limit ks
+        → length (each bytesOf (cond b (present ks f) (tlv k (f k) ∷ present ks f))) ≤ limit k + sumOf limit ks
+    go true e g = omega arith
+    go false e g = let r = h k (List·Memᴰ·head refl) e in omega (arith, length-append (f k) (each bytesOf (present ks f)))
+
+pub values-of : (ks : List ℕ) (f : ℕ → List ℕ) → sumOf limit ks ≤ 4000 → bytesOfWords (distinct (words (f 1096))) ≡ f 1096
+    → ((k : ℕ) → List·Memᴰ k ks → Right k (f k)) → Values ks f
+values-of ks f l c h =
+    record {
+      right = λ k m e. (h k (member-mem k ks m) e) .fit;
+      canonical = c;
+      small = omega (arith, length-present ks f h);
+    }
