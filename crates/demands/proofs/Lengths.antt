@@ -107,7 +107,7 @@ row-decides q n i f = none-any (λ r. hasCode (q .code) r && not (fits (r .bgpls
     go r j true e = rw (one-row kinds kinds-differ q r i j e, f)
     go r j false e = refl
 
-zero-is-no-code : member 0 codes ≡ true → ⊥
+pub zero-is-no-code : member 0 codes ≡ true → ⊥
 unfolding member codes kinds kind
 zero-is-no-code h = false≢true h
 

@@ -4,3 +4,5 @@ pub mod Lengths
 pub mod Passed
 pub mod SetValues
 pub mod Sides
+pub mod SideA
+pub mod SideB
