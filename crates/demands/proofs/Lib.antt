@@ -6,3 +6,4 @@ pub mod SetValues
 pub mod Sides
 pub mod SideA
 pub mod SideB
+pub mod AcceptedLinks
