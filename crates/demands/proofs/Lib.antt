@@ -7,3 +7,4 @@ pub mod Sides
 pub mod SideA
 pub mod SideB
 pub mod AcceptedLinks
+pub mod Bounds

@@ -3,9 +3,9 @@ use mathlib.Core.Path.{_≡_, refl, sym, ap, _∙_}
 use mathlib.Core.Logic.{_⊎_, inl, inr}
 use mathlib.Core.Bool.{Bool, true, false, cond, _&&_, _||_, not, false≢true}
 use mathlib.Core.List.{List, [], _∷_, _++_, map, List·Memᴰ, List·Memᴰ·head, List·Memᴰ·tail, List·Memᴰ·cases-cons, List·Memᴰ·append-cases, List·Memᴰ·not-nil}
-use Prim.Native.Nat.{ℕ, zero, suc, _+_, _≤_, zero-le}
+use Prim.Native.Nat.{ℕ, zero, suc, _+_, _*_, _≤_, zero-le}
 use native.Mathlib.Omega.{arith}
-use native.Mathlib.Nat.{le-refl}
+use native.Mathlib.Nat.{le-refl, mul-suc}
 use borrow.Author.Tests.{eqb-true, eq-eqb}
 use lib.Dec.{eqb}
 use lib.ListN.{length, length-append}
@@ -165,6 +165,11 @@ module _ {A : Type 0} where
   sumOf-le v w [] h = le-refl 0
   sumOf-le v w (x ∷ xs) h = omega (arith, h x (List·Memᴰ·head refl), sumOf-le v w xs (λ y k. h y (List·Memᴰ·tail k)))
 
+  pub sumOf-most : (w : A → ℕ) (n : ℕ) (xs : List A) → ((x : A) → List·Memᴰ x xs → w x ≤ n) → sumOf w xs ≤ n * length xs
+  unfolding sumOf
+  sumOf-most w n [] h = zero-le
+  sumOf-most w n (x ∷ xs) h = omega (arith, mul-suc n (length xs), h x (List·Memᴰ·head refl), sumOf-most w n xs (λ y k. h y (List·Memᴰ·tail k)))
+
   pub sumOf-keep-le : (p : A → Bool) (w : A → ℕ) (xs : List A) → sumOf w (keep p xs) ≤ sumOf w xs
   unfolding keep sumOf
   sumOf-keep-le p w [] = zero-le
@@ -179,6 +184,11 @@ module _ {A B : Type 0} where
   unfolding sumOf each
   sumOf-each w f [] = refl
   sumOf-each w f (x ∷ xs) = rw (sumOf-append w (f x) (each f xs), sumOf-each w f xs)
+
+  pub sumOf-map : (w : B → ℕ) (f : A → B) (xs : List A) → sumOf w (map f xs) ≡ sumOf (λ x. w (f x)) xs
+  unfolding sumOf
+  sumOf-map w f [] = refl
+  sumOf-map w f (x ∷ xs) = ap (λ (n : ℕ). w (f x) + n) (sumOf-map w f xs)
 
   pub length-each : (f : A → List B) (xs : List A) → length (each f xs) ≡ sumOf (λ x. length (f x)) xs
   unfolding sumOf each
