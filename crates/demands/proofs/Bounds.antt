@@ -148,9 +148,10 @@ module _ (m : Meaning) (limited : Limited m) where
   asla-value-small : (v : List ℕ) → List·Memᴰ v (aslaValues m) → length v ≤ 2404
   unfolding aslaValues
   asla-value-small v i =
-      elim (List·Memᴰ·append-cases (generalValues m) i)
-      [ inl j ↦ omega (arith, general-small v j)
-      | inr j ↦ let q = map-mem (groupValue m) (leaders m) j in omega (arith, ap length (q .2), group-small (q .0)) ]
+      elim (List·Memᴰ·append-cases (generalValues m) i) [
+        | inl j ↦ omega (arith, general-small v j)
+        | inr j ↦ let q = map-mem (groupValue m) (leaders m) j in omega (arith, ap length (q .2), group-small (q .0))
+      ]
 
   pub value-small : (t : ℕ) (v : List ℕ) → List·Memᴰ (tlv t v) (tlvs m) → length v ≤ 2404
   unfolding tlvs

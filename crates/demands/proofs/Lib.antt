@@ -8,3 +8,4 @@ pub mod SideA
 pub mod SideB
 pub mod AcceptedLinks
 pub mod Bounds
+pub mod MetByALink
