@@ -1,9 +1,9 @@
 -- Every accepted IS-IS link has a well-formed meaning, so what holds of well-formed meanings holds of it. Each value is resolved on one side:
 -- A's lengths were checked, B and C are short, and the sides' rules only choose among what stands there. Assumes nothing.
-use mathlib.Core.Path.{_≡_, refl, sym, ap, _∙_, subst}
-use mathlib.Core.Bool.{Bool, true, false, cond, _&&_, _||_, not, false≢true}
-use mathlib.Core.List.{List, [], _∷_, List·Memᴰ}
-use Prim.Native.Nat.{ℕ, _+_, _%_, _≤_}
+use mathlib.Core.Path.{_≡_, refl, sym, _∙_}
+use mathlib.Core.Bool.{Bool, true, false, cond, _||_, false≢true}
+use mathlib.Core.List.{List, List·Memᴰ}
+use Prim.Native.Nat.{ℕ, _≤_}
 use native.Mathlib.Omega.{arith}
 use borrow.Author.Tests.{ltb-false, eqb-true}
 use lib.Dec.{ltb, eqb}
@@ -11,17 +11,18 @@ use lib.ListN.{length}
 use Rattle.linkstate.specs.Lists.{keep, any, all, member}
 use Rattle.linkstate.specs.Kinds.{kind, kinds, forApplications, isApplications, hasCode, codes, applicationCodes, isLinkCode}
 use Rattle.linkstate.specs.Masks.{others}
-use Rattle.linkstate.specs.Replies.{Verdict, accepted, refusedIf, _then_, runA, runB}
+use Rattle.linkstate.specs.Replies.{accepted, runA}
 use Rattle.linkstate.specs.Elements.{elements, faults}
-use Rattle.linkstate.specs.Attributes.{Attribute, valueOf}
+use Rattle.linkstate.specs.Attributes.{valueOf}
 use Rattle.linkstate.specs.Sides.{Advertisement, Side, named, ofLive, generalSet, applicationSet, rsvpTeKind, bandwidthKind}
 use Rattle.linkstate.specs.Meaning.{Meaning, meaning, Accepted}
 use Rattle.linkstate.specs.Export.{topValue}
 use Rattle.linkstate.specs.WellFormed.{WellFormed}
 use Rattle.isis.specs.RunA.{checkA, sideA}
-use Rattle.isis.specs.RunB.{checkB, sideB}
+use Rattle.isis.specs.RunB.{sideB}
 use Rattle.isis.specs.Link.{linkVerdict, sideOf, linkSource}
-use Rattle.demands.proofs.ListLaws.{and-l, or-l, or-r, all-mem, mem-member, of-cond, sumOf}
+use Rattle.demands.proofs.ListLaws.{and-l, or-l, or-r, all-mem, mem-member}
+use Rattle.demands.proofs.Sums.{sumOf}
 use Rattle.demands.proofs.Passed.{then-l, then-r, unrefused}
 use Rattle.demands.proofs.Lengths.{limit}
 use Rattle.demands.proofs.SetValues.{Right, Sound, sound-append, first-right, srlgs-right, srlgs-canonical, values-of}

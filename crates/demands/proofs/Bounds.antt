@@ -1,10 +1,10 @@
 -- How long the export of an accepted IS-IS link can be: at most 310,644 bytes, and no value of a TLV in it has more than 2,404. So it is within what
 -- the reader takes, and every length fits 16 bits. The bounds are sums of `limit` over the kinds. Assumes nothing.
 use mathlib.Core.Path.{_≡_, refl, sym, ap, _∙_}
-use mathlib.Core.Logic.{_⊎_, inl, inr}
+use mathlib.Core.Logic.{inl, inr}
 use mathlib.Core.Bool.{Bool, true, false, cond}
 use mathlib.Core.List.{List, [], _∷_, _++_, map, List·Memᴰ, List·Memᴰ·head, List·Memᴰ·tail, List·Memᴰ·cases-cons, List·Memᴰ·append-cases, List·Memᴰ·not-nil, List·Memᴰ·eq-of-singleton}
-use Prim.Native.Nat.{ℕ, zero, suc, _+_, _*_, _≤_, zero-le}
+use Prim.Native.Nat.{ℕ, _+_, _*_, _≤_, zero-le}
 use native.Mathlib.Omega.{arith}
 use native.Mathlib.Nat.{le-refl}
 use lib.Dec.{ltb, eqb}
@@ -12,21 +12,18 @@ use lib.ListN.{length, length-append, length-map}
 use Rattle.linkstate.specs.Lists.{numbers, keep, all, each, empty}
 use Rattle.linkstate.specs.Bytes.{two}
 use Rattle.linkstate.specs.Kinds.{kind, kinds, codes, applicationCodes}
-use Rattle.linkstate.specs.Masks.{user, others, Last, none, last, lastBelow, bytesToHold, maskSize, maskByte, mask}
+use Rattle.linkstate.specs.Masks.{user, others, Last, none, last, lastBelow, bytesToHold, maskSize, mask}
 use Rattle.linkstate.specs.Meaning.{Meaning, meaning, Accepted, row}
 use Rattle.linkstate.specs.Export.{Tlv, tlv, bytesOf, present, topValue, aslaValue, generalValues, inGroup, leaders, groupValue, aslaValues, tlvs, export}
 use Rattle.isis.specs.Link.{linkSource}
-use Rattle.demands.proofs.ListLaws.{of-cond, keep-mem, map-mem, length-keep, sumOf, sumOf-append, sumOf-most, sumOf-map, length-each}
+use Rattle.demands.proofs.ListLaws.{keep-mem, map-mem, length-numbers}
+use Rattle.demands.proofs.Sums.{sumOf, sumOf-append, sumOf-map}
+use Rattle.demands.proofs.MoreLists.{of-cond, length-keep, sumOf-most, length-each}
 use Rattle.demands.proofs.Lengths.{limit}
 use Rattle.demands.proofs.SetValues.{Right, length-present}
 use Rattle.demands.proofs.AcceptedLinks.{Limited, application-limits, accepted-is-limited}
 
 -- ---- masks
-
-length-numbers : (n from : ℕ) → length (numbers from n) ≡ n
-unfolding numbers
-length-numbers zero from = refl
-length-numbers (suc n) from = ap suc (length-numbers n (suc from))
 
 length-mask : (p : ℕ → Bool) → length (mask p) ≡ maskSize p
 unfolding mask
@@ -52,9 +49,9 @@ asla-small : (p : ℕ → Bool) (f : ℕ → List ℕ) → ((k : ℕ) → List·
     → length (aslaValue p f) ≤ 2388 + maskSize p + maskSize (λ n. p (user n))
 asla-small p f h = omega (arith, length-asla p f, length-present applicationCodes f h, application-limits)
 
-no-mask : maskSize (λ a. false) ≡ 0
+no-bits : maskSize (λ a. false) ≡ 0
 unfolding maskSize lastBelow bytesToHold
-no-mask = refl
+no-bits = refl
 
 -- ---- the other TLVs
 
@@ -105,7 +102,7 @@ module _ (m : Meaning) (limited : Limited m) where
     where
       go : (b : Bool) → List·Memᴰ v (cond b [] (aslaValue (λ a. false) (m .general) ∷ [])) → length v ≤ 2388
       go true j = absurd (List·Memᴰ·not-nil j)
-      go false j = rw (List·Memᴰ·eq-of-singleton j) (omega (arith, asla-small (λ a. false) (m .general) (limited .general), no-mask))
+      go false j = rw (List·Memᴰ·eq-of-singleton j) (omega (arith, asla-small (λ a. false) (m .general) (limited .general), no-bits))
 
   one-general : length (generalValues m) ≤ 1
   unfolding generalValues

@@ -1,16 +1,17 @@
 -- A length that is right in run A is right in BGP-LS: one test over the rows of the table, computed, gives it for every type.
 -- `limit` is the most bytes that a kind's TLV has in the export of an IS-IS link. Assumes nothing.
-use mathlib.Core.Path.{_≡_, refl, sym, ap, _∙_, subst}
+use mathlib.Core.Path.{_≡_, refl, sym, _∙_}
 use mathlib.Core.Logic.{_⊎_, inl, inr}
-use mathlib.Core.Bool.{Bool, true, false, cond, _&&_, _||_, not, false≢true}
-use mathlib.Core.List.{List, [], _∷_, List·Memᴰ, List·Memᴰ·head, List·Memᴰ·tail, List·Memᴰ·cases-cons, List·Memᴰ·not-nil}
+use mathlib.Core.Bool.{Bool, true, false, cond, _&&_, not, false≢true}
+use mathlib.Core.List.{List, [], _∷_, List·Memᴰ, List·Memᴰ·head, List·Memᴰ·tail}
 use Prim.Native.Nat.{ℕ, suc, _+_, _*_, _%_, _≤_, zero-le}
 use native.Mathlib.Omega.{arith}
 use borrow.Author.Tests.{leb-true, le-leb, eqb-true, eq-eqb, not-true, not-false}
 use lib.Dec.{leb, eqb}
 use Rattle.linkstate.specs.Lists.{any, all, lookup, member}
 use Rattle.linkstate.specs.Kinds.{Size, exactly, foursFrom, foursWithin, fits, Carrier, typeInA, valuesInBC, Kind, kind, kinds, codes, hasCode, hasType, carriedAs, codeOfType, wrongInA, wrongAtTop}
-use Rattle.demands.proofs.ListLaws.{and-l, and-r, all-mem, mem-any, any-none, none-any, lookup-cases}
+use Rattle.demands.proofs.ListLaws.{and-l, and-r, all-mem, any-no}
+use Rattle.demands.proofs.MoreLists.{any-false, lookup-cases}
 
 -- Type, length and value: 4 bytes and at most 2,048 of SRLGs, at most 252 of an extended group, 32 of unreserved bandwidth, 8 of min/max delay, else 4.
 unfoldable pub limit : ℕ → ℕ
@@ -93,15 +94,15 @@ one-row : (qs : List Kind) → differ qs ≡ true → (q r : Kind) → List·Mem
 unfolding differ
 one-row (x ∷ qs) h q r (List·Memᴰ·head d) (List·Memᴰ·head e) c = e ∙ sym d
 one-row (x ∷ qs) h q r (List·Memᴰ·head d) (List·Memᴰ·tail j) c =
-    absurd (false≢true (sym (any-none (hasCode (x .code)) qs (not-true _ (and-l (not (any (hasCode (x .code)) qs)) (differ qs) h)) j) ∙ rw d at c))
+    absurd (false≢true (sym (any-false (hasCode (x .code)) qs (not-true _ (and-l (not (any (hasCode (x .code)) qs)) (differ qs) h)) j) ∙ rw d at c))
 one-row (x ∷ qs) h q r (List·Memᴰ·tail i) (List·Memᴰ·head e) c =
-    absurd (false≢true (sym (any-none (hasCode (x .code)) qs (not-true _ (and-l (not (any (hasCode (x .code)) qs)) (differ qs) h)) i) ∙ rw e at (has-code-sym q r c)))
+    absurd (false≢true (sym (any-false (hasCode (x .code)) qs (not-true _ (and-l (not (any (hasCode (x .code)) qs)) (differ qs) h)) i) ∙ rw e at (has-code-sym q r c)))
 one-row (x ∷ qs) h q r (List·Memᴰ·tail i) (List·Memᴰ·tail j) c = one-row qs (and-r (not (any (hasCode (x .code)) qs)) (differ qs) h) q r i j c
 
 -- A row's own size decides whether a length is wrong at its code.
 row-decides : (q : Kind) (n : ℕ) → List·Memᴰ q kinds → fits (q .bgplsSize) n ≡ true → wrongAtTop (q .code) n ≡ false
 unfolding wrongAtTop
-row-decides q n i f = none-any (λ r. hasCode (q .code) r && not (fits (r .bgplsSize) n)) kinds (λ r j. go r j (hasCode (q .code) r) refl)
+row-decides q n i f = any-no (λ r. hasCode (q .code) r && not (fits (r .bgplsSize) n)) kinds (λ r j. go r j (hasCode (q .code) r) refl)
   where
     go : (r : Kind) → List·Memᴰ r kinds → (b : Bool) → hasCode (q .code) r ≡ b → b && not (fits (r .bgplsSize) n) ≡ false
     go r j true e = rw (one-row kinds kinds-differ q r i j e, f)
@@ -118,7 +119,7 @@ type-right t n w m = go (lookup-cases (hasType t) (λ q. q .code) 0 kinds)
   where
     found : (q : Kind) → List·Memᴰ q kinds → hasType t q ≡ true → RightLength (q .code) (lengthInBgpLs (eqb t 18) n)
     found q i e =
-        let f : fits (q .isisSize) n ≡ true = not-false _ (rw e at (any-none (λ r. hasType t r && not (fits (r .isisSize) n)) kinds w i)) in
+        let f : fits (q .isisSize) n ≡ true = not-false _ (rw e at (any-false (λ r. hasType t r && not (fits (r .isisSize) n)) kinds w i)) in
         let r = row-right q t n (all-mem rowTest kinds rows-right i) e f in
         record { fit = row-decides q _ i (r .0); low = r .1 }
 

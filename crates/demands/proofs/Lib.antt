@@ -1,4 +1,6 @@
 pub mod ListLaws
+pub mod Sums
+pub mod MoreLists
 pub mod SrlgLaws
 pub mod Lengths
 pub mod Passed

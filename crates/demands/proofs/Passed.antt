@@ -1,6 +1,6 @@
 -- What a check that passed tells: none of its tests held, every element in turn passed its own check, and no element is longer than its run.
 -- Assumes nothing.
-use mathlib.Core.Path.{_≡_, refl, ap₂, _∙_}
+use mathlib.Core.Path.{_≡_, refl}
 use mathlib.Core.Logic.{_⊎_, inl, inr}
 use mathlib.Core.Bool.{Bool, true, false, cond}
 use mathlib.Core.List.{List, [], _∷_, List·Memᴰ, List·Memᴰ·cases-cons, List·Memᴰ·not-nil}
@@ -11,10 +11,10 @@ use lib.Dec.{leb}
 use lib.ListN.{length, take, drop, length-take, length-drop}
 use Rattle.linkstate.specs.Replies.{Run, Verdict, accepted, refused, Refusal, fault, faultOfCall, refusedIf, _then_}
 use Rattle.linkstate.specs.Elements.{Element, element, cut, typeOf, lengthOf, sizeOf, elementsAfter, elements, faults}
-use Rattle.demands.proofs.ListLaws.{sumOf}
+use Rattle.demands.proofs.Sums.{sumOf}
 
-no-refusal : {A : Type 0} {r : Refusal} → refused r ≡ accepted → A
-no-refusal h = let z : _≡_ {A = ℕ} 0 1 = cc in absurd (omega arith)
+not-refused : {A : Type 0} (x : Refusal) → refused x ≡ accepted → A
+not-refused x h = let z : _≡_ {A = ℕ} 0 1 = cc in absurd (omega arith)
 
 pub then-l : (u w : Verdict) → u then w ≡ accepted → u ≡ accepted
 unfolding _then_
@@ -24,25 +24,26 @@ then-l (refused r) w h = h
 pub then-r : (u w : Verdict) → u then w ≡ accepted → w ≡ accepted
 unfolding _then_
 then-r accepted w h = h
-then-r (refused r) w h = no-refusal h
+then-r (refused r) w h = not-refused _ h
 
 -- A test that leads to a refusal did not hold.
 pub unfaulted : (b : Bool) (n : ℕ) (run : Run) (at : ℕ) (w : Verdict) → cond b (fault n run at) w ≡ accepted → (b ≡ false) × (w ≡ accepted)
 unfolding fault
-unfaulted true n run at w h = no-refusal h
+unfaulted true n run at w h = not-refused _ h
 unfaulted false n run at w h = (refl, h)
 
 pub unrefused : (b : Bool) (n : ℕ) → refusedIf b n ≡ accepted → b ≡ false
 unfolding refusedIf faultOfCall fault
-unrefused true n h = no-refusal h
+unrefused true n h = not-refused _ h
 unrefused false n h = refl
 
-pub checked : (run : Run) (check : ℕ → ℕ → List ℕ → Verdict) (es : List Element) → faults run check es ≡ accepted
-    → (at t : ℕ) (v : List ℕ) → List·Memᴰ (element at t v) es → check at t v ≡ accepted
+-- Every element passed its check.
+pub faults-mem : (run : Run) (check : ℕ → ℕ → List ℕ → Verdict) (es : List Element) → faults run check es ≡ accepted
+    → {at t : ℕ} {v : List ℕ} → List·Memᴰ (element at t v) es → check at t v ≡ accepted
 unfolding faults fault
-checked run check [] h at t v i = absurd (List·Memᴰ·not-nil i)
-checked run check (cut o ∷ es) h at t v i = no-refusal h
-checked run check (element o s w ∷ es) h at t v i = go (List·Memᴰ·cases-cons i) (checked run check es (then-r (check o s w) (faults run check es) h) at t v)
+faults-mem run check [] h i = absurd (List·Memᴰ·not-nil i)
+faults-mem run check (cut o ∷ es) h i = not-refused _ h
+faults-mem run check (element o s w ∷ es) h {at} {t} {v} i = go (List·Memᴰ·cases-cons i) (λ j. faults-mem run check es (then-r (check o s w) (faults run check es) h) j)
   where
     go : (element at t v ≡ element o s w) ⊎ List·Memᴰ (element at t v) es → (List·Memᴰ (element at t v) es → check at t v ≡ accepted) → check at t v ≡ accepted
     go (inl e) f =

@@ -1,22 +1,23 @@
 -- The value of a kind, from the attributes that are read together: absent, or of a right length. For SRLG this needs only that few bytes were read,
 -- for any other kind that each attribute has a right length. A set of such values is within the bounds of `Values`. Assumes nothing.
-use mathlib.Core.Path.{_≡_, refl, sym, ap, _∙_, subst}
+use mathlib.Core.Path.{_≡_, refl, sym}
 use mathlib.Core.Bool.{Bool, true, false, cond, false≢true}
 use mathlib.Core.List.{List, [], _∷_, _++_, List·Memᴰ, List·Memᴰ·head, List·Memᴰ·tail, List·Memᴰ·append-cases}
 use mathlib.Core.Logic.{_⊎_, inl, inr}
-use Prim.Native.Nat.{ℕ, _+_, _*_, _≤_}
+use Prim.Native.Nat.{ℕ, _+_, _≤_}
 use native.Mathlib.Omega.{arith}
 use borrow.Author.Tests.{eqb-true}
 use lib.Dec.{eqb}
 use lib.ListN.{length, length-append}
 use Rattle.linkstate.specs.Lists.{keep, each, empty, member}
 use Rattle.linkstate.specs.Bytes.{two, words, distinct, bytesOfWords}
-use Rattle.linkstate.specs.Kinds.{codes, wrongAtTop}
+use Rattle.linkstate.specs.Kinds.{codes}
 use Rattle.linkstate.specs.Attributes.{Attribute, ofKind, srlgs, firstValue, valueOf}
-use Rattle.linkstate.specs.Export.{Tlv, tlv, bytesOf, present}
+use Rattle.linkstate.specs.Export.{tlv, bytesOf, present}
 use Rattle.linkstate.specs.WellFormed.{Values}
-use Rattle.demands.proofs.ListLaws.{sumOf, keep-mem, member-mem}
-use Rattle.demands.proofs.SrlgLaws.{canonical-twice, length-bytesOfWords, valueBytes, length-srlgs}
+use Rattle.demands.proofs.ListLaws.{keep-mem, member-mem}
+use Rattle.demands.proofs.Sums.{sumOf}
+use Rattle.demands.proofs.SrlgLaws.{canonical-twice, length-fours, valueBytes, length-srlgs}
 use Rattle.demands.proofs.Lengths.{limit, RightLength, fours-right}
 
 -- A value is absent or has a right length.
@@ -51,7 +52,7 @@ first-right k ts e m s = rw e (go (keep (λ t. eqb k (t .code)) ts) (λ t i. kee
 -- SRLGs.
 pub srlgs-right : (ts : List Attribute) → valueBytes ts ≤ 2048 → Right 1096 (valueOf 1096 ts)
 unfolding valueOf
-srlgs-right ts h e = rw (length-bytesOfWords (srlgs ts)) (fours-right (length (srlgs ts)) (omega (arith, length-srlgs ts)))
+srlgs-right ts h e = rw (length-fours (srlgs ts)) (fours-right (length (srlgs ts)) (omega (arith, length-srlgs ts)))
 
 -- SRLGs are in written form, whatever was read.
 pub srlgs-canonical : (ts : List Attribute) → bytesOfWords (distinct (words (valueOf 1096 ts))) ≡ valueOf 1096 ts

@@ -1,22 +1,22 @@
 -- Side A of a link whose run A passed its checks: every attribute of a known kind, legacy or in a live ASLA, has a length that is right in BGP-LS.
 -- Assumes nothing.
-use mathlib.Core.Path.{_≡_, refl, sym, ap, _∙_, subst}
-use mathlib.Core.Bool.{Bool, true, false, cond, _&&_, _||_, not}
+use mathlib.Core.Path.{_≡_, refl, ap, _∙_, subst}
+use mathlib.Core.Bool.{Bool, true, false, cond, _&&_, _||_}
 use mathlib.Core.List.{List, [], _∷_, List·Memᴰ, List·Memᴰ·not-nil, List·Memᴰ·eq-of-singleton}
-use Prim.Native.Nat.{ℕ, suc, _+_}
+use Prim.Native.Nat.{ℕ}
 use borrow.Author.Tests.{eqb-true, not-true}
 use lib.Dec.{ltb, eqb}
 use lib.ListN.{length}
 use Rattle.linkstate.specs.Lists.{each, lookup, member}
-use Rattle.linkstate.specs.Kinds.{Kind, kind, kinds, carriedAs, hasType, codes, codeOfType, wrongInA}
-use Rattle.linkstate.specs.Replies.{Verdict, accepted, fault, runA}
+use Rattle.linkstate.specs.Kinds.{kind, kinds, carriedAs, hasType, codes, codeOfType, wrongInA}
+use Rattle.linkstate.specs.Replies.{accepted, runA}
 use Rattle.linkstate.specs.Elements.{Element, element, cut, elements, faults}
 use Rattle.linkstate.specs.Attributes.{Attribute, attribute}
-use Rattle.linkstate.specs.Sides.{Advertisement, Side, ofLive}
+use Rattle.linkstate.specs.Sides.{Advertisement, ofLive}
 use Rattle.isis.specs.MaskHeader.{lFlag, headerLength, maskTooLong, lForNobody, advertisement}
 use Rattle.isis.specs.RunA.{listElements, checkAttribute, checkAsla, checkA, attributesOf, liveAsla, aslaAdvertisements, sideA}
-use Rattle.demands.proofs.ListLaws.{and-l, and-r, or-l, or-r, keep-mem, each-mem}
-use Rattle.demands.proofs.Passed.{unfaulted, checked}
+use Rattle.demands.proofs.ListLaws.{or-l, or-r, keep-mem, each-mem}
+use Rattle.demands.proofs.Passed.{unfaulted, faults-mem}
 use Rattle.demands.proofs.Lengths.{RightLength, lengthInBgpLs, type-right, zero-is-no-code}
 use Rattle.demands.proofs.SetValues.{Sound}
 
@@ -61,14 +61,14 @@ list-sound at v h l =
   where
     go : (b : Bool) → cond b accepted (faults runA checkAttribute (listElements at v)) ≡ accepted → Sound (cond b [] (each attributesOf (listElements at v)))
     go true k = λ t i m. absurd (List·Memᴰ·not-nil i)
-    go false k = elements-sound (listElements at v) (λ o t w i m. attribute-right o t w (checked runA checkAttribute (listElements at v) k o t w i))
+    go false k = elements-sound (listElements at v) (λ o t w i m. attribute-right o t w (faults-mem runA checkAttribute (listElements at v) k i))
 
 -- ---- the side
 
 module _ (a : List ℕ) (passed : faults runA checkA (elements 1 0 a) ≡ accepted) where
   pub legacy-sound : Sound (sideA a .legacy)
   unfolding sideA checkA
-  legacy-sound = elements-sound (elements 1 0 a) (λ at t v i m. go at t v m (eqb t 16) refl (checked runA checkA (elements 1 0 a) passed at t v i))
+  legacy-sound = elements-sound (elements 1 0 a) (λ at t v i m. go at t v m (eqb t 16) refl (faults-mem runA checkA (elements 1 0 a) passed i))
     where
       go : (at t : ℕ) (v : List ℕ) → member (codeOfType t) codes ≡ true → (b : Bool) → eqb t 16 ≡ b → cond b (checkAsla at v) (checkAttribute at t v) ≡ accepted
           → wrongInA t (length v) ≡ false
@@ -81,7 +81,7 @@ module _ (a : List ℕ) (passed : faults runA checkA (elements 1 0 a) ≡ accept
     where
       go : (e : Element) → List·Memᴰ e (elements 1 0 a) → List·Memᴰ d (aslaAdvertisements e) → Sound (d .attributes)
       go (cut at) j k = absurd (List·Memᴰ·not-nil k)
-      go (element at t v) j k = live (eqb t 16) (liveAsla v) refl k (checked runA checkA (elements 1 0 a) passed at t v j)
+      go (element at t v) j k = live (eqb t 16) (liveAsla v) refl k (faults-mem runA checkA (elements 1 0 a) passed j)
         where
           live : (b c : Bool) → liveAsla v ≡ c → List·Memᴰ d (cond (b && c) (advertisement v (each attributesOf (listElements at v)) ∷ []) [])
               → cond b (checkAsla at v) (checkAttribute at t v) ≡ accepted → Sound (d .attributes)

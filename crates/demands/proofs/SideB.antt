@@ -1,18 +1,18 @@
 -- Side B: the SRLG values of B's live TLVs together are no longer than B. With C's they bound what any set of side B can hold. Assumes nothing.
-use mathlib.Core.Path.{_≡_, refl}
-use mathlib.Core.Bool.{Bool, cond, _&&_}
-use mathlib.Core.List.{List, [], _∷_}
+use mathlib.Core.Bool.{Bool, _&&_}
+use mathlib.Core.List.{List}
 use Prim.Native.Nat.{ℕ, _+_, _≤_, zero-le}
 use native.Mathlib.Omega.{arith}
 use lib.Dec.{eqb}
 use lib.ListN.{length, drop, length-drop}
-use Rattle.linkstate.specs.Lists.{keep, each}
+use Rattle.linkstate.specs.Lists.{keep}
 use Rattle.linkstate.specs.Elements.{Element, element, cut, elements}
 use Rattle.linkstate.specs.Attributes.{Attribute}
-use Rattle.linkstate.specs.Sides.{Advertisement, Side, ofLive}
+use Rattle.linkstate.specs.Sides.{Advertisement, ofLive}
 use Rattle.isis.specs.MaskHeader.{lFlag, headerLength, advertisement}
 use Rattle.isis.specs.RunB.{afterNeighbour, identifierBytes, srlgValues, srlgAttribute, liveSrlg, srlgAdvertisement, srlgAdvertisements, sideB}
-use Rattle.demands.proofs.ListLaws.{of-cond, sumOf, sumOf-le, sumOf-keep-le, sumOf-each}
+use Rattle.demands.proofs.Sums.{sumOf, sumOf-le, sumOf-each}
+use Rattle.demands.proofs.MoreLists.{of-cond, sumOf-keep-le}
 use Rattle.demands.proofs.SrlgLaws.{valueBytes}
 use Rattle.demands.proofs.Passed.{valueLength, values-within}
 

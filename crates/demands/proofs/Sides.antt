@@ -2,7 +2,7 @@
 -- one L-flag among these, wherever it stands, gives legacy; general advertisements name nobody and serve only those whom none names. Assumes nothing.
 use mathlib.Core.Path.{_≡_, refl, sym, ap, ap₂, _∙_}
 use mathlib.Core.Bool.{Bool, true, false, cond, _&&_, _||_, not, false≢true}
-use mathlib.Core.List.{List, [], _∷_, _++_, List·Memᴰ, List·Memᴰ·head, List·Memᴰ·tail}
+use mathlib.Core.List.{List, [], _∷_, _++_, List·Memᴰ}
 use Prim.Native.Nat.{ℕ, _-_, _/_, _%_, _^_}
 use native.Mathlib.Omega.{arith}
 use native.Mathlib.Nat.{zero-div}
@@ -13,7 +13,8 @@ use Rattle.linkstate.specs.Lists.{keep, any, each, empty}
 use Rattle.linkstate.specs.Masks.{bit, inMasks}
 use Rattle.linkstate.specs.Attributes.{Attribute, valueOf}
 use Rattle.linkstate.specs.Sides.{Advertisement, Side, general, names, named, namedWithL, ofLive, generalSet, applicationSet, rsvpTeKind, rsvpTeAlone, maximumBandwidth, reservableBandwidth, bandwidthKind}
-use Rattle.demands.proofs.ListLaws.{and-l, and-r, and-true, and-false, of-cond, mem-any, any-none, none-any, keep-mem}
+use Rattle.demands.proofs.ListLaws.{and-l, and-r, and-false, mem-any, any-no, keep-mem}
+use Rattle.demands.proofs.MoreLists.{of-cond, any-false, any-kept, keep-kept}
 
 -- ---- what every set has
 
@@ -39,31 +40,10 @@ module _ (Q : List Attribute → Type 0) (s : Side) (legacy : Q (s .legacy)) (li
 
 -- ---- who is named
 
--- A test on those that pass another.
-any-keep : {A : Type 0} (q p : A → Bool) (xs : List A) → any (λ x. q x && p x) xs ≡ any q (keep p xs)
-unfolding any keep
-any-keep q p [] = refl
-any-keep q p (x ∷ xs) = go (p x) (any-keep q p xs)
-  where
-    go : (b : Bool) → any (λ x. q x && p x) xs ≡ any q (keep p xs) → (q x && b) || any (λ x. q x && p x) xs ≡ any q (cond b (x ∷ keep p xs) (keep p xs))
-    go true h = rw (and-true (q x), h)
-    go false h = rw (and-false (q x), h)
-
-keep-keep : {A : Type 0} (p q : A → Bool) (xs : List A) → ((x : A) → p x ≡ true → q x ≡ true) → keep p (keep q xs) ≡ keep p xs
-unfolding keep
-keep-keep p q [] h = refl
-keep-keep p q (x ∷ xs) h = go (q x) refl (p x) refl (keep-keep p q xs h)
-  where
-    go : (b : Bool) → q x ≡ b → (c : Bool) → p x ≡ c → keep p (keep q xs) ≡ keep p xs → keep p (cond b (x ∷ keep q xs) (keep q xs)) ≡ cond c (x ∷ keep p xs) (keep p xs)
-    go true e true d r = rw d (ap (λ (l : List _). x ∷ l) r)
-    go true e false d r = rw d r
-    go false e true d r = absurd (false≢true (sym e ∙ h x d))
-    go false e false d r = r
-
 -- Whoever is named with L is named.
 named-by-L : (a : ℕ) (s : Side) → named a s ≡ false → namedWithL a s ≡ false
 unfolding named namedWithL
-named-by-L a s h = none-any (λ d. d .L && names a d) (s .live) (λ d i. rw (any-none (names a) (s .live) h i) (and-false (d .L)))
+named-by-L a s h = any-no (λ d. d .L && names a d) (s .live) (λ d i. rw (any-false (names a) (s .live) h i) (and-false (d .L)))
 
 -- A general advertisement names nobody.
 pub general-names-nobody : (a : ℕ) (d : Advertisement) → general d ≡ true → names a d ≡ false
@@ -86,7 +66,7 @@ byNaming legacy ds = cond (any (λ d. d .L) ds) legacy (each (λ d. d .attribute
 
 named-gets : (a : ℕ) (s : Side) → named a s ≡ true → applicationSet a s ≡ byNaming (s .legacy) (keep (names a) (s .live))
 unfolding applicationSet namedWithL ofLive byNaming
-named-gets a s n = rw (n, any-keep (λ d. d .L) (names a) (s .live))
+named-gets a s n = rw (n, any-kept (λ d. d .L) (names a) (s .live))
 
 -- The advertisements that do not name a named application play no part in its set.
 pub only-naming-count : (a : ℕ) (s t : Side) → s .legacy ≡ t .legacy → keep (names a) (s .live) ≡ keep (names a) (t .live) → named a s ≡ true
@@ -95,12 +75,12 @@ unfolding named
 only-naming-count a s t l k n = named-gets a s n ∙ ap₂ byNaming l k ∙ sym (named-gets a t also)
   where
     also : any (names a) (t .live) ≡ true
-    also = any-keep (λ d. true) (names a) (t .live) ∙ ap (any (λ d. true)) (sym k) ∙ sym (any-keep (λ d. true) (names a) (s .live)) ∙ n
+    also = any-kept (λ d. true) (names a) (t .live) ∙ ap (any (λ d. true)) (sym k) ∙ sym (any-kept (λ d. true) (names a) (s .live)) ∙ n
 
 -- So the general ones can be left out.
 pub general-left-out : (a : ℕ) (s : Side) → named a s ≡ true
     → applicationSet a s ≡ applicationSet a (record { legacy = s .legacy; live = keep (λ d. not (general d)) (s .live) })
-general-left-out a s n = only-naming-count a s _ refl (sym (keep-keep (names a) (λ d. not (general d)) (s .live) (λ d h. go d (general d) refl h))) n
+general-left-out a s n = only-naming-count a s _ refl (sym (keep-kept (names a) (λ d. not (general d)) (s .live) (λ d h. go d (general d) refl h))) n
   where
     go : (d : Advertisement) (b : Bool) → general d ≡ b → names a d ≡ true → not b ≡ true
     go d true e h = absurd (false≢true (sym (general-names-nobody a d e) ∙ h))
@@ -116,7 +96,7 @@ pub named-without-L : (a : ℕ) (s : Side) → named a s ≡ true → ((d : Adve
     → applicationSet a s ≡ ofLive (names a) s
 unfolding byNaming ofLive
 named-without-L a s n h =
-    named-gets a s n ∙ rw (none-any (λ d. d .L) (keep (names a) (s .live)) (λ d i. let q = keep-mem (names a) (s .live) i in h d (q .1) (q .0)))
+    named-gets a s n ∙ rw (any-no (λ d. d .L) (keep (names a) (s .live)) (λ d i. let q = keep-mem (names a) (s .live) i in h d (q .1) (q .0)))
 
 -- Rule 3: nobody names it.
 pub unnamed-gets-general : (a : ℕ) (s : Side) → named a s ≡ false → applicationSet a s ≡ generalSet s

@@ -7,13 +7,14 @@ use mathlib.Core.List.{List, [], _∷_, List·Memᴰ, List·Memᴰ·head, List·
 use Prim.Native.Nat.{ℕ, suc, _+_, _*_, _/_, _%_, _≤_, _<_, zero-le}
 use native.Mathlib.Omega.{arith}
 use native.Mathlib.Nat.{le-refl}
-use borrow.Author.Tests.{ltb-true, ltb-false, lt-ltb}
+use borrow.Author.Tests.{ltb-true, lt-ltb}
 use lib.Dec.{ltb, eqb}
 use lib.ListN.{length, length-append}
 use Rattle.linkstate.specs.Lists.{each}
 use Rattle.linkstate.specs.Bytes.{number, numberFrom, words, insert, distinct, four, bytesOfWords}
 use Rattle.linkstate.specs.Attributes.{Attribute, ofKind, srlgs}
-use Rattle.demands.proofs.ListLaws.{sumOf, sumOf-keep-le}
+use Rattle.demands.proofs.Sums.{sumOf}
+use Rattle.demands.proofs.MoreLists.{sumOf-keep-le}
 
 -- ---- the different numbers of a list
 
@@ -92,10 +93,10 @@ canonical-twice ns = ap bytesOfWords (ap distinct (words-bytes (distinct ns)) �
 
 -- ---- how many
 
-pub length-bytesOfWords : (ns : List ℕ) → length (bytesOfWords ns) ≡ 4 * length ns
+pub length-fours : (ns : List ℕ) → length (bytesOfWords ns) ≡ 4 * length ns
 unfolding bytesOfWords each four
-length-bytesOfWords [] = refl
-length-bytesOfWords (n ∷ ns) = omega (arith, length-bytesOfWords ns)
+length-fours [] = refl
+length-fours (n ∷ ns) = omega (arith, length-fours ns)
 
 length-insert : (n : ℕ) (ms : List ℕ) → length (insert n ms) ≤ suc (length ms)
 unfolding insert
