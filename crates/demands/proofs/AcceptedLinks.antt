@@ -8,7 +8,7 @@ use native.Mathlib.Omega.{arith}
 use borrow.Author.Tests.{ltb-false, eqb-true}
 use lib.Dec.{ltb, eqb}
 use lib.ListN.{length}
-use Rattle.linkstate.specs.Lists.{keep, any, all, member}
+use Rattle.linkstate.specs.Lists.{keep, any, member}
 use Rattle.linkstate.specs.Kinds.{kind, kinds, forApplications, isApplications, hasCode, codes, applicationCodes, isLinkCode}
 use Rattle.linkstate.specs.Masks.{others}
 use Rattle.linkstate.specs.Replies.{accepted, runA}
@@ -21,9 +21,11 @@ use Rattle.linkstate.specs.WellFormed.{WellFormed}
 use Rattle.isis.specs.RunA.{checkA, sideA}
 use Rattle.isis.specs.RunB.{sideB}
 use Rattle.isis.specs.Link.{linkVerdict, sideOf, linkSource}
-use Rattle.demands.proofs.ListLaws.{and-l, or-l, or-r, all-mem, mem-member}
-use Rattle.demands.proofs.Sums.{sumOf}
-use Rattle.demands.proofs.Passed.{then-l, then-r, unrefused}
+use Rattle.rivals.proofs.ListLaws.{and-l, or-l, or-r, mem-member}
+use Rattle.rivals.proofs.Sums.{sumOf}
+use Rattle.rivals.proofs.Sizes.{then-l, then-r}
+use Rattle.rivals.proofs.KindLaws.{application-code}
+use Rattle.demands.proofs.Passed.{unrefused}
 use Rattle.demands.proofs.Lengths.{limit}
 use Rattle.demands.proofs.SetValues.{Right, Sound, sound-append, first-right, srlgs-right, srlgs-canonical, values-of}
 use Rattle.demands.proofs.Sides.{general-has, application-has, rsvpTe-has, bandwidth-has}
@@ -32,9 +34,8 @@ use Rattle.demands.proofs.SideB.{legacy-within, chosen-within}
 
 -- ---- the kinds
 
-application-codes-known : {k : ℕ} → List·Memᴰ k applicationCodes → member k codes ≡ true
-unfolding all member applicationCodes codes keep kinds kind isApplications forApplications
-application-codes-known i = all-mem (λ k. member k codes) applicationCodes refl i
+application-code-known : {k : ℕ} → List·Memᴰ k applicationCodes → member k codes ≡ true
+application-code-known i = mem-member codes (application-code i .1)
 
 srlg-is-no-link-code : isLinkCode 1096 ≡ false
 unfolding isLinkCode any kinds kind hasCode isApplications forApplications
@@ -92,8 +93,8 @@ module _ (a b c : List ℕ) (passed : faults runA checkA (elements 1 0 a) ≡ ac
   limited =
       record {
         top = λ k i. top k (mem-member codes i) (isLinkCode k) refl;
-        general = λ k i. let g = side-gives k (application-codes-known i) in general-has (λ ts. Right k (valueOf k ts)) (sideOf a b c k) (g .legacy) (g .live);
-        set = λ n k i. let g = side-gives k (application-codes-known i) in application-has (λ ts. Right k (valueOf k ts)) (sideOf a b c k) (g .legacy) (g .live) n;
+        general = λ k i. let g = side-gives k (application-code-known i) in general-has (λ ts. Right k (valueOf k ts)) (sideOf a b c k) (g .legacy) (g .live);
+        set = λ n k i. let g = side-gives k (application-code-known i) in application-has (λ ts. Right k (valueOf k ts)) (sideOf a b c k) (g .legacy) (g .live) n;
       }
     where
       top : (k : ℕ) → member k codes ≡ true → (t : Bool) → isLinkCode k ≡ t

@@ -1,16 +1,17 @@
 -- A length that is right in run A is right in BGP-LS: one test over the rows of the table, computed, gives it for every type.
 -- `limit` is the most bytes that a kind's TLV has in the export of an IS-IS link. Assumes nothing.
-use mathlib.Core.Path.{_≡_, refl, sym, _∙_}
+use mathlib.Core.Path.{_≡_, refl, sym, ap, _∙_}
 use mathlib.Core.Logic.{_⊎_, inl, inr}
 use mathlib.Core.Bool.{Bool, true, false, cond, _&&_, not, false≢true}
-use mathlib.Core.List.{List, [], _∷_, List·Memᴰ, List·Memᴰ·head, List·Memᴰ·tail}
+use mathlib.Core.List.{List, _∷_, map, List·Memᴰ, List·Memᴰ·head, List·Memᴰ·tail}
 use Prim.Native.Nat.{ℕ, suc, _+_, _*_, _%_, _≤_, zero-le}
 use native.Mathlib.Omega.{arith}
 use borrow.Author.Tests.{leb-true, le-leb, eqb-true, eq-eqb, not-true, not-false}
 use lib.Dec.{leb, eqb}
 use Rattle.linkstate.specs.Lists.{any, all, lookup, member}
 use Rattle.linkstate.specs.Kinds.{Size, exactly, foursFrom, foursWithin, fits, Carrier, typeInA, valuesInBC, Kind, kind, kinds, codes, hasCode, hasType, carriedAs, codeOfType, wrongInA, wrongAtTop}
-use Rattle.demands.proofs.ListLaws.{and-l, and-r, all-mem, any-no}
+use Rattle.rivals.proofs.KindLaws.{codes-different}
+use Rattle.rivals.proofs.ListLaws.{different, mem-map, mem-member, and-l, and-r, all-mem, any-no}
 use Rattle.demands.proofs.MoreLists.{any-false, lookup-cases}
 
 -- Type, length and value: 4 bytes and at most 2,048 of SRLGs, at most 252 of an extended group, 32 of unreserved bandwidth, 8 of min/max delay, else 4.
@@ -77,35 +78,33 @@ row-right q t n h y f = go (q .carrier) h y
 
 -- ---- the table
 
--- No two rows have the same code.
-differ : List Kind → Bool
-differ [] = true
-differ (q ∷ qs) = not (any (hasCode (q .code)) qs) && differ qs
+-- No two rows have the same code: it stands nowhere else, so it shows the row.
+elsewhere : (x : Kind) (qs : List Kind) → different (x .code ∷ map (λ q. q .code) qs) ≡ true → (q : Kind) → List·Memᴰ q qs → x .code ≡ q .code → ⊥
+unfolding different
+elsewhere x qs h q i e =
+    let ms = map (λ q. q .code) qs in
+    let a : member (x .code) ms ≡ false = not-true (member (x .code) ms) (and-l (not (member (x .code) ms)) (different ms) h) in
+    let b : member (q .code) ms ≡ true = mem-member ms (mem-map (λ q. q .code) qs i) in
+    false≢true (sym a ∙ ap (λ (n : ℕ). member n ms) e ∙ b)
 
-kinds-differ : differ kinds ≡ true
-unfolding differ any hasCode kinds kind
-kinds-differ = refl
-
-has-code-sym : (q r : Kind) → hasCode (q .code) r ≡ true → hasCode (r .code) q ≡ true
-unfolding hasCode
-has-code-sym q r h = eq-eqb (r .code) (q .code) (sym (eqb-true (q .code) (r .code) h))
-
-one-row : (qs : List Kind) → differ qs ≡ true → (q r : Kind) → List·Memᴰ q qs → List·Memᴰ r qs → hasCode (q .code) r ≡ true → r ≡ q
-unfolding differ
+one-row : (qs : List Kind) → different (map (λ q. q .code) qs) ≡ true → (q r : Kind) → List·Memᴰ q qs → List·Memᴰ r qs → q .code ≡ r .code → r ≡ q
+unfolding different
 one-row (x ∷ qs) h q r (List·Memᴰ·head d) (List·Memᴰ·head e) c = e ∙ sym d
-one-row (x ∷ qs) h q r (List·Memᴰ·head d) (List·Memᴰ·tail j) c =
-    absurd (false≢true (sym (any-false (hasCode (x .code)) qs (not-true _ (and-l (not (any (hasCode (x .code)) qs)) (differ qs) h)) j) ∙ rw d at c))
-one-row (x ∷ qs) h q r (List·Memᴰ·tail i) (List·Memᴰ·head e) c =
-    absurd (false≢true (sym (any-false (hasCode (x .code)) qs (not-true _ (and-l (not (any (hasCode (x .code)) qs)) (differ qs) h)) i) ∙ rw e at (has-code-sym q r c)))
-one-row (x ∷ qs) h q r (List·Memᴰ·tail i) (List·Memᴰ·tail j) c = one-row qs (and-r (not (any (hasCode (x .code)) qs)) (differ qs) h) q r i j c
+one-row (x ∷ qs) h q r (List·Memᴰ·head d) (List·Memᴰ·tail j) c = absurd (elsewhere x qs h r j (sym (ap (λ (y : Kind). y .code) d) ∙ c))
+one-row (x ∷ qs) h q r (List·Memᴰ·tail i) (List·Memᴰ·head e) c = absurd (elsewhere x qs h q i (sym (ap (λ (y : Kind). y .code) e) ∙ sym c))
+one-row (x ∷ qs) h q r (List·Memᴰ·tail i) (List·Memᴰ·tail j) c = one-row qs (and-r (not (member (x .code) (map (λ q. q .code) qs))) (different (map (λ q. q .code) qs)) h) q r i j c
+
+kinds-different : different (map (λ q. q .code) kinds) ≡ true
+unfolding codes different
+kinds-different = and-r (not (member 1122 codes)) (different codes) codes-different
 
 -- A row's own size decides whether a length is wrong at its code.
 row-decides : (q : Kind) (n : ℕ) → List·Memᴰ q kinds → fits (q .bgplsSize) n ≡ true → wrongAtTop (q .code) n ≡ false
-unfolding wrongAtTop
+unfolding wrongAtTop hasCode
 row-decides q n i f = any-no (λ r. hasCode (q .code) r && not (fits (r .bgplsSize) n)) kinds (λ r j. go r j (hasCode (q .code) r) refl)
   where
     go : (r : Kind) → List·Memᴰ r kinds → (b : Bool) → hasCode (q .code) r ≡ b → b && not (fits (r .bgplsSize) n) ≡ false
-    go r j true e = rw (one-row kinds kinds-differ q r i j e, f)
+    go r j true e = rw (one-row kinds kinds-different q r i j (eqb-true (q .code) (r .code) e), f)
     go r j false e = refl
 
 pub zero-is-no-code : member 0 codes ≡ true → ⊥

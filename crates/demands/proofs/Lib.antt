@@ -1,5 +1,3 @@
-pub mod ListLaws
-pub mod Sums
 pub mod MoreLists
 pub mod SrlgLaws
 pub mod Lengths
@@ -9,5 +7,5 @@ pub mod Sides
 pub mod SideA
 pub mod SideB
 pub mod AcceptedLinks
-pub mod Bounds
 pub mod MetByALink
+pub mod Bounds

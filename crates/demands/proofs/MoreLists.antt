@@ -1,15 +1,15 @@
 -- Further laws of lists: what a test chooses, what is looked up, and bounds of sums. Assumes nothing.
-use mathlib.Core.Path.{_≡_, refl, sym, ap, _∙_}
+use mathlib.Core.Path.{_≡_, refl, ap, _∙_}
 use mathlib.Core.Logic.{_⊎_, inl, inr}
-use mathlib.Core.Bool.{Bool, true, false, cond, _&&_, _||_, false≢true}
+use mathlib.Core.Bool.{Bool, true, false, cond, _&&_, _||_}
 use mathlib.Core.List.{List, [], _∷_, List·Memᴰ, List·Memᴰ·head, List·Memᴰ·tail}
-use Prim.Native.Nat.{ℕ, suc, _+_, _*_, _≤_, zero-le}
+use Prim.Native.Nat.{ℕ, _+_, _*_, _≤_, zero-le}
 use native.Mathlib.Omega.{arith}
 use native.Mathlib.Nat.{mul-suc}
-use lib.ListN.{length, length-append}
-use Rattle.linkstate.specs.Lists.{keep, any, each, lookup}
-use Rattle.demands.proofs.ListLaws.{and-false, or-l, or-r}
-use Rattle.demands.proofs.Sums.{sumOf}
+use lib.ListN.{length}
+use Rattle.linkstate.specs.Lists.{keep, any, lookup}
+use Rattle.rivals.proofs.ListLaws.{and-false, or-l, or-r, absorb, keep-ext, keep-keep}
+use Rattle.rivals.proofs.Sums.{sumOf}
 
 -- A predicate that both branches have.
 pub of-cond : {A : Type 0} (P : A → Type 0) (b : Bool) (x y : A) → P x → P y → P (cond b x y)
@@ -40,24 +40,7 @@ module _ {A : Type 0} where
 
   -- A test that implies another needs only those that pass the other.
   pub keep-kept : (p q : A → Bool) (xs : List A) → ((x : A) → p x ≡ true → q x ≡ true) → keep p (keep q xs) ≡ keep p xs
-  unfolding keep
-  keep-kept p q [] h = refl
-  keep-kept p q (x ∷ xs) h = go (q x) refl (p x) refl (keep-kept p q xs h)
-    where
-      go : (b : Bool) → q x ≡ b → (c : Bool) → p x ≡ c → keep p (keep q xs) ≡ keep p xs → keep p (cond b (x ∷ keep q xs) (keep q xs)) ≡ cond c (x ∷ keep p xs) (keep p xs)
-      go true e true d r = rw d (ap (λ (l : List A). x ∷ l) r)
-      go true e false d r = rw d r
-      go false e true d r = absurd (false≢true (sym e ∙ h x d))
-      go false e false d r = r
-
-  pub length-keep : (p : A → Bool) (xs : List A) → length (keep p xs) ≤ length xs
-  unfolding keep
-  length-keep p [] = zero-le
-  length-keep p (x ∷ xs) = go (p x) (length-keep p xs)
-    where
-      go : (b : Bool) → length (keep p xs) ≤ length xs → length (cond b (x ∷ keep p xs) (keep p xs)) ≤ suc (length xs)
-      go true h = omega arith
-      go false h = omega arith
+  keep-kept p q xs h = keep-keep p q xs ∙ keep-ext (λ x. q x && p x) p xs (λ x i. absorb (q x) (p x) (h x))
 
   -- ---- sums
 
@@ -88,8 +71,3 @@ module _ {A B : Type 0} where
       go true e r = inl (x, List·Memᴰ·head refl, e, refl)
       go false e (inl q) = inl (q .0, List·Memᴰ·tail (q .1), q .2, q .3)
       go false e (inr q) = inr q
-
-  pub length-each : (f : A → List B) (xs : List A) → length (each f xs) ≡ sumOf (λ x. length (f x)) xs
-  unfolding sumOf each
-  length-each f [] = refl
-  length-each f (x ∷ xs) = omega (arith, length-append (f x) (each f xs), length-each f xs)

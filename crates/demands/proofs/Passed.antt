@@ -1,30 +1,16 @@
--- What a check that passed tells: none of its tests held, every element in turn passed its own check, and no element is longer than its run.
--- Assumes nothing.
+-- What a check that passed tells: none of its tests held. And the values of elements are together no longer than their run. Assumes nothing.
 use mathlib.Core.Path.{_≡_, refl}
-use mathlib.Core.Logic.{_⊎_, inl, inr}
 use mathlib.Core.Bool.{Bool, true, false, cond}
-use mathlib.Core.List.{List, [], _∷_, List·Memᴰ, List·Memᴰ·cases-cons, List·Memᴰ·not-nil}
+use mathlib.Core.List.{List, [], _∷_}
 use Prim.Native.Nat.{ℕ, zero, suc, pred, _+_, _-_, _≤_, zero-le}
 use native.Mathlib.Omega.{arith}
 use borrow.Author.Tests.{leb-true}
 use lib.Dec.{leb}
 use lib.ListN.{length, take, drop, length-take, length-drop}
-use Rattle.linkstate.specs.Replies.{Run, Verdict, accepted, refused, Refusal, fault, faultOfCall, refusedIf, _then_}
-use Rattle.linkstate.specs.Elements.{Element, element, cut, typeOf, lengthOf, sizeOf, elementsAfter, elements, faults}
-use Rattle.demands.proofs.Sums.{sumOf}
-
-not-refused : {A : Type 0} (x : Refusal) → refused x ≡ accepted → A
-not-refused x h = let z : _≡_ {A = ℕ} 0 1 = cc in absurd (omega arith)
-
-pub then-l : (u w : Verdict) → u then w ≡ accepted → u ≡ accepted
-unfolding _then_
-then-l accepted w h = refl
-then-l (refused r) w h = h
-
-pub then-r : (u w : Verdict) → u then w ≡ accepted → w ≡ accepted
-unfolding _then_
-then-r accepted w h = h
-then-r (refused r) w h = not-refused _ h
+use Rattle.linkstate.specs.Replies.{Run, Verdict, accepted, fault, faultOfCall, refusedIf}
+use Rattle.linkstate.specs.Elements.{Element, element, cut, typeOf, lengthOf, sizeOf, elementsAfter, elements}
+use Rattle.rivals.proofs.Sums.{sumOf}
+use Rattle.rivals.proofs.Sizes.{not-refused}
 
 -- A test that leads to a refusal did not hold.
 pub unfaulted : (b : Bool) (n : ℕ) (run : Run) (at : ℕ) (w : Verdict) → cond b (fault n run at) w ≡ accepted → (b ≡ false) × (w ≡ accepted)
@@ -36,22 +22,6 @@ pub unrefused : (b : Bool) (n : ℕ) → refusedIf b n ≡ accepted → b ≡ fa
 unfolding refusedIf faultOfCall fault
 unrefused true n h = not-refused _ h
 unrefused false n h = refl
-
--- Every element passed its check.
-pub faults-mem : (run : Run) (check : ℕ → ℕ → List ℕ → Verdict) (es : List Element) → faults run check es ≡ accepted
-    → {at t : ℕ} {v : List ℕ} → List·Memᴰ (element at t v) es → check at t v ≡ accepted
-unfolding faults fault
-faults-mem run check [] h i = absurd (List·Memᴰ·not-nil i)
-faults-mem run check (cut o ∷ es) h i = not-refused _ h
-faults-mem run check (element o s w ∷ es) h {at} {t} {v} i = go (List·Memᴰ·cases-cons i) (λ j. faults-mem run check es (then-r (check o s w) (faults run check es) h) j)
-  where
-    go : (element at t v ≡ element o s w) ⊎ List·Memᴰ (element at t v) es → (List·Memᴰ (element at t v) es → check at t v ≡ accepted) → check at t v ≡ accepted
-    go (inl e) f =
-        let x : at ≡ o = cc in
-        let y : t ≡ s = cc in
-        let z : v ≡ w = cc in
-        rw (x, y, z) (then-l (check o s w) (faults run check es) h)
-    go (inr j) f = f j
 
 -- How many bytes the value of an element has.
 unfoldable pub valueLength : Element → ℕ

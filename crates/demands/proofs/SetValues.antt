@@ -1,23 +1,24 @@
 -- The value of a kind, from the attributes that are read together: absent, or of a right length. For SRLG this needs only that few bytes were read,
 -- for any other kind that each attribute has a right length. A set of such values is within the bounds of `Values`. Assumes nothing.
 use mathlib.Core.Path.{_≡_, refl, sym}
-use mathlib.Core.Bool.{Bool, true, false, cond, false≢true}
-use mathlib.Core.List.{List, [], _∷_, _++_, List·Memᴰ, List·Memᴰ·head, List·Memᴰ·tail, List·Memᴰ·append-cases}
+use mathlib.Core.Bool.{true, false, false≢true}
+use mathlib.Core.List.{List, [], _∷_, _++_, List·Memᴰ, List·Memᴰ·head, List·Memᴰ·append-cases}
 use mathlib.Core.Logic.{_⊎_, inl, inr}
-use Prim.Native.Nat.{ℕ, _+_, _≤_}
+use Prim.Native.Nat.{ℕ, _≤_, zero-le}
 use native.Mathlib.Omega.{arith}
 use borrow.Author.Tests.{eqb-true}
 use lib.Dec.{eqb}
-use lib.ListN.{length, length-append}
+use lib.ListN.{length}
 use Rattle.linkstate.specs.Lists.{keep, each, empty, member}
-use Rattle.linkstate.specs.Bytes.{two, words, distinct, bytesOfWords}
+use Rattle.linkstate.specs.Bytes.{words, distinct, bytesOfWords}
 use Rattle.linkstate.specs.Kinds.{codes}
 use Rattle.linkstate.specs.Attributes.{Attribute, ofKind, srlgs, firstValue, valueOf}
-use Rattle.linkstate.specs.Export.{tlv, bytesOf, present}
+use Rattle.linkstate.specs.Export.{present}
 use Rattle.linkstate.specs.WellFormed.{Values}
-use Rattle.demands.proofs.ListLaws.{keep-mem, member-mem}
-use Rattle.demands.proofs.Sums.{sumOf}
-use Rattle.demands.proofs.SrlgLaws.{canonical-twice, length-fours, valueBytes, length-srlgs}
+use Rattle.rivals.proofs.ListLaws.{keep-mem, member-mem}
+use Rattle.rivals.proofs.Sums.{sumOf, sumOf-le}
+use Rattle.rivals.proofs.Sizes.{cost, costs, length-fours, length-bytes, size-present}
+use Rattle.demands.proofs.SrlgLaws.{canonical-twice, valueBytes, length-srlgs}
 use Rattle.demands.proofs.Lengths.{limit, RightLength, fours-right}
 
 -- A value is absent or has a right length.
@@ -61,15 +62,14 @@ srlgs-canonical ts = canonical-twice (each (λ t. words (t .value)) (ofKind 1096
 
 -- ---- a set
 
-pub length-present : (ks : List ℕ) (f : ℕ → List ℕ) → ((k : ℕ) → List·Memᴰ k ks → Right k (f k)) → length (each bytesOf (present ks f)) ≤ sumOf limit ks
-unfolding each present bytesOf two sumOf
-length-present [] f h = omega arith
-length-present (k ∷ ks) f h = go (empty (f k)) refl (length-present ks f (λ j i. h j (List·Memᴰ·tail i)))
-  where
-    go : (b : Bool) → empty (f k) ≡ b → length (each bytesOf (present ks f)) ≤ sumOf limit ks
-        → length (each bytesOf (cond b (present ks f) (tlv k (f k) ∷ present ks f))) ≤ limit k + sumOf limit ks
-    go true e g = omega arith
-    go false e g = let r = h k (List·Memᴰ·head refl) e in omega (arith, length-append (f k) (each bytesOf (present ks f)))
+pub value-limited : (k : ℕ) (v : List ℕ) → Right k v → cost v ≤ limit k
+unfolding cost empty
+value-limited k [] h = zero-le
+value-limited k (b ∷ bs) h = h refl .low
+
+pub set-limited : (ks : List ℕ) (f : ℕ → List ℕ) → ((k : ℕ) → List·Memᴰ k ks → Right k (f k)) → costs ks f ≤ sumOf limit ks
+unfolding costs
+set-limited ks f h = sumOf-le (λ k. cost (f k)) limit ks (λ k i. value-limited k (f k) (h k i))
 
 pub values-of : (ks : List ℕ) (f : ℕ → List ℕ) → sumOf limit ks ≤ 4000 → bytesOfWords (distinct (words (f 1096))) ≡ f 1096
     → ((k : ℕ) → List·Memᴰ k ks → Right k (f k)) → Values ks f
@@ -77,5 +77,5 @@ values-of ks f l c h =
     record {
       right = λ k m e. (h k (member-mem k ks m) e) .fit;
       canonical = c;
-      small = omega (arith, length-present ks f h);
+      small = omega (arith, length-bytes (present ks f), size-present ks f, set-limited ks f h);
     }

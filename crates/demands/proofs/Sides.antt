@@ -2,18 +2,14 @@
 -- one L-flag among these, wherever it stands, gives legacy; general advertisements name nobody and serve only those whom none names. Assumes nothing.
 use mathlib.Core.Path.{_≡_, refl, sym, ap, ap₂, _∙_}
 use mathlib.Core.Bool.{Bool, true, false, cond, _&&_, _||_, not, false≢true}
-use mathlib.Core.List.{List, [], _∷_, _++_, List·Memᴰ}
-use Prim.Native.Nat.{ℕ, _-_, _/_, _%_, _^_}
-use native.Mathlib.Omega.{arith}
-use native.Mathlib.Nat.{zero-div}
-use borrow.Author.Tests.{eqb-true}
-use lib.Dec.{eqb, ltb}
-use lib.ListN.{length, getD}
+use mathlib.Core.List.{List, _++_, List·Memᴰ}
+use Prim.Native.Nat.{ℕ}
+use lib.Dec.{eqb}
 use Rattle.linkstate.specs.Lists.{keep, any, each, empty}
-use Rattle.linkstate.specs.Masks.{bit, inMasks}
 use Rattle.linkstate.specs.Attributes.{Attribute, valueOf}
 use Rattle.linkstate.specs.Sides.{Advertisement, Side, general, names, named, namedWithL, ofLive, generalSet, applicationSet, rsvpTeKind, rsvpTeAlone, maximumBandwidth, reservableBandwidth, bandwidthKind}
-use Rattle.demands.proofs.ListLaws.{and-l, and-r, and-false, mem-any, any-no, keep-mem}
+use Rattle.rivals.proofs.ListLaws.{and-false, mem-any, any-no, keep-mem}
+use Rattle.rivals.proofs.Shortest.{not-general}
 use Rattle.demands.proofs.MoreLists.{of-cond, any-false, any-kept, keep-kept}
 
 -- ---- what every set has
@@ -47,16 +43,11 @@ named-by-L a s h = any-no (λ d. d .L && names a d) (s .live) (λ d i. rw (any-f
 
 -- A general advertisement names nobody.
 pub general-names-nobody : (a : ℕ) (d : Advertisement) → general d ≡ true → names a d ≡ false
-unfolding general names inMasks bit
-general-names-nobody a d h = go (d .standardMask) (d .userMask) h
+general-names-nobody a d h = go (names a d) refl
   where
-    no-bit : (m : List ℕ) (n : ℕ) → eqb (length m) 0 ≡ true → eqb (getD m (n / 8) 0 / 2 ^ (7 - n % 8) % 2) 1 ≡ false
-    no-bit [] n e = rw (zero-div (2 ^ (7 - n % 8)))
-    no-bit (b ∷ m) n e = absurd (omega (arith, eqb-true (length (b ∷ m)) 0 e))
-
-    go : (x y : List ℕ) → eqb (length x) 0 && eqb (length y) 0 ≡ true
-        → cond (ltb a 64) (eqb (getD x (a / 8) 0 / 2 ^ (7 - a % 8) % 2) 1) (eqb (getD y ((a - 64) / 8) 0 / 2 ^ (7 - (a - 64) % 8) % 2) 1) ≡ false
-    go x y k = of-cond (λ (b : Bool). b ≡ false) (ltb a 64) _ _ (no-bit x a (and-l (eqb (length x) 0) (eqb (length y) 0) k)) (no-bit y (a - 64) (and-r (eqb (length x) 0) (eqb (length y) 0) k))
+    go : (b : Bool) → names a d ≡ b → b ≡ false
+    go true e = absurd (false≢true (sym (not-general d a e) ∙ h))
+    go false e = refl
 
 -- ---- what an application gets
 

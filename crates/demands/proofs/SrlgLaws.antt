@@ -13,7 +13,7 @@ use lib.ListN.{length, length-append}
 use Rattle.linkstate.specs.Lists.{each}
 use Rattle.linkstate.specs.Bytes.{number, numberFrom, words, insert, distinct, four, bytesOfWords}
 use Rattle.linkstate.specs.Attributes.{Attribute, ofKind, srlgs}
-use Rattle.demands.proofs.Sums.{sumOf}
+use Rattle.rivals.proofs.Sums.{sumOf}
 use Rattle.demands.proofs.MoreLists.{sumOf-keep-le}
 
 -- ---- the different numbers of a list
@@ -92,11 +92,6 @@ pub canonical-twice : (ns : List ℕ) → bytesOfWords (distinct (words (bytesOf
 canonical-twice ns = ap bytesOfWords (ap distinct (words-bytes (distinct ns)) ∙ distinct-twice ns)
 
 -- ---- how many
-
-pub length-fours : (ns : List ℕ) → length (bytesOfWords ns) ≡ 4 * length ns
-unfolding bytesOfWords each four
-length-fours [] = refl
-length-fours (n ∷ ns) = omega (arith, length-fours ns)
 
 length-insert : (n : ℕ) (ms : List ℕ) → length (insert n ms) ≤ suc (length ms)
 unfolding insert
