@@ -9,3 +9,4 @@ pub mod SideB
 pub mod AcceptedLinks
 pub mod MetByALink
 pub mod Bounds
+pub mod LinkExports
