@@ -1,14 +1,13 @@
 -- What a check that passed tells: none of its tests held. And the values of elements are together no longer than their run. Assumes nothing.
 use mathlib.Core.Path.{_≡_, refl}
 use mathlib.Core.Bool.{Bool, true, false, cond}
-use mathlib.Core.List.{List, [], _∷_}
-use Prim.Native.Nat.{ℕ, zero, suc, pred, _+_, _-_, _≤_, zero-le}
+use mathlib.Core.List.{List}
+use Prim.Native.Nat.{ℕ, _≤_, _<_, zero-le}
 use native.Mathlib.Omega.{arith}
-use borrow.Author.Tests.{leb-true}
-use lib.Dec.{leb}
-use lib.ListN.{length, take, drop, length-take, length-drop}
+use lib.ListN.{length, length-drop}
 use Rattle.linkstate.specs.Replies.{Run, Verdict, accepted, fault, faultOfCall, refusedIf}
-use Rattle.linkstate.specs.Elements.{Element, element, cut, typeOf, lengthOf, sizeOf, elementsAfter, elements}
+use Rattle.linkstate.specs.Elements.{Element, element, cut, sizeOf, elements}
+use Rattle.linkstate.proofs.ElementLaws.{Framed, done, short, step, framed, value-length}
 use Rattle.rivals.proofs.Sums.{sumOf}
 use Rattle.rivals.proofs.Sizes.{not-refused}
 
@@ -28,21 +27,12 @@ unfoldable pub valueLength : Element → ℕ
 valueLength (element at t v) = length v
 valueLength (cut at) = 0
 
-values-after : (w at k : ℕ) (s : List ℕ) → sumOf valueLength (elementsAfter w at k s) ≤ length s - k
-unfolding sumOf elementsAfter sizeOf valueLength
-values-after w at k [] = zero-le
-values-after w at (suc k) (b ∷ bs) = omega (arith, values-after w (suc at) k bs)
-values-after w at zero (b ∷ bs) = go (leb (sizeOf w (b ∷ bs)) (length (b ∷ bs))) refl (values-after w (suc at) (pred (sizeOf w (b ∷ bs))) bs)
-  where
-    value : List ℕ
-    value = take (lengthOf w (b ∷ bs)) (drop (w + w) (b ∷ bs))
-
-    go : (t : Bool) → leb (sizeOf w (b ∷ bs)) (length (b ∷ bs)) ≡ t → sumOf valueLength (elementsAfter w (suc at) (pred (sizeOf w (b ∷ bs))) bs) ≤ length bs - pred (sizeOf w (b ∷ bs))
-        → sumOf valueLength (cond t (element at (typeOf w (b ∷ bs)) value ∷ elementsAfter w (suc at) (pred (sizeOf w (b ∷ bs))) bs) (cut at ∷ [])) ≤ length (b ∷ bs) - 0
-    go true e h = omega (arith, leb-true (sizeOf w (b ∷ bs)) (length (b ∷ bs)) e, length-take (lengthOf w (b ∷ bs)) (drop (w + w) (b ∷ bs)), length-drop (w + w) (b ∷ bs))
-    go false e h = zero-le
+values-in : {w at : ℕ} {s : List ℕ} {es : List Element} → Framed w at s es → sumOf valueLength es ≤ length s
+unfolding sumOf valueLength sizeOf
+values-in done = zero-le
+values-in (short l) = zero-le
+values-in {w} (step {s = s} l f) = omega (arith, values-in f, value-length w s l, length-drop (sizeOf w s) s)
 
 -- The values of elements are no longer, together, than the bytes that they were read from.
-pub values-within : (w at : ℕ) (s : List ℕ) → sumOf valueLength (elements w at s) ≤ length s
-unfolding elements
-values-within w at s = omega (arith, values-after w at 0 s)
+pub values-within : (w : ℕ) → 0 < w → (at : ℕ) (s : List ℕ) → sumOf valueLength (elements w at s) ≤ length s
+values-within w p at s = values-in (framed w p at s)

@@ -40,7 +40,7 @@ live-within b c =
       arith,
       sumOf-each adBytes srlgAdvertisements (elements 1 0 b),
       sumOf-le (λ e. sumOf adBytes (srlgAdvertisements e)) valueLength (elements 1 0 b) (λ e i. advertisement-within e),
-      values-within 1 0 b,
+      values-within 1 (omega arith) 0 b,
     )
 
 pub chosen-within : (b c : List ℕ) (p : Advertisement → Bool) → valueBytes (ofLive p (sideB b c)) ≤ length b
