@@ -10,3 +10,4 @@ pub mod Shortest
 pub mod Bounds
 pub mod ReadBack
 pub mod RoundTrip
+pub mod Acceptance
