@@ -11,3 +11,4 @@ pub mod Bounds
 pub mod ReadBack
 pub mod RoundTrip
 pub mod Acceptance
+pub mod SrlgLaws
