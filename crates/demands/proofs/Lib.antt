@@ -1,5 +1,5 @@
 pub mod MoreLists
-pub mod SrlgLaws
+pub mod SrlgLengths
 pub mod Lengths
 pub mod Passed
 pub mod SetValues

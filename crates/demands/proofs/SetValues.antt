@@ -18,7 +18,8 @@ use Rattle.linkstate.specs.WellFormed.{Values}
 use Rattle.rivals.proofs.ListLaws.{keep-mem, member-mem}
 use Rattle.rivals.proofs.Sums.{sumOf, sumOf-le}
 use Rattle.rivals.proofs.Sizes.{cost, costs, length-fours, length-bytes, size-present}
-use Rattle.demands.proofs.SrlgLaws.{canonical-twice, valueBytes, length-srlgs}
+use Rattle.rivals.proofs.SrlgLaws.{canonical-twice}
+use Rattle.demands.proofs.SrlgLengths.{valueBytes, length-srlgs}
 use Rattle.demands.proofs.Lengths.{limit, RightLength, fours-right}
 
 -- A value is absent or has a right length.

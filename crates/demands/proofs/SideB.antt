@@ -13,7 +13,7 @@ use Rattle.isis.specs.MaskHeader.{lFlag, headerLength, advertisement}
 use Rattle.isis.specs.RunB.{afterNeighbour, identifierBytes, srlgValues, srlgAttribute, liveSrlg, srlgAdvertisement, srlgAdvertisements, sideB}
 use Rattle.rivals.proofs.Sums.{sumOf, sumOf-le, sumOf-each}
 use Rattle.demands.proofs.MoreLists.{of-cond, sumOf-keep-le}
-use Rattle.demands.proofs.SrlgLaws.{valueBytes}
+use Rattle.demands.proofs.SrlgLengths.{valueBytes}
 use Rattle.demands.proofs.Passed.{valueLength, values-within}
 
 -- The value bytes of an advertisement's attributes.
