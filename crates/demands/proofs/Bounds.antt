@@ -1,122 +1,19 @@
--- How long an export can be, by what its sets weigh; and the numbers for an accepted IS-IS link: at most 310,644 bytes, and no value of a TLV over 2,404.
--- So the reader takes it, and every length fits 16 bits. Assumes nothing.
-use mathlib.Core.Path.{_≡_, refl, ap}
-use mathlib.Core.Logic.{_⊎_, inl, inr}
-use mathlib.Core.Bool.{Bool, true, false, cond}
-use mathlib.Core.List.{List, [], _∷_, _++_, map, List·Memᴰ, List·Memᴰ·head, List·Memᴰ·tail, List·Memᴰ·cases-cons, List·Memᴰ·append-cases, List·Memᴰ·not-nil, List·Memᴰ·eq-of-singleton}
-use Prim.Native.Nat.{ℕ, _+_, _*_, _≤_, zero-le}
+-- How long the export of an accepted IS-IS link can be: at most 310,644 bytes, and no value of a TLV in it has more than 2,404. Assumes nothing.
+use mathlib.Core.Bool.{Bool, cond}
+use mathlib.Core.List.{List, List·Memᴰ}
+use Prim.Native.Nat.{ℕ, _+_, _≤_}
 use native.Mathlib.Omega.{arith}
-use lib.Dec.{eqb, ltb}
+use lib.Dec.{eqb}
 use lib.ListN.{length}
-use Rattle.linkstate.specs.Lists.{keep, all, empty}
 use Rattle.linkstate.specs.Kinds.{codes, applicationCodes}
-use Rattle.linkstate.specs.Masks.{user, others, maskSize}
-use Rattle.linkstate.specs.Meaning.{Meaning, meaning, Accepted, row}
-use Rattle.linkstate.specs.Export.{tlv, present, topValue, aslaValue, generalValues, leader, inGroup, leaders, groupValue, aslaValues, tlvs, export}
+use Rattle.linkstate.specs.Meaning.{Meaning, meaning, Accepted}
+use Rattle.linkstate.specs.Export.{tlv, topValue, tlvs, export}
 use Rattle.isis.specs.Link.{linkSource}
-use Rattle.rivals.proofs.ListLaws.{and-l, keep-mem, map-mem, length-numbers}
-use Rattle.rivals.proofs.Sums.{sumOf}
-use Rattle.rivals.proofs.Sizes.{cost, costs}
-use Rattle.rivals.proofs.MaskLaws.{mask-small, no-bits}
-use Rattle.rivals.proofs.ExportSize.{asla-size, generalCost, groupCost, length-export}
-use Rattle.demands.proofs.MoreLists.{of-cond, sumOf-most}
+use Rattle.rivals.proofs.Bounds.{Within, export-bound, value-bound}
+use Rattle.demands.proofs.MoreLists.{of-cond}
 use Rattle.demands.proofs.Lengths.{limit}
 use Rattle.demands.proofs.SetValues.{value-limited, set-limited}
 use Rattle.demands.proofs.AcceptedLinks.{Limited, all-limits, application-limits, accepted-is-limited}
-
--- ---- any meaning
-
--- What the TLVs at the top weigh together and each, and what any set weighs.
-pub record Within (top set : ℕ) (m : Meaning) : Type 0 where
-  pub together : costs codes (topValue m) ≤ top
-  pub each : (k : ℕ) → List·Memᴰ k codes → cost (topValue m k) ≤ 24 + set
-  pub general : costs applicationCodes (m .general) ≤ set
-  pub named : (a : ℕ) → m .named a ≡ true → costs applicationCodes (m .set a) ≤ set
-
-others-length : length others ≡ 127
-unfolding others
-others-length = length-numbers 127 1
-
--- A TLV of a set weighs what its value does.
-present-small : (n : ℕ) (ks : List ℕ) (f : ℕ → List ℕ) → ((k : ℕ) → List·Memᴰ k ks → cost (f k) ≤ n) → {t : ℕ} {v : List ℕ} → List·Memᴰ (tlv t v) (present ks f)
-    → 4 + length v ≤ n
-unfolding present empty cost
-present-small n [] f h i = absurd (List·Memᴰ·not-nil i)
-present-small n (k ∷ ks) f h {t} {v} i = go (f k) (h k (List·Memᴰ·head refl)) i (λ j. present-small n ks f (λ c d. h c (List·Memᴰ·tail d)) j)
-  where
-    go : (x : List ℕ) → cost x ≤ n → List·Memᴰ (tlv t v) (cond (empty x) (present ks f) (tlv k x ∷ present ks f))
-        → (List·Memᴰ (tlv t v) (present ks f) → 4 + length v ≤ n) → 4 + length v ≤ n
-    go [] l j r = r j
-    go (b ∷ bs) l j r = first (List·Memᴰ·cases-cons j)
-      where
-        first : (tlv t v ≡ tlv k (b ∷ bs)) ⊎ List·Memᴰ (tlv t v) (present ks f) → 4 + length v ≤ n
-        first (inl e) = let w : v ≡ b ∷ bs = cc in rw w l
-        first (inr d) = r d
-
-module _ {top set : ℕ} (m : Meaning) (within : Within top set m) where
-  general-small : generalCost m ≤ 8 + set
-  unfolding generalCost
-  general-small = of-cond (λ (n : ℕ). n ≤ 8 + set) (all empty (row (m .general))) _ _ zero-le (omega (arith, within .general))
-
-  -- Eight bytes in front, two masks, and the set.
-  led-small : (a : ℕ) → inGroup m a a ≡ true → 4 + length (groupValue m a) ≤ 24 + set
-  unfolding groupValue inGroup
-  led-small a e =
-      omega (
-        arith,
-        asla-size (inGroup m a) (m .set a),
-        mask-small (inGroup m a),
-        mask-small (λ n. inGroup m a (user n)),
-        within .named a (and-l (m .named a) (eqb (leader m a) a) e),
-      )
-
-  group-small : (a : ℕ) → groupCost m a ≤ 24 + set
-  unfolding groupCost groupValue
-  group-small a = go (inGroup m a a) refl
-    where
-      go : (b : Bool) → inGroup m a a ≡ b → cond b (8 + maskSize (inGroup m a) + maskSize (λ n. inGroup m a (user n)) + costs applicationCodes (m .set a)) 0 ≤ 24 + set
-      go true e = omega (arith, asla-size (inGroup m a) (m .set a), led-small a e)
-      go false e = zero-le
-
-  pub export-bound : length (export m) ≤ top + (8 + set) + 127 * (24 + set)
-  export-bound =
-      let groups : sumOf (groupCost m) others ≤ (24 + set) * 127 = rw others-length at (sumOf-most (groupCost m) (24 + set) others (λ a i. group-small a)) in
-      omega (arith, length-export m, within .together, general-small)
-
-  asla-bound : {v : List ℕ} → List·Memᴰ v (aslaValues m) → length v ≤ 20 + set
-  unfolding aslaValues generalValues leaders
-  asla-bound {v} i = go (List·Memᴰ·append-cases (generalValues m) i)
-    where
-      first : (b : Bool) → List·Memᴰ v (cond b [] (aslaValue (λ a. false) (m .general) ∷ [])) → length v ≤ 20 + set
-      first true j = absurd (List·Memᴰ·not-nil j)
-      first false j = rw (List·Memᴰ·eq-of-singleton j) (omega (arith, asla-size (λ a. false) (m .general), no-bits, within .general))
-
-      go : List·Memᴰ v (generalValues m) ⊎ List·Memᴰ v (map (groupValue m) (leaders m)) → length v ≤ 20 + set
-      go (inl j) = first (all empty (row (m .general))) j
-      go (inr j) =
-          let q = map-mem (groupValue m) (leaders m) j in
-          omega (arith, ap length (q .2), led-small (q .0) (keep-mem (λ a. inGroup m a a) others (q .1) .0))
-
-  top-bound : (p : ℕ → Bool) {t : ℕ} {v : List ℕ} → List·Memᴰ (tlv t v) (present (keep p codes) (topValue m)) → length v ≤ 20 + set
-  top-bound p i = omega (arith, present-small (24 + set) (keep p codes) (topValue m) (λ k j. within .each k (keep-mem p codes j .1)) i)
-
-  pub value-bound : {t : ℕ} {v : List ℕ} → List·Memᴰ (tlv t v) (tlvs m) → length v ≤ 20 + set
-  unfolding tlvs
-  value-bound {t} {v} i = go (List·Memᴰ·append-cases (present (keep (λ k. ltb k 1122) codes) (topValue m) ++ map (tlv 1122) (aslaValues m)) i)
-    where
-      front : List·Memᴰ (tlv t v) (present (keep (λ k. ltb k 1122) codes) (topValue m)) ⊎ List·Memᴰ (tlv t v) (map (tlv 1122) (aslaValues m)) → length v ≤ 20 + set
-      front (inl j) = top-bound (λ k. ltb k 1122) j
-      front (inr j) =
-          let q = map-mem (tlv 1122) (aslaValues m) j in
-          let e : v ≡ q .0 = cc (q .2) in
-          omega (arith, ap length e, asla-bound (q .1))
-
-      go : List·Memᴰ (tlv t v) (present (keep (λ k. ltb k 1122) codes) (topValue m) ++ map (tlv 1122) (aslaValues m)) ⊎ List·Memᴰ (tlv t v) (present (keep (λ k. ltb 1122 k) codes) (topValue m))
-          → length v ≤ 20 + set
-      go (inl j) = front (List·Memᴰ·append-cases (present (keep (λ k. ltb k 1122) codes) (topValue m)) j)
-      go (inr j) = top-bound (λ k. ltb 1122 k) j
-
--- ---- accepted IS-IS links
 
 limit-small : (k : ℕ) → limit k ≤ 24 + 2384
 unfolding limit

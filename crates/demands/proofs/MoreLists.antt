@@ -3,10 +3,8 @@ use mathlib.Core.Path.{_≡_, refl, ap, _∙_}
 use mathlib.Core.Logic.{_⊎_, inl, inr}
 use mathlib.Core.Bool.{Bool, true, false, cond, _&&_, _||_}
 use mathlib.Core.List.{List, [], _∷_, List·Memᴰ, List·Memᴰ·head, List·Memᴰ·tail}
-use Prim.Native.Nat.{ℕ, _+_, _*_, _≤_, zero-le}
+use Prim.Native.Nat.{ℕ, _+_, _≤_, zero-le}
 use native.Mathlib.Omega.{arith}
-use native.Mathlib.Nat.{mul-suc}
-use lib.ListN.{length}
 use Rattle.linkstate.specs.Lists.{keep, any, lookup}
 use Rattle.rivals.proofs.ListLaws.{and-false, or-l, or-r, absorb, keep-ext, keep-keep}
 use Rattle.rivals.proofs.Sums.{sumOf}
@@ -43,11 +41,6 @@ module _ {A : Type 0} where
   keep-kept p q xs h = keep-keep p q xs ∙ keep-ext (λ x. q x && p x) p xs (λ x i. absorb (q x) (p x) (h x))
 
   -- ---- sums
-
-  pub sumOf-most : (w : A → ℕ) (n : ℕ) (xs : List A) → ((x : A) → List·Memᴰ x xs → w x ≤ n) → sumOf w xs ≤ n * length xs
-  unfolding sumOf
-  sumOf-most w n [] h = zero-le
-  sumOf-most w n (x ∷ xs) h = omega (arith, mul-suc n (length xs), h x (List·Memᴰ·head refl), sumOf-most w n xs (λ y k. h y (List·Memᴰ·tail k)))
 
   pub sumOf-keep-le : (p : A → Bool) (w : A → ℕ) (xs : List A) → sumOf w (keep p xs) ≤ sumOf w xs
   unfolding keep sumOf

@@ -88,12 +88,12 @@ length-insert n (m ∷ ms) = go (ltb n m) (ltb m n) (length-insert n ms)
     go false true h = omega arith
     go false false h = omega arith
 
-length-distinct : (ns : List ℕ) → length (distinct ns) ≤ length ns
+pub length-distinct : (ns : List ℕ) → length (distinct ns) ≤ length ns
 unfolding distinct
 length-distinct [] = zero-le
 length-distinct (n ∷ ns) = omega (arith, length-distinct ns, length-insert n (distinct ns))
 
-length-words : (s : List ℕ) → 4 * length (words s) ≤ length s
+pub length-words : (s : List ℕ) → 4 * length (words s) ≤ length s
 unfolding words
 length-words [] = zero-le
 length-words (a ∷ []) = zero-le

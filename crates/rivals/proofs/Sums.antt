@@ -3,11 +3,12 @@
 use mathlib.Core.Path.{_≡_, refl, sym, ap}
 use mathlib.Core.Bool.{Bool, true, false, cond, not}
 use mathlib.Core.List.{List, [], _∷_, _++_, map, List·Memᴰ, List·Memᴰ·head, List·Memᴰ·tail}
-use Prim.Native.Nat.{ℕ, _+_, _≤_, zero-le}
-use native.Mathlib.Nat.{le-refl}
+use Prim.Native.Nat.{ℕ, zero, suc, _+_, _*_, _≤_, zero-le}
+use native.Mathlib.Nat.{le-refl, mul-suc}
 use native.Mathlib.Omega.{arith}
 use borrow.Author.Tests.{eqb-true, not-true}
 use lib.Dec.{eqb}
+use lib.ListN.{length}
 use Rattle.linkstate.specs.Lists.{keep, each, member}
 use Rattle.rivals.proofs.ListLaws.{and-l, and-r, or-l, or-r, eqb-sym, different}
 
@@ -35,6 +36,11 @@ module _ {A : Type 0} where
   unfolding sumOf
   sumOf-le f g [] h = le-refl 0
   sumOf-le f g (x ∷ xs) h = omega (arith, h x (List·Memᴰ·head refl), sumOf-le f g xs (λ y k. h y (List·Memᴰ·tail k)))
+
+  pub sumOf-most : (w : A → ℕ) (n : ℕ) (xs : List A) → ((x : A) → List·Memᴰ x xs → w x ≤ n) → sumOf w xs ≤ n * length xs
+  unfolding sumOf
+  sumOf-most w n [] h = zero-le
+  sumOf-most w n (x ∷ xs) h = omega (arith, mul-suc n (length xs), h x (List·Memᴰ·head refl), sumOf-most w n xs (λ y k. h y (List·Memᴰ·tail k)))
 
   pub sumOf-append : (f : A → ℕ) (xs ys : List A) → sumOf f (xs ++ ys) ≡ sumOf f xs + sumOf f ys
   unfolding sumOf
