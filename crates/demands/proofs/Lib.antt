@@ -9,4 +9,5 @@ pub mod SideB
 pub mod AcceptedLinks
 pub mod MetByALink
 pub mod Bounds
-pub mod LinkExports
+pub mod Demands
+pub mod ExactlyOne
