@@ -1,0 +1,4 @@
+pub mod Laws
+mod Writes
+mod Merges
+mod Halves
