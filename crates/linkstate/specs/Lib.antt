@@ -7,3 +7,8 @@ pub mod Masks
 pub mod Attributes
 pub mod Sides
 pub mod Questions
+pub mod Meaning
+pub mod Export
+pub mod BgpLs
+pub mod Rival
+pub mod WellFormed

@@ -18,7 +18,8 @@ pub data Subject : Type 0 where
   userNo : ℕ → Subject
 
 -- What questions are put to, a link or a BGP-LS run: the run that places lie in, what the checks of its bytes say, and the attributes read
--- together for a kind of the link, of RSVP-TE, of the general set, and of another application, with the applications that it names.
+-- together for a kind of the link, of RSVP-TE, of the general set, and of another application, with the applications
+-- other than RSVP-TE that it names.
 pub record Source : Type 0 where
   pub run : Run
   pub bytes : List ℕ
@@ -81,7 +82,7 @@ value s whom k = unless (beforeAnswer s whom k) (λ r. []) (cond (eqb k 1096) []
 
 -- The second service: "the link's named applications other than RSVP-TE".
 unfoldable pub listNamed : Source → Named
-listNamed s = unless (s .verdict) namedRefused (listed (asNumber (λ n. not (eqb n 0) && s .names n)) (asNumber (λ n. s .names (user n))))
+listNamed s = unless (s .verdict) namedRefused (listed (asNumber (s .names)) (asNumber (λ n. s .names (user n))))
 
 -- The third service, over the bytes to write: "5 | the whole result is longer than the lent buffer"; they start at the buffer's front.
 unfoldable pub write : Verdict → List ℕ → List ℕ → Exported

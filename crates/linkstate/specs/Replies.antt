@@ -30,8 +30,11 @@ pub data Verdict : Type 0 where
   refused : Refusal → Verdict
 
 -- Refusal n at an offset of a run.
+unfoldable pub refusalAt : ℕ → Run → ℕ → Refusal
+refusalAt n r o = record { number = n; at = place r o }
+
 unfoldable pub fault : ℕ → Run → ℕ → Verdict
-fault n r o = refused (record { number = n; at = place r o })
+fault n r o = refused (refusalAt n r o)
 
 -- "(for 1, 2, 5, 6, 7: offset 0, run A)".
 unfoldable pub faultOfCall : ℕ → Verdict

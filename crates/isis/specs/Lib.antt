@@ -1,0 +1,5 @@
+pub mod MaskHeader
+pub mod RunA
+pub mod RunB
+pub mod Link
+pub mod Starred

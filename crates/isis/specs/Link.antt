@@ -1,0 +1,46 @@
+-- One IS-IS link, "three lent byte runs": what it is refused for, what questions to it find, and its export.
+use mathlib.Core.Bool.{Bool, cond, _&&_, _||_, not}
+use mathlib.Core.List.{List}
+use Prim.Native.Nat.{ℕ, _%_}
+use lib.Dec.{ltb, eqb}
+use lib.ListN.{length}
+use Rattle.linkstate.specs.Lists.{member}
+use Rattle.linkstate.specs.Masks.{others}
+use Rattle.linkstate.specs.Replies.{Verdict, refusedIf, _then_, runA, runB, Exported}
+use Rattle.linkstate.specs.Elements.{elements, faults}
+use Rattle.linkstate.specs.Sides.{Side, named, generalSet, applicationSet, rsvpTeKind, bandwidthKind}
+use Rattle.linkstate.specs.Questions.{Source, write}
+use Rattle.linkstate.specs.Meaning.{Meaning, meaning}
+use Rattle.linkstate.specs.Export.{export}
+use Rattle.isis.specs.RunA.{checkA, sideA}
+use Rattle.isis.specs.RunB.{checkB, sideB}
+
+-- "Order: .. 1, 2, then A from its start, B from its start".
+unfoldable pub linkVerdict : List ℕ → List ℕ → List ℕ → Verdict
+linkVerdict a b c =
+    refusedIf (ltb 2048 (length a) || ltb 2048 (length b) || ltb 1024 (length c)) 1
+    then refusedIf (not (eqb (length c % 4) 0)) 2
+    then faults runA checkA (elements 1 0 a)
+    then faults runB checkB (elements 1 0 b)
+
+-- "A and B are two *sides*, resolved apart": SRLGs stand on side B, every other kind on side A.
+unfoldable pub sideOf : List ℕ → List ℕ → List ℕ → ℕ → Side
+sideOf a b c k = cond (eqb k 1096) (sideB b c) (sideA a)
+
+-- "A link names the applications that a live advertisement on some side names."
+unfoldable pub linkSource : List ℕ → List ℕ → List ℕ → Source
+linkSource a b c =
+    record {
+      run = runA;
+      bytes = a;
+      verdict = linkVerdict a b c;
+      bandwidth = λ k. bandwidthKind k (sideA a);
+      rsvpTe = λ k. rsvpTeKind k (sideOf a b c k);
+      general = λ k. generalSet (sideOf a b c k);
+      names = λ n. member n others && (named n (sideA a) || named n (sideB b c));
+      application = λ n k. applicationSet n (sideOf a b c k);
+    }
+
+-- The third service: "write the link as BGP-LS TLVs".
+unfoldable pub exportLink : List ℕ → List ℕ → List ℕ → List ℕ → Exported
+exportLink a b c buffer = write (linkVerdict a b c) (export (meaning (linkSource a b c))) buffer

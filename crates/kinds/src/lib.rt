@@ -1,0 +1,162 @@
+// What a type says of an element: its kind, the lengths that its value may have, and its BGP-LS code.
+ghost use mathlib.Core.Path.{_≡_};
+ghost use Rattle.kinds.specs.Rules.{ruleOfType, ruleOfCode, fitsIn};
+
+// A kind by its row: one of the link's three bandwidths, or one of the ten kinds of an application that run A can carry, both ascending by code.
+pub enum Kind {
+    Link(usize),
+    Application(usize),
+    Srlg,
+    Asla,
+    Unknown,
+}
+
+// The lengths that a value may have.
+pub enum Size {
+    Exactly(usize),
+    FoursFrom(usize),
+    FoursWithin(usize, usize),
+    Any,
+}
+
+pub struct Rule {
+    pub kind: Kind,
+    pub size: Size,
+    pub code: u16,
+}
+
+// The rule of an IS-IS type byte.
+pub fn classify_type(b: u8) -> Rule
+    ensures { λ r. ⌜ r ≡ ruleOfType b ⌝ }
+{
+    match b {
+        3 => Rule {
+            kind: Kind::Application(0),
+            size: Size::Exactly(4),
+            code: 1088,
+        },
+        9 => Rule {
+            kind: Kind::Link(0),
+            size: Size::Exactly(4),
+            code: 1089,
+        },
+        10 => Rule {
+            kind: Kind::Link(1),
+            size: Size::Exactly(4),
+            code: 1090,
+        },
+        11 => Rule {
+            kind: Kind::Link(2),
+            size: Size::Exactly(32),
+            code: 1091,
+        },
+        14 => Rule {
+            kind: Kind::Application(9),
+            size: Size::FoursWithin(4, 252),
+            code: 1173,
+        },
+        16 => Rule {
+            kind: Kind::Asla,
+            size: Size::Any,
+            code: 1122,
+        },
+        18 => Rule {
+            kind: Kind::Application(1),
+            size: Size::Exactly(3),
+            code: 1092,
+        },
+        33..=39 => Rule {
+            kind: Kind::Application((b - 31) as usize),
+            size: Size::Exactly(if b == 34 { 8 } else { 4 }),
+            code: (b as u16) + 1081,
+        },
+        _ => Rule {
+            kind: Kind::Unknown,
+            size: Size::Any,
+            code: 0,
+        },
+    }
+}
+
+// The rule of a BGP-LS code.
+pub fn classify_code(c: usize) -> Rule
+    ensures { λ r. ⌜ r ≡ ruleOfCode c ⌝ }
+{
+    match c {
+        1088 => Rule {
+            kind: Kind::Application(0),
+            size: Size::Exactly(4),
+            code: 1088,
+        },
+        1089 => Rule {
+            kind: Kind::Link(0),
+            size: Size::Exactly(4),
+            code: 1089,
+        },
+        1090 => Rule {
+            kind: Kind::Link(1),
+            size: Size::Exactly(4),
+            code: 1090,
+        },
+        1091 => Rule {
+            kind: Kind::Link(2),
+            size: Size::Exactly(32),
+            code: 1091,
+        },
+        1092 => Rule {
+            kind: Kind::Application(1),
+            size: Size::Exactly(4),
+            code: 1092,
+        },
+        1096 => Rule {
+            kind: Kind::Srlg,
+            size: Size::FoursFrom(0),
+            code: 1096,
+        },
+        1122 => Rule {
+            kind: Kind::Asla,
+            size: Size::Any,
+            code: 1122,
+        },
+        1173 => Rule {
+            kind: Kind::Application(9),
+            size: Size::FoursFrom(4),
+            code: 1173,
+        },
+        1114..=1120 => Rule {
+            kind: Kind::Application(c - 1112),
+            size: Size::Exactly(if c == 1115 { 8 } else { 4 }),
+            code: c as u16,
+        },
+        _ => Rule {
+            kind: Kind::Unknown,
+            size: Size::Any,
+            code: 0,
+        },
+    }
+}
+
+// Whether a value of n bytes has one of these lengths.
+pub fn fits(size: Size, n: usize) -> bool
+    ensures { λ r. ⌜ r ≡ fitsIn size n ⌝ }
+{
+    match size {
+        Size::Exactly(k) => n == k,
+        Size::FoursFrom(least) => {
+            if n % 4 != 0 {
+                return false;
+            }
+            least <= n
+        }
+        Size::FoursWithin(least, most) => {
+            if n % 4 != 0 {
+                return false;
+            }
+            if n < least {
+                return false;
+            }
+            n <= most
+        }
+        Size::Any => true,
+    }
+}

@@ -1,0 +1,69 @@
+-- What each case of the answers says in document 01's terms: "When an answer is an enum, a definition gives this paper's number and values for each of its cases".
+use mathlib.Core.List.{List}
+use Prim.Native.Nat.{ℕ}
+use Rattle.linkstate.specs.Replies as R
+use Rattle.linkstate.specs.Questions as Q
+use Rattle.replies.specs.declared.Run.{Run}
+use Rattle.replies.specs.declared.Run.the-variants.{A, B, C, BgpLs}
+use Rattle.replies.specs.declared.Place.{Place}
+use Rattle.replies.specs.declared.Refusal.{Refusal}
+use Rattle.replies.specs.declared.Reading.{Reading}
+use Rattle.replies.specs.declared.Reading.the-variants.{Number, Pair, Bandwidth, Part, Count}
+use Rattle.replies.specs.declared.Answer.{Answer}
+use Rattle.replies.specs.declared.Answer.the-variants as Answered
+use Rattle.replies.specs.declared.Named.{Named}
+use Rattle.replies.specs.declared.Named.the-variants as Names
+use Rattle.replies.specs.declared.Written.{Written}
+use Rattle.replies.specs.declared.Written.the-variants as Writes
+use Rattle.replies.specs.declared.Checked.{Checked}
+use Rattle.replies.specs.declared.Checked.the-variants as Checks
+use Rattle.replies.specs.declared.Subject.{Subject}
+use Rattle.replies.specs.declared.Subject.the-variants.{General, Standard, User}
+
+abbrev pub toldRun : Run → R.Run
+toldRun A = R.runA
+toldRun B = R.runB
+toldRun C = R.runC
+toldRun BgpLs = R.runBgpLs
+
+abbrev pub toldPlace : Place → R.Place
+toldPlace p = R.place (toldRun (p .run)) (p .offset)
+
+abbrev pub toldRefusal : Refusal → R.Refusal
+toldRefusal r = record { number = r .number; at = toldPlace (r .place) }
+
+abbrev pub toldReading : Reading → R.Reading
+toldReading (Number n) = R.whole n
+toldReading (Pair m n) = R.pair m n
+toldReading (Bandwidth x) = R.bandwidth x
+toldReading (Part p n) = R.part (toldPlace p) n
+toldReading (Count n) = R.count n
+
+abbrev pub toldAnswer : Answer → R.Reply
+toldAnswer Answered.Absent = R.absent
+toldAnswer (Answered.Found x) = R.found (toldReading x)
+toldAnswer (Answered.Refused r) = R.askRefused (toldRefusal r)
+
+abbrev pub toldNamed : Named → R.Named
+toldNamed (Names.Listed s u) = R.listed s u
+toldNamed (Names.Refused r) = R.namedRefused (toldRefusal r)
+
+abbrev pub toldWritten : Written → R.Length
+toldWritten (Writes.Bytes n) = R.bytes n
+toldWritten (Writes.Refused r) = R.exportRefused (toldRefusal r)
+
+abbrev pub toldChecked : Checked → R.Verdict
+toldChecked Checks.Accepted = R.accepted
+toldChecked (Checks.Refused r) = R.refused (toldRefusal r)
+
+-- A question's answer with the lent list as it then is, and an export's with the buffer.
+abbrev pub toldAsked : Answer → List ℕ → R.Asked
+toldAsked a list = record { reply = toldAnswer a; list = list }
+
+abbrev pub toldExported : Written → List ℕ → R.Exported
+toldExported w buffer = record { reply = toldWritten w; buffer = buffer }
+
+abbrev pub subjectOf : Subject → Q.Subject
+subjectOf General = Q.generally
+subjectOf (Standard n) = Q.standardNo n
+subjectOf (User n) = Q.userNo n
