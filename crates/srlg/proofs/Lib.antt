@@ -1,4 +1,3 @@
 pub mod Laws
 mod Writes
 mod Merges
-mod Halves
