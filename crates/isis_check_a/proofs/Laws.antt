@@ -11,9 +11,9 @@ use lib.ListN.{length, take, drop, getD, length-drop}
 use lib.Seq.{take-all}
 use Rattle.linkstate.specs.Bytes.{bytesAt}
 use Rattle.linkstate.specs.Kinds.{wrongInA}
-use Rattle.linkstate.specs.Replies.{Run, runA, Verdict, accepted, refused, Refusal, fault}
+use Rattle.linkstate.specs.Replies.{Run, runA, Verdict, accepted, refused, Refusal, fault, _then_}
 use Rattle.linkstate.specs.Elements.{elements, faults}
-use Rattle.linkstate.proofs.WalkLaws.{left, typeAt, lengthAt, type-one, length-one, faults-cut, faults-pass, faults-stop}
+use Rattle.linkstate.proofs.WalkLaws.{left, typeAt, lengthAt, type-one, length-one, faults-cut, faults-turn, faults-pass, faults-stop}
 use Rattle.octets.proofs.Laws.{length-bytesAt, part-is}
 use Rattle.replies.specs.declared.Refusal.{Refusal as Told}
 use Rattle.replies.specs.declared.Checked.{Checked}
@@ -73,6 +73,11 @@ module _ (run : Run) (check : ℕ → ℕ → List ℕ → Verdict) (base : ℕ)
 
     pub turn-refused : (r : Refusal) → check o (getD s at 0) (bytesAt s (at + 2) n) ≡ refused r → refused r ≡ faults run check (left 1 base s at)
     turn-refused r a = faults-stop run check 1 (omega arith) base s at n r (length-one s at ∙ whole-within s at n e .0) (whole-within s at n e .1) (here (refused r) a)
+
+    pub turn-then : faults run check (left 1 base s at) ≡ check o (getD s at 0) (bytesAt s (at + 2) n) then faults run check (left 1 base s (at + 2 + n))
+    turn-then =
+        faults-turn run check 1 (omega arith) base s at n (length-one s at ∙ whole-within s at n e .0) (whole-within s at n e .1)
+        ∙ ap (λ (v : Verdict). v then faults run check (left 1 base s (at + 2 + n))) (here (check o (getD s at 0) (bytesAt s (at + 2) n)) refl)
 
     -- with the answer of a function that checks the element by its value, a part of the list
     module _ (c : Checked) (told : toldChecked c ≡ check o (getD s at 0) (take (at + 2 + n - (at + 2)) (drop (at + 2) s))) where
