@@ -4,19 +4,25 @@ use mathlib.Core.Bool.{Bool, true, false, cond, _&&_, not}
 use mathlib.Core.List.{List, [], _∷_}
 use Prim.Native.Nat.{ℕ, _+_, _-_, _≤_, _<_}
 use native.Mathlib.Omega.{arith}
-use borrow.Author.Tests.{lt-ltb, le-ltb, ltb-true, ltb-false, eq-eqb, ne-eqb, not-true, not-false}
-use lib.Dec.{ltb, eqb}
+use mathlib.Core.Logic.{⊎-elim}
+use types.Run.{OneOf}
+use denote.Enum.Declared.{tagOf}
+use borrow.Author.Tests.{lt-ltb, le-ltb, ltb-true, ltb-false, eq-eqb, ne-eqb}
+use lib.Dec.{ltb}
 use lib.ListN.{length, take, drop, length-drop}
 use lib.Seq.{take-length}
 use Rattle.linkstate.specs.Bytes.{number, bytesAt}
-use Rattle.linkstate.specs.Replies.{Verdict, accepted, refused, Refusal, refusalAt, fault, faultOfCall, refusedIf, _then_, runA, runBgpLs}
-use Rattle.linkstate.specs.Elements.{Element, elements, faults, typeOf, lengthOf}
+use Rattle.linkstate.specs.Replies.{Verdict, accepted, refused, Refusal, fault, faultOfCall, refusedIf, _then_, runBgpLs}
+use Rattle.linkstate.specs.Elements.{elements, faults, typeOf}
 use Rattle.linkstate.specs.Kinds.{wrongInside, wrongAtTop}
 use Rattle.linkstate.specs.BgpLs.{sabmLength, udabmLength, aslaHeader, isMaskLength, notIgnored, innerElements, checkInner, checkAsla, checkTop, runVerdict}
 use Rattle.linkstate.proofs.WalkLaws.{left, typeAt, lengthAt, length-two, faults-cut, faults-pass, faults-stop}
 use Rattle.octets.proofs.Laws.{length-bytesAt, part-is}
 use Rattle.kinds.specs.declared.Kind.{Kind}
+use Rattle.kinds.specs.declared.Kind.the-variants.{Link, Application, Srlg, Asla, Unknown}
+use Rattle.kinds.specs.declared.Size.{Size}
 use Rattle.kinds.specs.declared.Rule.{Rule}
+use Rattle.kinds.proofs.Kind.{the-type}
 use Rattle.kinds.specs.Rules.{ruleOfCode, fitsIn, wrongInsideBy}
 use Rattle.kinds.proofs.Laws.{wrong-inside, wrong-at-top}
 use Rattle.bgpls_check.specs.declared.Frame.{Frame}
@@ -105,6 +111,15 @@ module _ (check : ℕ → ℕ → List ℕ → Verdict) (base : ℕ) (s : List �
 pub inside-by : (r : Rule) (c n : ℕ) (k : Kind) → r ≡ ruleOfCode c → r .kind ≡ k → wrongInside c n ≡ wrongInsideBy k (r .size) n
 inside-by r c n k e f =
     wrong-inside c n ∙ ap (λ (q : Rule). wrongInsideBy (q .kind) (q .size) n) (sym e) ∙ ap (λ (q : Kind). wrongInsideBy q (r .size) n) f
+
+-- Of the five kinds only the first, one of the link's, is unknown there.
+pub inside-other : (k : Kind) (z : Size) (n : ℕ) → OneOf (1 ∷ 2 ∷ 3 ∷ 4 ∷ []) (tagOf the-type k) → not (fitsIn z n) ≡ wrongInsideBy k z n
+unfolding wrongInsideBy
+inside-other (Link i) z n h = absurd (⊎-elim (λ e. omega arith) (λ g. ⊎-elim (λ e. omega arith) (λ f. ⊎-elim (λ e. omega arith) (λ e. omega arith) f) g) h)
+inside-other (Application i) z n h = refl
+inside-other Srlg z n h = refl
+inside-other Asla z n h = refl
+inside-other Unknown z n h = refl
 
 module _ (o t : ℕ) (v : List ℕ) where
   pub inner-right : wrongInside t (length v) ≡ false → checkInner o t v ≡ accepted

@@ -9,9 +9,14 @@ ghost use Rattle.linkstate.specs.Kinds.{wrongInside};
 ghost use Rattle.linkstate.specs.BgpLs.{sabmLength, udabmLength, isMaskLength, checkInner, checkAsla, checkTop, runVerdict};
 ghost use Rattle.replies.specs.Told.{toldChecked};
 ghost use Rattle.bgpls_check.specs.Framing.{frameAt};
-use kinds::{Kind, classify_code, fits};
+use kinds::Kind;
+use kinds::classify_code;
+use kinds::fits;
 use octets::read16;
-use replies::{Checked, Run, refuse_at, refuse_call};
+use replies::Checked;
+use replies::Run;
+use replies::refuse_at;
+use replies::refuse_call;
 
 // The element at a position of its list: cut off, or whole, with its type and the length of its value.
 pub enum Frame {
@@ -52,10 +57,7 @@ fn wrong_inside(code: usize, n: usize) -> bool
     let wrong = !fits(size, n);
     match kind {
         Kind::Link(_) => false,
-        Kind::Application(_) => wrong,
-        Kind::Srlg => wrong,
-        Kind::Asla => wrong,
-        Kind::Unknown => wrong,
+        _ => wrong,
     }
 }
 
@@ -115,10 +117,10 @@ pub fn check_asla(v: &[u8], at: usize) -> Checked
         return refuse(3, at);
     }
     let h = read_asla_header(v);
+    let first = 4 + h.standard + h.user;
     if !not_ignored(h) {
         return Checked::Accepted;
     }
-    let first = 4 + h.standard + h.user;
     if v.len() < first {
         return refuse(3, at);
     }

@@ -1,4 +1,7 @@
 -- `bgpls_check::check_inner` meets its contract: what is left at a position is refused as the whole list is.
+use Rattle.linkstate.specs.Kinds.{wrongInside}
+use mathlib.Core.List.{List}
+use mathlib.Core.Bool.{Bool}
 use Rattle.octets.proofs.Laws.{length-bytesAt}
 use Rattle.bgpls_check.proofs.Laws.{IsWhole, is-whole, from-start, cut-refused, element-passed, element-refused, inner-right, inner-wrong}
 use Rattle.linkstate.proofs.WalkLaws.{left, faults-end}
@@ -25,12 +28,31 @@ Inv-loop s base at₀ at = (at ≤ length s) × (faults runBgpLs checkInner (lef
 abbrev μ-loop : tie.MeasureT-loop
 μ-loop s base at₀ at = length s - at
 
--- A whole element stands at the position, by its frame.
 abbrev Known : Type 0
 Known = lts.After-known-told (read-frame-reads.Asked, read-frame-reads.Learnt, refuse-reads.Asked, refuse-reads.Learnt, wrong-inside-reads.Asked, wrong-inside-reads.Learnt) reads.Pre reads.Post Inv-loop μ-loop
 
-whole : (k : Known) → IsWhole (k .before .before .before .before .before .before .before .args .s .now) (k .before .before .before .before .before .loop .at) (k .before .code .given .0 .0) (k .before .code .given .0 .1 .0)
+-- The list and where it begins, the position, and the type and the length that its frame says.
+abbrev list : Known → List ℕ
+list k = k .before .before .before .before .before .before .before .args .s .now
+
+abbrev first : Known → ℕ
+first k = k .before .before .before .before .before .before .before .args .base
+
+abbrev place : Known → ℕ
+place k = k .before .before .before .before .before .loop .at
+
+abbrev type : Known → ℕ
+type k = k .before .code .given .0 .0
+
+abbrev size : Known → ℕ
+size k = k .before .code .given .0 .1 .0
+
+whole : (k : Known) → IsWhole (list k) (place k) (type k) (size k)
 whole k = is-whole _ _ _ _ (sym (k .before .before .before .read-frame .ensures) ∙ k .before .code .given .1)
+
+-- Whether the element's length is wrong.
+judged : (k : Known) (b : Bool) → b ≡ wrongInside (type k) (size k) → wrongInside (type k) (length (bytesAt (list k) (place k + 4) (size k))) ≡ b
+judged k b e = ap (wrongInside (type k)) (length-bytesAt (list k) (place k + 4) (size k) (whole k .within)) ∙ sym e
 
 loop-holds : tie.Need-loop-holds Inv-loop μ-loop
 loop-holds c = let a = c .before .args in (omega arith, ap (faults runBgpLs checkInner) (from-start (a .base) (a .s .now)))
@@ -51,7 +73,7 @@ refuse-requires : tie.Need-refuse-requires Inv-loop μ-loop
 refuse-requires c κs = search needs
 
 returns : tie.Need-returns Inv-loop μ-loop
-returns c = 
+returns c =
     let m = c .before .before .before in
     let l = m .before .before .loop in
     let a = m .before .before .before .before .args in
@@ -67,18 +89,13 @@ refuse-requires-2 c κs = search needs
 
 returns-2 : tie.Need-returns-2 Inv-loop μ-loop
 unfolding fault
-returns-2 c = 
+returns-2 c =
     let k = c .before .before .before in
-    let l = k .before .before .before .before .before .loop in
-    let a = k .before .before .before .before .before .before .before .args in
-    let o = a .base + l .at in
-    let t = k .before .code .given .0 .0 in
-    let n = k .before .code .given .0 .1 .0 in
-    let f = whole k in
+    let o = first k + place k in
     c .refuse2 .ensures
-    ∙ element-refused checkInner (a .base) (a .s .now) (l .at) o refl t n f (refusalAt 4 runBgpLs o)
-    (inner-wrong o t (bytesAt (a .s .now) (l .at + 4) n) (rw (length-bytesAt (a .s .now) (l .at + 4) n (f .within)) (sym (c .before .before .wrong-inside .ensures) ∙ c .before .if1 .taken)))
-    ∙ l .inv .1
+    ∙ element-refused checkInner (first k) (list k) (place k) o refl (type k) (size k) (whole k) (refusalAt 4 runBgpLs o)
+    (inner-wrong o (type k) _ (judged k _ (c .before .before .wrong-inside .ensures) ∙ c .before .if1 .taken))
+    ∙ k .before .before .before .before .before .loop .inv .1
 
 add-at : tie.Need-add-at Inv-loop μ-loop
 add-at c = let f = whole (c .before .before) in omega arith
@@ -90,22 +107,16 @@ loop-less : tie.Need-loop-less Inv-loop μ-loop
 loop-less c = let f = whole (c .before .before) in omega arith
 
 loop-again : tie.Need-loop-again Inv-loop μ-loop
-loop-again c = 
-    let k = c .before .before in
-    let l = k .before .before .before .before .before .loop in
-    let a = k .before .before .before .before .before .before .before .args in
-    let o = a .base + l .at in
-    let t = k .before .code .given .0 .0 in
-    let n = k .before .code .given .0 .1 .0 in
-    let f = whole k in (
-      f .within,
-      element-passed checkInner (a .base) (a .s .now) (l .at) o refl t n f
-      (inner-right o t (bytesAt (a .s .now) (l .at + 4) n) (rw (length-bytesAt (a .s .now) (l .at + 4) n (f .within)) (sym (c .before .wrong-inside .ensures) ∙ c .if1 .left)))
-      ∙ l .inv .1,
+loop-again c =
+    let k = c .before .before in (
+      whole k .within,
+      element-passed checkInner (first k) (list k) (place k) _ refl (type k) (size k) (whole k)
+          (inner-right (first k + place k) (type k) _ (judged k _ (c .before .wrong-inside .ensures) ∙ c .if1 .left))
+          ∙ k .before .before .before .before .before .loop .inv .1,
     )
 
 returns-3 : tie.Need-returns-3 Inv-loop μ-loop
-returns-3 c = 
+returns-3 c =
     let l = c .before .loop in
     let a = c .before .before .before .args in
     sym (faults-end runBgpLs checkInner 2 (omega arith) (a .base) (a .s .now) (l .at) (omega arith)) ∙ l .inv .1

@@ -1,16 +1,17 @@
 -- `bgpls_check::check_run` meets its contract: what is left at a position is refused as the whole run is.
+use mathlib.Core.List.{List}
 use Rattle.bgpls_check.proofs.Laws.{IsWhole, is-whole, from-start, cut-refused, element-passed, element-refused, run-long, run-walked, part-length}
 use Rattle.replies.specs.Told.{toldChecked, toldRefusal}
 use Rattle.octets.proofs.Laws.{part-is}
 use Rattle.linkstate.proofs.WalkLaws.{left, faults-end}
 use Rattle.linkstate.specs.BgpLs.{checkTop, runVerdict}
 use Rattle.linkstate.specs.Elements.{faults}
-use Rattle.linkstate.specs.Replies.{runBgpLs, refused, fault, faultOfCall}
+use Rattle.linkstate.specs.Replies.{Verdict, runBgpLs, refused, fault, faultOfCall}
 use Rattle.linkstate.specs.Bytes.{bytesAt}
-use lib.ListN.{length}
+use lib.ListN.{length, take, drop}
 use borrow.Author.Needs.{needs}
 use native.Mathlib.Omega.{arith}
-use mathlib.Core.Path.{_≡_, refl, sym, ap, _∙_}
+use mathlib.Core.Path.{_≡_, sym, ap, _∙_}
 use Prim.Native.Nat.{ℕ, _+_, _-_, _≤_}
 use Rattle.bgpls_check.proofs.check_run.Statement.{statement}
 use Rattle.bgpls_check.proofs.check_run.Tie as tie
@@ -27,12 +28,29 @@ Inv-loop r at₀ at = (at ≤ length r) × (length r ≤ 524288) × (faults runB
 abbrev μ-loop : tie.MeasureT-loop
 μ-loop r at₀ at = length r - at
 
--- A whole element stands at the position, by its frame.
 abbrev Known : Type 0
 Known = lts.After-known-told (refuse-call-reads.Asked, refuse-call-reads.Learnt, read-frame-reads.Asked, read-frame-reads.Learnt, refuse-reads.Asked, refuse-reads.Learnt, check-top-reads.Asked, check-top-reads.Learnt) reads.Pre reads.Post Inv-loop μ-loop
 
-whole : (k : Known) → IsWhole (k .before .before .before .before .before .before .before .before .args .r .now) (k .before .before .before .before .before .loop .at) (k .before .code .given .0 .0) (k .before .code .given .0 .1 .0)
+-- The run, the position, and the type and the length that its frame says.
+abbrev run : Known → List ℕ
+run k = k .before .before .before .before .before .before .before .before .args .r .now
+
+abbrev place : Known → ℕ
+place k = k .before .before .before .before .before .loop .at
+
+abbrev type : Known → ℕ
+type k = k .before .code .given .0 .0
+
+abbrev size : Known → ℕ
+size k = k .before .code .given .0 .1 .0
+
+whole : (k : Known) → IsWhole (run k) (place k) (type k) (size k)
 whole k = is-whole _ _ _ _ (sym (k .before .before .before .read-frame .ensures) ∙ k .before .code .given .1)
+
+-- What the element's own check answered.
+judged : (k : Known) (w : Verdict) → w ≡ checkTop (place k) (type k) (take (place k + 4 + size k - (place k + 4)) (drop (place k + 4) (run k)))
+    → checkTop (place k) (type k) (bytesAt (run k) (place k + 4) (size k)) ≡ w
+judged k w e = ap (checkTop (place k) (type k)) (sym (part-is (run k) (place k + 4) (size k))) ∙ sym e
 
 refuse-call-requires : tie.Need-refuse-call-requires Inv-loop μ-loop
 refuse-call-requires c κs = search needs
@@ -42,7 +60,7 @@ unfolding faultOfCall fault
 returns c = ap refused (c .refuse-call .ensures) ∙ run-long (c .before .before .before .args .r .now) (omega arith)
 
 loop-holds : tie.Need-loop-holds Inv-loop μ-loop
-loop-holds c = 
+loop-holds c =
     let r = c .before .before .args .r .now in
     (omega arith, omega arith, ap (faults runBgpLs checkTop) (from-start 0 r) ∙ run-walked r (omega arith))
 
@@ -59,7 +77,7 @@ refuse-requires : tie.Need-refuse-requires Inv-loop μ-loop
 refuse-requires c κs = search needs
 
 returns-2 : tie.Need-returns-2 Inv-loop μ-loop
-returns-2 c = 
+returns-2 c =
     let m = c .before .before .before in
     let l = m .before .before .loop in
     let a = m .before .before .before .before .before .args in
@@ -83,10 +101,7 @@ part-check-top-end : tie.Need-part-check-top-end Inv-loop μ-loop
 part-check-top-end c = let f = whole c in omega arith
 
 check-top-requires : tie.Need-check-top-requires Inv-loop μ-loop
-check-top-requires c κs = 
-    let k = c .before in
-    let f = whole k in
-    omega (arith, part-length (k .before .before .before .before .before .before .before .before .args .r .now) (k .before .before .before .before .before .loop .at + 4) (k .before .code .given .0 .1 .0) (f .within))
+check-top-requires c κs = let k = c .before in let f = whole k in omega (arith, part-length (run k) (place k + 4) (size k) (f .within))
 
 enum-told-2 : tie.Need-enum-told-2 Inv-loop μ-loop
 enum-told-2 c = search needs
@@ -95,36 +110,28 @@ loop-less : tie.Need-loop-less Inv-loop μ-loop
 loop-less c = let f = whole (c .before .before .before .before) in omega arith
 
 loop-again : tie.Need-loop-again Inv-loop μ-loop
-loop-again c = 
+loop-again c =
     let k = c .before .before .before .before in
-    let l = k .before .before .before .before .before .loop in
-    let r = k .before .before .before .before .before .before .before .before .args .r .now in
-    let t = k .before .code .given .0 .0 in
-    let n = k .before .code .given .0 .1 .0 in
-    let f = whole k in (
-      f .within,
+    let l = k .before .before .before .before .before .loop in (
+      whole k .within,
       l .inv .1,
-      element-passed checkTop 0 r (l .at) (l .at) (omega arith) t n f
-      (ap (checkTop (l .at) t) (sym (part-is r (l .at + 4) n)) ∙ sym (c .before .before .check-top .ensures) ∙ ap toldChecked (c .enum-told2 .given .1))
-      ∙ l .inv .2,
+      element-passed checkTop 0 (run k) (place k) (place k) (omega arith) (type k) (size k) (whole k)
+          (judged k _ (c .before .before .check-top .ensures) ∙ ap toldChecked (c .enum-told2 .given .1))
+          ∙ l .inv .2,
     )
 
 enum-known-x : tie.Need-enum-known-x Inv-loop μ-loop
 enum-known-x c = search needs
 
 returns-3 : tie.Need-returns-3 Inv-loop μ-loop
-returns-3 c = 
+returns-3 c =
     let k = c .before .before .before .before .before in
-    let l = k .before .before .before .before .before .loop in
-    let r = k .before .before .before .before .before .before .before .before .args .r .now in
-    let t = k .before .code .given .0 .0 in
-    let n = k .before .code .given .0 .1 .0 in
-    element-refused checkTop 0 r (l .at) (l .at) (omega arith) t n (whole k) (toldRefusal (c .before .x .given .0 .0))
-    (ap (checkTop (l .at) t) (sym (part-is r (l .at + 4) n)) ∙ sym (c .before .before .before .check-top .ensures) ∙ ap toldChecked (c .before .x .given .1))
-    ∙ l .inv .2
+    element-refused checkTop 0 (run k) (place k) (place k) (omega arith) (type k) (size k) (whole k) (toldRefusal (c .before .x .given .0 .0))
+    (judged k _ (c .before .before .before .check-top .ensures) ∙ ap toldChecked (c .before .x .given .1))
+    ∙ k .before .before .before .before .before .loop .inv .2
 
 returns-4 : tie.Need-returns-4 Inv-loop μ-loop
-returns-4 c = 
+returns-4 c =
     let l = c .before .loop in
     sym (faults-end runBgpLs checkTop 2 (omega arith) 0 (c .before .before .before .before .args .r .now) (l .at) (omega arith)) ∙ l .inv .2
 

@@ -20,7 +20,7 @@ fits-requires : tie.Need-fits-requires
 fits-requires c κs = search needs
 
 returns-2 : tie.Need-returns-2
-returns-2 c = 
+returns-2 c =
     let a = c .before .before .before .before .before .args in
     top-right (a .at) (a .code) (a .v .now) (c .before .before .before .if1 .left)
     (top-by _ (a .code) (length (a .v .now)) (c .before .before .classify-code .ensures) ∙ ap not (sym (c .before .fits2 .ensures) ∙ c .if2 .taken))
@@ -29,7 +29,7 @@ refuse-requires : tie.Need-refuse-requires
 refuse-requires c κs = search needs
 
 returns-3 : tie.Need-returns-3
-returns-3 c = 
+returns-3 c =
     let p = c .before .before in
     let a = p .before .before .before .before .args in
     c .refuse .ensures

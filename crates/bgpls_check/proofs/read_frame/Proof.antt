@@ -21,12 +21,12 @@ read16-requires-2 : tie.Need-read16-requires-2
 read16-requires-2 c κs = search needs
 
 returns-2 : tie.Need-returns-2
-returns-2 c = 
+returns-2 c =
     let a = c .before .before .before .before .before .args in
     frame-past (a .s .now) (a .at) (c .before .read162 .result) (c .before .read162 .ensures .0) (omega arith)
 
 returns-3 : tie.Need-returns-3
-returns-3 c = 
+returns-3 c =
     let a = c .before .before .before .before .before .args in
     frame-whole (a .s .now) (a .at) (c .before .read162 .result) (c .before .read162 .ensures .0) (c .before .before .read16 .result) (c .before .before .read16 .ensures .0) (omega arith)
 
