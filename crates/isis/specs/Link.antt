@@ -1,4 +1,4 @@
--- One IS-IS link, "three lent byte runs": what it is refused for, what questions to it find, and its export.
+-- One IS-IS link, the runs A, B and C (rules I1 to I5): what it is refused for, what questions to it find, and its export.
 use mathlib.Core.Bool.{Bool, cond, _&&_, _||_, not}
 use mathlib.Core.List.{List}
 use Prim.Native.Nat.{ℕ, _%_}
@@ -15,7 +15,7 @@ use Rattle.linkstate.specs.Export.{export}
 use Rattle.isis.specs.RunA.{checkA, sideA}
 use Rattle.isis.specs.RunB.{checkB, sideB}
 
--- "Order: .. 1, 2, then A from its start, B from its start".
+-- R1, R2, R9. The checks of a link: the runs' sizes, C's length, then A and B from their starts.
 unfoldable pub linkVerdict : List ℕ → List ℕ → List ℕ → Verdict
 linkVerdict a b c =
     refusedIf (ltb 2048 (length a) || ltb 2048 (length b) || ltb 1024 (length c)) 1
@@ -23,11 +23,11 @@ linkVerdict a b c =
     then faults runA checkA (elements 1 0 a)
     then faults runB checkB (elements 1 0 b)
 
--- "A and B are two *sides*, resolved apart": SRLGs stand on side B, every other kind on side A.
+-- W1. The side that a kind stands on: B for SRLG, A for every other.
 unfoldable pub sideOf : List ℕ → List ℕ → List ℕ → ℕ → Side
 sideOf a b c k = cond (eqb k 1096) (sideB b c) (sideA a)
 
--- "A link names the applications that a live advertisement on some side names."
+-- L19, W1. What questions to a link find; it names the applications that either side names.
 unfoldable pub linkSource : List ℕ → List ℕ → List ℕ → Source
 linkSource a b c =
     record {
@@ -41,6 +41,6 @@ linkSource a b c =
       application = λ n k. applicationSet n (sideOf a b c k);
     }
 
--- The third service: "write the link as BGP-LS TLVs".
+-- I5. The third service: the link as BGP-LS TLVs.
 unfoldable pub exportLink : List ℕ → List ℕ → List ℕ → List ℕ → Exported
 exportLink a b c buffer = write (linkVerdict a b c) (export (meaning (linkSource a b c))) buffer

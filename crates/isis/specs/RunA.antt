@@ -1,4 +1,4 @@
--- Document 01, "Advertisements in A": legacy attributes and ASLA sub-TLVs of a neighbour entry (RFC 8919 sections 3 and 4.2).
+-- Document 01, "Advertisements in A" (rules A1 to A9): legacy attributes and ASLA sub-TLVs of a neighbour entry (RFC 8919 sections 3 and 4.2).
 use mathlib.Core.Bool.{Bool, cond, _&&_, _||_, not}
 use mathlib.Core.List.{List, [], _∷_}
 use Prim.Native.Nat.{ℕ, _+_}
@@ -12,16 +12,15 @@ use Rattle.linkstate.specs.Attributes.{Attribute, attribute}
 use Rattle.linkstate.specs.Sides.{Advertisement, Side}
 use Rattle.isis.specs.MaskHeader.{lFlag, headerLength, maskTooLong, lForNobody, advertisement}
 
--- "the attribute list begins right after the masks and fills the rest"; the ASLA's first byte is at an offset.
+-- A2. The attribute list of an ASLA whose first byte is at an offset: all that follows the masks.
 unfoldable pub listElements : ℕ → List ℕ → List Element
 listElements at v = elements 1 (at + 2 + headerLength v) (drop (headerLength v) v)
 
--- A known kind's length, 4. "Type 16 in a list is unknown."
+-- A4, A5. The check of an attribute: a known kind's length. An ASLA inside a list is unknown.
 unfoldable pub checkAttribute : ℕ → ℕ → List ℕ → Verdict
 checkAttribute at t v = cond (wrongInA t (length v)) (fault 4 runA at) accepted
 
--- "Checks in order: value under 2 bytes, 3; either length above 8, the sub-TLV is ignored unread; masks past its end, 3;
--- L set with both lengths 0, ignored (ours); L set, the list is not read (document 003). Otherwise each list element in turn is framed and, if known, its length checked."
+-- A3, A4. The checks of an ASLA, in order.
 unfoldable pub checkAsla : ℕ → List ℕ → Verdict
 checkAsla at v =
     cond (ltb (length v) 2) (fault 3 runA at)
@@ -29,16 +28,16 @@ checkAsla at v =
     (cond (ltb (length v) (headerLength v)) (fault 3 runA at)
     (cond (lForNobody v) accepted (cond (lFlag v) accepted (faults runA checkAttribute (listElements at v))))))
 
--- "Type 16 is ASLA".
+-- A2. Type 16 is ASLA, any other a legacy attribute.
 unfoldable pub checkA : ℕ → ℕ → List ℕ → Verdict
 checkA at t v = cond (eqb t 16) (checkAsla at v) (checkAttribute at t v)
 
--- An element as an attribute, with code 0 where its type is unknown: "TE metric (4 bytes in BGP-LS, zero in front)".
+-- K1, K3. An element as an attribute, with code 0 where its type is unknown. A TE metric gets a zero byte in front, as BGP-LS has it.
 unfoldable pub attributesOf : Element → List Attribute
 attributesOf (element at t v) = attribute 1 at v (codeOfType t) (cond (eqb t 18) (0 ∷ v) v) ∷ []
 attributesOf (cut at) = []
 
--- "What isn't ignored is *live*."
+-- A6. An ASLA is *live* unless it is ignored.
 unfoldable pub liveAsla : List ℕ → Bool
 liveAsla v = not (maskTooLong v || lForNobody v)
 
@@ -46,6 +45,6 @@ unfoldable pub aslaAdvertisements : Element → List Advertisement
 aslaAdvertisements (element at t v) = cond (eqb t 16 && liveAsla v) (advertisement v (each attributesOf (listElements at v)) ∷ []) []
 aslaAdvertisements (cut at) = []
 
--- Side A: "A's own elements" are its legacy values.
+-- W1, W2. Side A: its own elements are its legacy values.
 unfoldable pub sideA : List ℕ → Side
 sideA a = record { legacy = each attributesOf (elements 1 0 a); live = each aslaAdvertisements (elements 1 0 a) }

@@ -1,4 +1,4 @@
--- Document 01, "Links on the bench": the starred cases, with B and C empty, as one table and one statement.
+-- The starred cases of document 01's worked links, with B and C empty, as one table and one statement.
 use mathlib.Core.Path.{_≡_}
 use mathlib.Core.Bool.{cond}
 use mathlib.Core.List.{List, [], _∷_, _++_, map}
@@ -70,7 +70,7 @@ table =
     ∷ refusedCase (0x12 ∷ 0x03 ∷ 0x00 ∷ 0x00 ∷ []) 3
     ∷ []
 
--- "Empty A: all absent": every kind, of the subjects and of the general set.
+-- Of the empty run: every kind, of the subjects and of the general set.
 unfoldable pub emptyReplies : List Reply
 emptyReplies = each (λ whom. map (λ k. (ask (linkSource [] [] []) whom k []) .reply) codes) (generally ∷ subjects)
 

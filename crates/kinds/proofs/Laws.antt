@@ -5,7 +5,7 @@ use mathlib.Core.List.{List, [], _∷_}
 use Prim.Native.Nat.{ℕ, zero, suc, _+_, _-_, _%_, _≤_, _<_}
 use native.Mathlib.Omega.{arith}
 use borrow.Author.Tests.{eqb-true, ne-eqb, eq-eqb, le-leb, lt-leb}
-use lib.Dec.{eqb, leb}
+use lib.Dec.{eqb, leb, lit<}
 use Rattle.linkstate.specs.Lists.{any, keep, lookup}
 use Rattle.linkstate.specs.Kinds as T
 use Rattle.linkstate.specs.Kinds.{kinds, hasType, hasCode, isApplications, codeOfType, wrongInA, wrongAtTop, wrongInside}
@@ -13,7 +13,7 @@ use Rattle.kinds.specs.declared.Kind.the-variants.{Application, Asla, Un
 use Rattle.kinds.specs.declared.Size.the-variants.{Exactly, FoursFrom, FoursWithin, Any}
 use Rattle.kinds.specs.declared.Size.{Size}
 use Rattle.kinds.specs.declared.Rule.{Rule}
-use Rattle.kinds.specs.Rules.{rule, ruleWith, sizeOf, kindOf, ruleOfType, ruleOfCode, fitsIn, wrongInsideBy}
+use Rattle.kinds.specs.Rules.{rule, ruleWith, sizeOf, kindOf, ruleOfType, ruleOfCode, fitsIn, wrongInsideBy, isKnown, isLink, KindOfCode}
 use Rattle.kinds.proofs.Computing.{computing}
 
 -- a fact at seven numbers in a row holds in their range
@@ -216,3 +216,94 @@ wrong-inside c n =
     any-keep isApplications (hasCode c) (λ q. not (T.fits (q .bgplsSize) n)) kinds
     ∙ by-rule hasCode (λ q. q .bgplsSize) 1122 c (λ r. wrongInsideBy (r .kind) (r .size) n) (λ q. isApplications q && not (T.fits (q .bgplsSize) n)) (codes-once c)
     (λ q. owner-wrong (q .owner) (q .carrier) (q .code) (q .bgplsSize) n) refl refl refl
+
+-- ---- codes by their rule
+
+any-true : {A : Type 0} (p : A → Bool) (qs : List A) → any p qs ≡ any (λ q. p q && true) qs
+unfolding any
+any-true p [] = refl
+any-true p (q ∷ qs) = ap₂ (λ (b : Bool) (c : Bool). b || c) (and-true (p q)) (any-true p qs)
+  where
+    and-true : (b : Bool) → b ≡ b && true
+    and-true true = refl
+    and-true false = refl
+
+owner-known : (o : T.Owner) (w : T.Carrier) (c : ℕ) → isKnown (kindOf o w c) ≡ true
+unfolding isKnown kindOf
+owner-known T.link w c = refl
+owner-known T.applications (T.typeInA t) c = refl
+owner-known T.applications T.valuesInBC c = refl
+
+owner-link : (o : T.Owner) (w : T.Carrier) (c : ℕ) → isLink (kindOf o w c) ≡ not (T.forApplications o)
+unfolding isLink kindOf T.forApplications
+owner-link T.link w c = refl
+owner-link T.applications (T.typeInA t) c = refl
+owner-link T.applications T.valuesInBC c = refl
+
+pub code-known : (c : ℕ) → T.isCode c ≡ isKnown ((ruleOfCode c) .kind)
+unfolding computing
+code-known c =
+    any-true (hasCode c) kinds
+    ∙ by-rule hasCode (λ q. q .bgplsSize) 1122 c (λ r. isKnown (r .kind)) (λ q. true) (codes-once c) (λ q. owner-known (q .owner) (q .carrier) (q .code)) refl refl refl
+
+pub code-link : (c : ℕ) → T.isLinkCode c ≡ isLink ((ruleOfCode c) .kind)
+unfolding computing
+code-link c =
+    by-rule hasCode (λ q. q .bgplsSize) 1122 c (λ r. isLink (r .kind)) (λ q. not (isApplications q)) (codes-once c) (λ q. owner-link (q .owner) (q .carrier) (q .code)) refl refl refl
+
+-- every row of the table stands in its place
+Placed : List T.Kind → Type 0
+Placed [] = Unit {0}
+Placed (q ∷ qs) = KindOfCode (kindOf (q .owner) (q .carrier) (q .code)) (q .code) × Placed qs
+
+placed : Placed kinds
+unfolding computing Placed
+placed =
+    ((lit< tt, refl), ((lit< tt, refl), ((lit< tt, refl), ((lit< tt, refl), ((lit< tt, refl), (refl, ((lit< tt, refl), ((lit< tt, refl), ((lit< tt, refl), ((lit< tt, refl), ((lit< tt, refl), ((lit< tt, refl), ((lit< tt, refl), ((lit< tt, refl), tt))))))))))))))
+
+-- the row that is found, or none
+module _ (c : ℕ) where
+  found : List T.Kind → Rule
+  found qs = lookup (hasCode c) (ruleWith (λ q. q .bgplsSize)) (rule Unknown Any 0) qs
+
+  found-right : (qs : List T.Kind) → Placed qs → KindOfCode ((found qs) .kind) c
+  unfolding found Placed lookup ruleWith hasCode
+  found-right [] h = tt
+  found-right (q ∷ qs) h = go (eqb c (q .code)) refl (found-right qs (h .1))
+    where
+      go : (b : Bool) → eqb c (q .code) ≡ b → KindOfCode ((found qs) .kind) c → KindOfCode ((cond b (ruleWith (λ q. q .bgplsSize) q) (found qs)) .kind) c
+      go true e r = subst (λ (x : ℕ). KindOfCode (kindOf (q .owner) (q .carrier) (q .code)) x) (sym (eqb-true c (q .code) e)) (h .0)
+      go false e r = r
+
+  pub kind-of-code : KindOfCode ((ruleOfCode c) .kind) c
+  unfolding ruleOfCode found
+  kind-of-code = go (eqb c 1122) refl (found-right kinds placed)
+    where
+      go : (b : Bool) → eqb c 1122 ≡ b → KindOfCode ((found kinds) .kind) c → KindOfCode ((cond b (rule Asla Any 1122) (found kinds)) .kind) c
+      go true e r = eqb-true c 1122 e
+      go false e r = r
+
+-- ---- forms
+
+cond-same : {A : Type 0} (b : Bool) (x : A) → cond b x x ≡ x
+cond-same true x = refl
+cond-same false x = refl
+
+-- the three bandwidths in a row
+pub float-range : (c : ℕ) → 1118 ≤ c → c < 1121 → T.float ≡ T.formOf c
+unfolding computing
+float-range c h g = let e : 1118 + (c - 1118) ≡ c = omega arith in subst (λ (k : ℕ). T.float ≡ T.formOf k) e (go (c - 1118) (omega arith))
+  where
+    go : (d : ℕ) → d < 3 → T.float ≡ T.formOf (1118 + d)
+    go zero l = refl
+    go (suc zero) l = refl
+    go (suc (suc zero)) l = refl
+    go (suc (suc (suc d))) l = absurd (omega arith)
+
+-- any other code reads as a whole number
+pub form-other : (c : ℕ) → (c ≡ 1089 → ⊥) → (c ≡ 1090 → ⊥) → (c ≡ 1091 → ⊥) → (c ≡ 1096 → ⊥) → (c ≡ 1115 → ⊥) → (c ≡ 1173 → ⊥) → ((k : ℕ) → 1118 ≤ k → k < 1121 → c ≡ k → ⊥)
+    → T.wholeNumber ≡ T.formOf c
+unfolding computing
+form-other c n89 n90 n91 n96 n115 n173 out =
+    let away : (k : ℕ) → 1118 ≤ k → k < 1121 → eqb c k ≡ false = λ k h g. ne-eqb c k (out k h g) in
+    simp (ne-eqb c 1089 n89, ne-eqb c 1090 n90, ne-eqb c 1091 n91, ne-eqb c 1096 n96, ne-eqb c 1115 n115, ne-eqb c 1173 n173, away 1118 (omega arith) (omega arith), away 1119 (omega arith) (omega arith), away 1120 (omega arith) (omega arith), cond-same)

@@ -1,8 +1,10 @@
 -- The rule that the classifiers answer with, read off the one table of kinds.
 use mathlib.Core.Bool.{Bool, true, false, cond, _&&_, not}
 use mathlib.Core.List.{List, [], _∷_, map}
-use Prim.Native.Nat.{ℕ, suc}
+use mathlib.Core.Path.{_≡_}
+use Prim.Native.Nat.{ℕ, suc, _<_}
 use lib.Dec.{eqb}
+use lib.ListN.{getD}
 use Rattle.linkstate.specs.Lists.{keep, lookup}
 use Rattle.linkstate.specs.Kinds as T
 use Rattle.linkstate.specs.Kinds.{kinds, linkCodes, hasType, hasCode, isApplications}
@@ -11,6 +13,8 @@ use Rattle.kinds.specs.declared.Kind.the-variants.{Link, Application, Sr
 use Rattle.kinds.specs.declared.Size.{Size}
 use Rattle.kinds.specs.declared.Size.the-variants.{Exactly, FoursFrom, FoursWithin, Any}
 use Rattle.kinds.specs.declared.Rule.{Rule}
+use Rattle.kinds.specs.declared.Form.{Form}
+use Rattle.kinds.specs.declared.Form.the-variants.{WholeNumber, TwoNumbers, Float, PlaceAndLength, SrlgCount}
 
 -- A size of the table, and the lengths that one lets pass.
 unfoldable pub sizeOf : T.Size → Size
@@ -28,7 +32,7 @@ unfoldable pub inRunA : T.Carrier → Bool
 inRunA (T.typeInA t) = true
 inRunA T.valuesInBC = false
 
--- "On side A a set is a grid, one row per kind": the codes of its ten rows.
+-- W7. A set on side A is a grid, one row per kind: the codes of its ten rows.
 unfoldable pub gridCodes : List ℕ
 gridCodes = map (λ q. q .code) (keep (λ q. isApplications q && inRunA (q .carrier)) kinds)
 
@@ -62,3 +66,34 @@ wrongInsideBy (Application i) s n = not (fitsIn s n)
 wrongInsideBy Srlg s n = not (fitsIn s n)
 wrongInsideBy Asla s n = not (fitsIn s n)
 wrongInsideBy Unknown s n = not (fitsIn s n)
+
+-- K4. A form of the code as one of the table.
+abbrev pub toldForm : Form → T.Form
+toldForm WholeNumber = T.wholeNumber
+toldForm TwoNumbers = T.twoNumbers
+toldForm Float = T.float
+toldForm PlaceAndLength = T.placeAndLength
+toldForm SrlgCount = T.srlgCount
+
+-- Whether a kind is one of the fourteen, and one of the link's three.
+unfoldable pub isKnown : Kind → Bool
+isKnown (Link i) = true
+isKnown (Application i) = true
+isKnown Srlg = true
+isKnown Asla = false
+isKnown Unknown = false
+
+unfoldable pub isLink : Kind → Bool
+isLink (Link i) = true
+isLink (Application i) = false
+isLink Srlg = false
+isLink Asla = false
+isLink Unknown = false
+
+-- A kind is that of a code: its row is the code's.
+abbrev pub KindOfCode : Kind → ℕ → Type 0
+KindOfCode (Link i) c = (i < 3) × (c ≡ getD linkCodes i 0)
+KindOfCode (Application i) c = (i < 10) × (c ≡ getD gridCodes i 0)
+KindOfCode Srlg c = c ≡ 1096
+KindOfCode Asla c = c ≡ 1122
+KindOfCode Unknown c = Unit {0}

@@ -1,6 +1,7 @@
 // What a type says of an element: its kind, the lengths that its value may have, and its BGP-LS code.
 ghost use mathlib.Core.Path.{_≡_};
-ghost use Rattle.kinds.specs.Rules.{ruleOfType, ruleOfCode, fitsIn};
+ghost use Rattle.linkstate.specs.Kinds.{formOf};
+ghost use Rattle.kinds.specs.Rules.{ruleOfType, ruleOfCode, fitsIn, toldForm};
 
 // A kind by its row: one of the link's three bandwidths, or one of the ten kinds of an application that run A can carry, both ascending by code.
 pub enum Kind {
@@ -17,6 +18,15 @@ pub enum Size {
     FoursFrom(usize),
     FoursWithin(usize, usize),
     Any,
+}
+
+// What a value reads as: a whole number, two numbers, a float, its place and length, or a count of SRLGs.
+pub enum Form {
+    WholeNumber,
+    TwoNumbers,
+    Float,
+    PlaceAndLength,
+    SrlgCount,
 }
 
 pub struct Rule {
@@ -158,5 +168,21 @@ pub fn fits(size: Size, n: usize) -> bool
             n <= most
         }
         Size::Any => true,
+    }
+}
+
+// What a value of a BGP-LS code reads as.
+pub fn form_of(c: usize) -> Form
+    ensures { λ r. ⌜ toldForm r ≡ formOf c ⌝ }
+{
+    match c {
+        1089 => Form::Float,
+        1090 => Form::Float,
+        1091 => Form::PlaceAndLength,
+        1096 => Form::SrlgCount,
+        1115 => Form::TwoNumbers,
+        1173 => Form::PlaceAndLength,
+        1118..=1120 => Form::Float,
+        _ => Form::WholeNumber,
     }
 }

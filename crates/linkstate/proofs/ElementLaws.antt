@@ -1,16 +1,15 @@
 -- Laws on the elements of a run that any walk needs, over w, the number of bytes of a type and of a length:
 -- what one step of a walk sees, a view of all steps (`framed`), and that each value stands in the run at its place (`at-place`).
-use mathlib.Core.Path.{_≡_, refl, sym, ap, _∙_, subst}
+use mathlib.Core.Path.{_≡_, refl, sym, ap, _∙_}
 use mathlib.Core.Logic.{_⊎_, inl, inr}
 use mathlib.Core.Bool.{Bool, true, false, cond}
 use mathlib.Core.List.{List, [], _∷_, _++_, map, List·Memᴰ, List·Memᴰ·cases-cons}
 use Prim.Native.Nat.{ℕ, zero, suc, pred, _+_, _≤_, _<_}
-use native.Mathlib.Nat.{le-refl}
 use native.Mathlib.Omega.{arith}
 use borrow.Author.Tests.{le-leb, lt-leb, leb-true, leb-false}
 use lib.Dec.{leb}
 use lib.ListN.{length, take, drop, length-drop, take-append-drop}
-use lib.Seq.{drop-nil, drop-drop, take-append-le, drop-append-le, length-take-le}
+use lib.Seq.{drop-nil, drop-drop, take-append-le, drop-append-le, length-take-le, take-length}
 use Rattle.linkstate.specs.Bytes.{bytesAt}
 use Rattle.linkstate.specs.Elements.{Element, element, cut, typeOf, lengthOf, sizeOf, elementsAfter, elements}
 
@@ -88,45 +87,48 @@ value-length w s h = length-take-le (lengthOf w s) (drop (w + w) s) (omega (arit
 
 -- ---- places
 
--- A part of a list that stands in a run stands there too.
-part-place : (run : List ℕ) (at n m : ℕ) (s rest : List ℕ) → drop at run ≡ s ++ rest → n + m ≤ length s → bytesAt run (at + n) m ≡ take m (drop n s)
+-- A part of what stands in a run stands there too.
+pub part-place : (run : List ℕ) (at n m : ℕ) (s : List ℕ) → bytesAt run at (length s) ≡ s → n + m ≤ length s → bytesAt run (at + n) m ≡ take m (drop n s)
 unfolding bytesAt
-part-place run at n m s rest e h =
+part-place run at n m s e h =
+    let rest = drop (length s) (drop at run) in
+    let split : drop at run ≡ s ++ rest = sym (take-append-drop (length s) (drop at run)) ∙ ap (λ (l : List ℕ). l ++ rest) e in
     sym (ap (take m) (drop-drop n at run))
-    ∙ ap (λ (l : List ℕ). take m (drop n l)) e
+    ∙ ap (λ (l : List ℕ). take m (drop n l)) split
     ∙ ap (take m) (drop-append-le n s rest (omega arith))
     ∙ take-append-le m (drop n s) rest (omega (arith, length-drop n s))
 
-place-in : {w at : ℕ} {s : List ℕ} {es : List Element} → Framed w at s es → (run rest : List ℕ) → drop at run ≡ s ++ rest
+pub rest-place : (run : List ℕ) (at n : ℕ) (s : List ℕ) → bytesAt run at (length s) ≡ s → n ≤ length s → bytesAt run (at + n) (length (drop n s)) ≡ drop n s
+rest-place run at n s e h = part-place run at n (length (drop n s)) s e (omega (arith, length-drop n s)) ∙ take-length (drop n s)
+
+place-in : {w at : ℕ} {s : List ℕ} {es : List Element} → Framed w at s es → (run : List ℕ) → bytesAt run at (length s) ≡ s
     → (o t : ℕ) (v : List ℕ) → List·Memᴰ (element o t v) es → bytesAt run (o + (w + w)) (length v) ≡ v
 unfolding sizeOf
-place-in done run rest e o t v h = elim h [ ]
-place-in {w = w} (short l) run rest e o t v h = other (List·Memᴰ·cases-cons h)
+place-in done run e o t v h = elim h [ ]
+place-in {w = w} (short l) run e o t v h = other (List·Memᴰ·cases-cons h)
   where
     other : {at : ℕ} → (element o t v ≡ cut at) ⊎ List·Memᴰ (element o t v) [] → bytesAt run (o + (w + w)) (length v) ≡ v
     other (inl d) = let z : _≡_ {A = ℕ} 0 1 = cc in absurd (omega arith)
     other (inr d) = elim d [ ]
-place-in {w = w} (step {at = at} {s = s} {es = es} l f) run rest e o t v h = go (List·Memᴰ·cases-cons h) (λ r k i. place-in f run r k o t v i)
+place-in {w = w} (step {at = at} {s = s} {es = es} l f) run e o t v h = go (List·Memᴰ·cases-cons h) (λ k i. place-in f run k o t v i)
   where
     value : List ℕ
     value = take (lengthOf w s) (drop (w + w) s)
 
     go : (element o t v ≡ element at (typeOf w s) value) ⊎ List·Memᴰ (element o t v) es
-        → ((r : List ℕ) → drop (at + sizeOf w s) run ≡ drop (sizeOf w s) s ++ r → List·Memᴰ (element o t v) es → bytesAt run (o + (w + w)) (length v) ≡ v)
+        → (bytesAt run (at + sizeOf w s) (length (drop (sizeOf w s) s)) ≡ drop (sizeOf w s) s → List·Memᴰ (element o t v) es → bytesAt run (o + (w + w)) (length v) ≡ v)
         → bytesAt run (o + (w + w)) (length v) ≡ v
     go (inl d) r =
         let i : o ≡ at = cc in
         let j : v ≡ value = cc in
         let n : length value ≡ lengthOf w s = value-length w s l in
-        rw (i, j, n) (part-place run at (w + w) (lengthOf w s) s rest e l)
-    go (inr d) r = r rest (sym (drop-drop (sizeOf w s) at run) ∙ ap (drop (sizeOf w s)) e ∙ drop-append-le (sizeOf w s) s rest l) d
+        rw (i, j, n) (part-place run at (w + w) (lengthOf w s) s e l)
+    go (inr d) r = r (rest-place run at (sizeOf w s) s e l) d
 
 -- The place law: where s stands in a run at an offset, so does the value of each of its elements, w + w bytes behind the element's first byte.
 pub at-place : (w : ℕ) → 0 < w → (run : List ℕ) (at : ℕ) (s : List ℕ) → bytesAt run at (length s) ≡ s
     → (o t : ℕ) (v : List ℕ) → List·Memᴰ (element o t v) (elements w at s) → bytesAt run (o + (w + w)) (length v) ≡ v
-unfolding bytesAt
-at-place w p run at s e =
-    place-in (framed w p at s) run (drop (length s) (drop at run)) (sym (take-append-drop (length s) (drop at run)) ∙ ap (λ (l : List ℕ). l ++ drop (length s) (drop at run)) e)
+at-place w p run at s e o t v i = place-in (framed w p at s) run e o t v i
 
 -- ---- offsets
 

@@ -6,6 +6,8 @@ use mathlib.Core.List.{List, [], _∷_, _++_}
 use Prim.Native.Nat.{ℕ, zero, suc, _+_, _≤_, _<_}
 use native.Mathlib.Omega.{arith}
 use native.Mathlib.Nat.{add-zero}
+use borrow.Author.Tests.{leb-true, leb-false}
+use lib.Dec.{leb}
 use lib.ListN.{length, take, drop, getD, length-drop, drop-of-length-le}
 use lib.Seq.{drop-drop, drop-cons}
 use Rattle.linkstate.specs.Lists.{each}
@@ -84,6 +86,21 @@ pub then-refused : (v w : Verdict) (r : Refusal) → v ≡ refused r → (v then
 unfolding _then_
 then-refused v w r e = rw e
 
+-- Two checks are accepted when each is, and a refusal is never acceptance.
+pub then-first : (v w : Verdict) → (v then w) ≡ accepted → v ≡ accepted
+unfolding _then_
+then-first accepted w e = refl
+then-first (refused r) w e = e
+
+pub then-second : (v w : Verdict) → (v then w) ≡ accepted → w ≡ accepted
+unfolding _then_
+then-second accepted w e = e
+then-second (refused r) w e = absurd (let z : _≡_ {A = ℕ} 0 1 = cc in omega arith)
+
+pub not-accepted : (n : ℕ) (run : Run) (o : ℕ) → fault n run o ≡ accepted → ⊥
+unfolding fault
+not-accepted n run o e = let z : _≡_ {A = ℕ} 0 1 = cc in omega arith
+
 module _ (run : Run) (check : ℕ → ℕ → List ℕ → Verdict) (w : ℕ) (p : 0 < w) (base : ℕ) (s : List ℕ) (at : ℕ) where
   pub faults-end : length s ≤ at → faults run check (left w base s at) ≡ accepted
   unfolding faults
@@ -110,6 +127,21 @@ module _ (run : Run) (check : ℕ → ℕ → List ℕ → Verdict) (w : ℕ) (p
   pub faults-stop : (n : ℕ) (r : Refusal) → lengthAt w s at ≡ n → at + (w + w) + n ≤ length s → check (base + at) (typeAt w s at) (bytesAt s (at + (w + w)) n) ≡ refused r
       → refused r ≡ faults run check (left w base s at)
   faults-stop n r e h a = sym (faults-turn n e h ∙ then-refused _ _ r a)
+
+  -- where all is accepted, an element that begins is whole, passes its check, and so does the rest
+  pub faults-whole : at < length s → faults run check (left w base s at) ≡ accepted → at + (w + w) + lengthAt w s at ≤ length s
+  faults-whole h a = go (leb (at + (w + w) + lengthAt w s at) (length s)) refl
+    where
+      go : (b : Bool) → leb (at + (w + w) + lengthAt w s at) (length s) ≡ b → at + (w + w) + lengthAt w s at ≤ length s
+      go true e = leb-true (at + (w + w) + lengthAt w s at) (length s) e
+      go false e = absurd (not-accepted 3 run (base + at) (sym (faults-cut h (leb-false (at + (w + w) + lengthAt w s at) (length s) e)) ∙ a))
+
+  pub faults-passed : (n : ℕ) → lengthAt w s at ≡ n → at < length s → faults run check (left w base s at) ≡ accepted
+      → (at + (w + w) + n ≤ length s) × (check (base + at) (typeAt w s at) (bytesAt s (at + (w + w)) n) ≡ accepted) × (faults run check (left w base s (at + (w + w) + n)) ≡ accepted)
+  faults-passed n e h a =
+      let k : at + (w + w) + n ≤ length s = omega (arith, faults-whole h a) in
+      let t : (check (base + at) (typeAt w s at) (bytesAt s (at + (w + w)) n) then faults run check (left w base s (at + (w + w) + n))) ≡ accepted = sym (faults-turn n e k) ∙ a in
+      (k, then-first _ _ t, then-second _ _ t)
 
 -- ---- a collection
 

@@ -1,4 +1,4 @@
--- Attributes that are read together. Document 01, "Who gets what": "Together means: per kind, the first in byte order; for SRLG, all values, repeats dropped."
+-- Attributes that are read together (rules W5, W6), and the reading of one (rule K4).
 use mathlib.Core.Bool.{Bool, true, false, cond}
 use mathlib.Core.List.{List, [], _∷_, map}
 use Prim.Native.Nat.{ℕ, _+_}
@@ -22,11 +22,11 @@ pub record Attribute : Type 0 where
 unfoldable pub attribute : ℕ → ℕ → List ℕ → ℕ → List ℕ → Attribute
 attribute w at v code value = record { code = code; at = at + (w + w); len = length v; value = value }
 
--- The attributes of one kind, in byte order.
+-- W5. The attributes of one kind, in byte order.
 unfoldable pub ofKind : ℕ → List Attribute → List Attribute
 ofKind k ts = keep (λ t. eqb k (t .code)) ts
 
--- The different SRLGs of attributes, ascending.
+-- W5. The different SRLGs of attributes, ascending.
 unfoldable pub srlgs : List Attribute → List ℕ
 srlgs ts = distinct (each (λ t. words (t .value)) (ofKind 1096 ts))
 
@@ -34,11 +34,11 @@ unfoldable pub firstValue : List Attribute → List ℕ
 firstValue [] = []
 firstValue (t ∷ ts) = t .value
 
--- A kind's value, as BGP-LS value bytes: the first; for SRLG all. No bytes: absent.
+-- W5, L16. A kind's value, as BGP-LS value bytes: the first; for SRLG all. No bytes: absent.
 unfoldable pub valueOf : ℕ → List Attribute → List ℕ
 valueOf k ts = cond (eqb k 1096) (bytesOfWords (srlgs ts)) (firstValue (ofKind k ts))
 
--- The reading of a value, by its kind's form.
+-- K4. The reading of a value, by its kind's form.
 unfoldable pub readingAs : Form → Run → Attribute → Reading
 readingAs wholeNumber run t = whole (number (t .value))
 readingAs twoNumbers run t = pair (number (take 4 (t .value))) (number (drop 4 (t .value)))

@@ -1,4 +1,4 @@
--- Document 01, "BGP-LS bytes": the reader, and what a BGP-LS run is refused for (RFC 9294 sections 2 and 3).
+-- Document 01, "BGP-LS bytes": the reader, and what a BGP-LS run is refused for (rules L9 to L14; RFC 9294 sections 2 and 3).
 use mathlib.Core.Bool.{Bool, true, false, cond, _&&_, _||_, not}
 use mathlib.Core.List.{List, [], _∷_}
 use Prim.Native.Nat.{ℕ, _+_}
@@ -13,7 +13,7 @@ use Rattle.linkstate.specs.Attributes.{Attribute, attribute}
 use Rattle.linkstate.specs.Sides.{Advertisement, Side, named, generalSet, applicationSet}
 use Rattle.linkstate.specs.Questions.{Source}
 
--- The value of a 1122: SABM length, UDABM length, two reserved bytes, the two masks, inner TLVs ("reserved bytes are ignored").
+-- L9. The value of a 1122: SABM length, UDABM length, two reserved bytes that nothing reads, the two masks, inner TLVs.
 unfoldable pub sabmLength : List ℕ → ℕ
 sabmLength v = getD v 0 0
 
@@ -27,7 +27,7 @@ aslaHeader v = 4 + sabmLength v + udabmLength v
 unfoldable pub isMaskLength : ℕ → Bool
 isMaskLength n = eqb n 0 || eqb n 4 || eqb n 8
 
--- "a length other than 0, 4, 8, ignored".
+-- L12. A 1122 is ignored unless both mask lengths are 0, 4 or 8.
 unfoldable pub notIgnored : List ℕ → Bool
 notIgnored v = isMaskLength (sabmLength v) && isMaskLength (udabmLength v)
 
@@ -38,7 +38,7 @@ innerElements at v = elements 2 (at + 4 + aslaHeader v) (drop (aslaHeader v) v)
 unfoldable pub checkInner : ℕ → ℕ → List ℕ → Verdict
 checkInner at t v = cond (wrongInside t (length v)) (fault 4 runBgpLs at) accepted
 
--- "Checks of a 1122 in order: under 4 value bytes, 3; a length other than 0, 4, 8, ignored; masks past the end, 3; then its inner elements."
+-- L12. The checks of a 1122: room for its fixed bytes, its mask lengths, room for its masks, then its inner elements.
 unfoldable pub checkAsla : ℕ → List ℕ → Verdict
 checkAsla at v =
     cond (ltb (length v) 4) (fault 3 runBgpLs at)
@@ -48,16 +48,16 @@ checkAsla at v =
 unfoldable pub checkTop : ℕ → ℕ → List ℕ → Verdict
 checkTop at t v = cond (eqb t 1122) (checkAsla at v) (cond (wrongAtTop t (length v)) (fault 4 runBgpLs at) accepted)
 
--- "for a BGP-LS run .. 1, then the run from its start".
+-- R1, R9. The checks of a run: its size, then its elements from the start.
 unfoldable pub runVerdict : List ℕ → Verdict
 runVerdict r = refusedIf (ltb 524288 (length r)) 1 then faults runBgpLs checkTop (elements 2 0 r)
 
--- An element as an attribute, its code being its type.
+-- L11. An element as an attribute, its code being its type.
 unfoldable pub attributesOf : Element → List Attribute
 attributesOf (element at t v) = attribute 2 at v t v ∷ []
 attributesOf (cut at) = []
 
--- A 1122 that is not ignored, as an advertisement without L.
+-- L10. A 1122 that is not ignored, as an advertisement without L.
 unfoldable pub advertisement : ℕ → List ℕ → Advertisement
 advertisement at v =
     record {
@@ -71,7 +71,7 @@ unfoldable pub advertisementsOf : Element → List Advertisement
 advertisementsOf (element at t v) = cond (eqb t 1122 && notIgnored v) (advertisement at v ∷ []) []
 advertisementsOf (cut at) = []
 
--- The top-level 1122s that are not ignored.
+-- L12, L20. The top-level 1122s that are not ignored.
 unfoldable pub aslas : List ℕ → List Advertisement
 aslas r = each advertisementsOf (elements 2 0 r)
 
@@ -81,8 +81,8 @@ topLevel r = each attributesOf (elements 2 0 r)
 unfoldable pub runSide : List ℕ → Side
 runSide r = record { legacy = topLevel r; live = aslas r }
 
--- "the three bandwidths, whoever asks, and RSVP-TE's kinds are the top-level TLVs";
--- "Another application named in some 1122 gets those naming it, else those with both masks empty."; "Standard bit 0 is ignored there".
+-- L9, L10, L13. What questions to a run find: at the top level the bandwidths and RSVP-TE's kinds; for another application the 1122s that name it, else
+-- the general ones. RSVP-TE is named by none of them.
 unfoldable pub runSource : List ℕ → Source
 runSource r =
     record {

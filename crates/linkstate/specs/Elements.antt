@@ -1,5 +1,5 @@
 -- The elements of a run: a type, a length and a value, one after the other.
--- One definition over w, the number of bytes of a type and of a length: 1 in IS-IS runs, 2 in BGP-LS runs.
+-- One definition over w, the number of bytes of a type and of a length: 1 in IS-IS runs (rules A1, B1), 2 in BGP-LS runs (rule L1).
 use mathlib.Core.Bool.{Bool, cond}
 use mathlib.Core.List.{List, [], _∷_, _++_}
 use Prim.Native.Nat.{ℕ, zero, suc, pred, _+_}
@@ -8,7 +8,7 @@ use lib.ListN.{length, take, drop}
 use Rattle.linkstate.specs.Bytes.{number}
 use Rattle.linkstate.specs.Replies.{Run, Verdict, accepted, fault, _then_}
 
--- An element with the offset of its first byte, or the offset where one begins that "runs past its holder, or is too short for its fixed fields".
+-- R3. An element with the offset of its first byte, or where one begins that is longer than what holds it or has no room for its header.
 pub data Element : Type 0 where
   element : (at type : ℕ) (value : List ℕ) → Element
   cut : (at : ℕ) → Element
@@ -36,7 +36,7 @@ elementsAfter w at zero (b ∷ bs) =
 unfoldable pub elements : ℕ → ℕ → List ℕ → List Element
 elements w at s = elementsAfter w at 0 s
 
--- The first refusal of elements in turn: 3 where one is cut off, else what `check` says of its offset, type and value.
+-- R9, R10. The first refusal of elements in turn: 3 where one is cut off, else what `check` says of its offset, type and value.
 unfoldable pub faults : Run → (ℕ → ℕ → List ℕ → Verdict) → List Element → Verdict
 faults run check [] = accepted
 faults run check (cut at ∷ es) = fault 3 run at

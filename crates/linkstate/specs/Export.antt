@@ -1,4 +1,4 @@
--- Document 01, "BGP-LS bytes": the TLVs that a meaning is written as (RFC 9294 sections 2 and 3).
+-- Document 01, "BGP-LS bytes": the TLVs that a meaning is written as (rules L1 to L8; RFC 9294 sections 2 and 3).
 use mathlib.Core.Bool.{Bool, true, false, cond, _&&_}
 use mathlib.Core.List.{List, [], _∷_, _++_, map}
 use Prim.Native.Nat.{ℕ}
@@ -14,7 +14,7 @@ use Rattle.linkstate.specs.Meaning.{Meaning, row}
 pub data Tlv : Type 0 where
   tlv : (type : ℕ) (value : List ℕ) → Tlv
 
--- "Two-byte type, two-byte length, big-endian; no padding."
+-- L1. A TLV's bytes: its type and its length in two bytes each, and its value with no padding.
 unfoldable pub bytesOf : Tlv → List ℕ
 bytesOf (tlv t v) = two t ++ two (length v) ++ v
 
@@ -23,38 +23,37 @@ unfoldable pub present : List ℕ → (ℕ → List ℕ) → List Tlv
 present [] f = []
 present (k ∷ ks) f = cond (empty (f k)) (present ks f) (tlv k (f k) ∷ present ks f)
 
--- "the link's bandwidths, the RSVP-TE set": what stands at the top of a run.
+-- L2. What stands at the top of a run: the link's bandwidths and the RSVP-TE set.
 unfoldable pub topValue : Meaning → ℕ → List ℕ
 topValue m k = cond (isLinkCode k) (m .bandwidth k) (m .rsvpTe k)
 
--- The value of a 1122 for the applications that pass the test: mask lengths, "Two reserved bytes are zero", the masks, "Inner TLVs ascend".
+-- L3 to L6. The value of a 1122 for the applications that pass the test: mask lengths, two zero bytes, the masks, and the TLVs of a set, ascending.
 unfoldable pub aslaValue : (ℕ → Bool) → (ℕ → List ℕ) → List ℕ
 aslaValue p f =
     maskSize p ∷ maskSize (λ n. p (user n)) ∷ 0 ∷ 0 ∷ mask p ++ mask (λ n. p (user n)) ++ each bytesOf (present applicationCodes f)
 
--- "the general set first, if not empty, with both masks empty".
+-- L3. The general set, if it is not empty, with both masks empty.
 unfoldable pub generalValues : Meaning → List (List ℕ)
 generalValues m = cond (all empty (row (m .general))) [] (aslaValue (λ a. false) (m .general) ∷ [])
 
--- "grouped by sets of equal values, wherever they stand": the first named application with the same set as a leads a's group.
+-- L3. Equal sets share a TLV: the first named application with the same set as a leads a's group.
 unfoldable pub leader : Meaning → ℕ → ℕ
 leader m a = lookup (λ b. m .named b && sameRows (row (m .set b)) (row (m .set a))) (λ b. b) 0 others
 
 unfoldable pub inGroup : Meaning → ℕ → ℕ → Bool
 inGroup m lead a = m .named a && eqb (leader m a) lead
 
--- "groups ordered by first member, standard before user".
+-- L3, L7. The leaders, in the order of the applications; an empty set makes a group like any other.
 unfoldable pub leaders : Meaning → List ℕ
 leaders m = keep (λ a. inGroup m a a) others
 
--- "A named application with an empty set is still written."
 unfoldable pub groupValue : Meaning → ℕ → List ℕ
 groupValue m lead = aslaValue (inGroup m lead) (m .set lead)
 
 unfoldable pub aslaValues : Meaning → List (List ℕ)
 aslaValues m = generalValues m ++ map (groupValue m) (leaders m)
 
--- "Written ascending by type: the link's bandwidths, the RSVP-TE set, and 1122 (ASLA) between 1120 and 1173."
+-- L2. All TLVs, ascending by type.
 unfoldable pub tlvs : Meaning → List Tlv
 tlvs m = present (keep (λ k. ltb k 1122) codes) (topValue m) ++ map (tlv 1122) (aslaValues m) ++ present (keep (λ k. ltb 1122 k) codes) (topValue m)
 

@@ -1,11 +1,11 @@
--- Document 01, "The fourteen kinds": one table, and what it says of an IS-IS type and of a BGP-LS code.
+-- Document 01, "The fourteen kinds" (rules K1 to K6): one table, and what it says of an IS-IS type and of a BGP-LS code.
 use mathlib.Core.Bool.{Bool, true, false, cond, _&&_, not}
 use mathlib.Core.List.{List, [], _∷_, map}
 use Prim.Native.Nat.{ℕ, _%_}
 use lib.Dec.{eqb, leb}
 use Rattle.linkstate.specs.Lists.{keep, any, lookup}
 
--- The lengths that a value may have.
+-- K1. The lengths that a value may have.
 pub data Size : Type 0 where
   exactly : ℕ → Size
   foursFrom : (least : ℕ) → Size
@@ -16,17 +16,17 @@ fits (exactly k) n = eqb n k
 fits (foursFrom least) n = eqb (n % 4) 0 && leb least n
 fits (foursWithin least most) n = eqb (n % 4) 0 && leb least n && leb n most
 
--- Where an IS-IS link carries the kind: in elements of a type in run A, or as the SRLG values of runs B and C.
+-- K1. Where an IS-IS link carries the kind: in elements of a type in run A, or as the SRLG values of runs B and C.
 pub data Carrier : Type 0 where
   typeInA : ℕ → Carrier
   valuesInBC : Carrier
 
--- "1089, 1090 and 1091 belong to the link; the other eleven belong to applications."
+-- K2. Whose the kind is: the link's (three of them), or the applications' (eleven).
 pub data Owner : Type 0 where
   link : Owner
   applications : Owner
 
--- The readings: "a whole number", "two of four bytes each", "a bandwidth", "the value's place .. and length", "the count of different SRLGs".
+-- K4. What a value of the kind reads as.
 pub data Form : Type 0 where
   wholeNumber : Form
   twoNumbers : Form
@@ -45,7 +45,7 @@ pub record Kind : Type 0 where
 unfoldable pub kind : ℕ → Carrier → Size → Size → Owner → Form → Kind
 kind c t i b o f = record { code = c; carrier = t; isisSize = i; bgplsSize = b; owner = o; form = f }
 
--- The table (RFC 8919 section 3; RFC 9294 section 3; RFC 8571 section 2 for 1114 to 1120), ascending by code.
+-- K1, K2, K4. The table, ascending by code (RFC 8919 section 3; RFC 9294 section 3; RFC 8571 section 2 for 1114 to 1120).
 unfoldable pub kinds : List Kind
 kinds =
     kind 1088 (typeInA 3) (exactly 4) (exactly 4) applications wholeNumber
@@ -71,7 +71,7 @@ forApplications applications = true
 unfoldable pub isApplications : Kind → Bool
 isApplications q = forApplications (q .owner)
 
--- The codes of all fourteen, of the link's three, and of the eleven of an application's set.
+-- K2. The codes of all fourteen, of the link's three, and of the eleven of an application's set.
 unfoldable pub codes : List ℕ
 codes = map (λ q. q .code) kinds
 
@@ -91,22 +91,22 @@ carriedAs t valuesInBC = false
 unfoldable pub hasType : ℕ → Kind → Bool
 hasType t q = carriedAs t (q .carrier)
 
--- The BGP-LS code of an IS-IS type, 0 where "Unknown types are framed and skipped".
+-- K1, K3. The BGP-LS code of an IS-IS type; 0, which no question asks for, of an unknown one.
 unfoldable pub codeOfType : ℕ → ℕ
 codeOfType t = lookup (hasType t) (λ q. q .code) 0 kinds
 
--- "a known kind .. has a wrong length" (4): in run A, at the top of a BGP-LS run, and inside a 1122.
+-- R4. A known kind of a wrong length: in run A, at the top of a BGP-LS run, and inside a 1122.
 unfoldable pub wrongInA : ℕ → ℕ → Bool
 wrongInA t n = any (λ q. hasType t q && not (fits (q .isisSize) n)) kinds
 
 unfoldable pub wrongAtTop : ℕ → ℕ → Bool
 wrongAtTop c n = any (λ q. hasCode c q && not (fits (q .bgplsSize) n)) kinds
 
--- "1089 to 1091 and 1122 inside 1122 are skipped as unknown."
+-- L14. Inside a 1122 the link's kinds are unknown, as a 1122 itself is.
 unfoldable pub wrongInside : ℕ → ℕ → Bool
 wrongInside c n = any (λ q. hasCode c q && not (fits (q .bgplsSize) n)) (keep isApplications kinds)
 
--- Whether a code belongs to one of the fourteen, and to one of the link's three.
+-- R7, K2. Whether a code belongs to one of the fourteen, and to one of the link's three.
 unfoldable pub isCode : ℕ → Bool
 isCode c = any (hasCode c) kinds
 

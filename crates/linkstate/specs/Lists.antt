@@ -1,4 +1,4 @@
--- Small functions on lists that the definitions share: none is a rule of document 01.
+-- Small functions on lists that the definitions share: none is a rule by itself.
 use mathlib.Core.Bool.{Bool, true, false, cond, _&&_, _||_}
 use mathlib.Core.List.{List, [], _∷_, _++_}
 use Prim.Native.Nat.{ℕ, zero, suc, _+_}

@@ -1,4 +1,4 @@
--- Applications and the masks that name them. Document 01, "What comes in and what goes out" and "BGP-LS bytes"; RFC 8919 section 4.1, RFC 9294 section 2.
+-- Applications and the masks that name them (rules I7 to I11, L4; RFC 8919 section 4.1, RFC 9294 section 2).
 use mathlib.Core.Bool.{Bool, true, false, cond}
 use mathlib.Core.List.{List, [], _∷_, map}
 use Prim.Native.Nat.{ℕ, zero, suc, _+_, _-_, _*_, _/_, _%_, _^_}
@@ -6,15 +6,15 @@ use lib.Dec.{eqb, ltb}
 use lib.ListN.{getD}
 use Rattle.linkstate.specs.Lists.{numbers}
 
--- "Bit 0 is the top bit (value 128) of the first mask byte. Bits not sent are 0."
+-- I9, I10. Whether bit n of a mask is set, counted from the top bit of the first byte; one that is not sent is not set.
 unfoldable pub bit : List ℕ → ℕ → Bool
 bit mask n = eqb (getD mask (n / 8) 0 / 2 ^ (7 - n % 8) % 2) 1
 
--- "An application is standard 0 to 63 or user 0 to 63", as one number: standard n is n, user n is 64 + n. RSVP-TE is 0.
+-- I7, I8. An application as one number: standard n is n, user n is 64 + n; RSVP-TE is 0.
 unfoldable pub user : ℕ → ℕ
 user n = 64 + n
 
--- Whether a standard and a user mask have an application's bit set.
+-- A8. Whether a standard and a user mask have an application's bit set.
 unfoldable pub inMasks : List ℕ → List ℕ → ℕ → Bool
 inMasks standardMask userMask a = cond (ltb a 64) (bit standardMask a) (bit userMask (a - 64))
 
@@ -26,7 +26,7 @@ unfoldable pub one : Bool → ℕ
 one true = 1
 one false = 0
 
--- "application n as 2 to the n": the sum over the numbers below k that pass the test.
+-- I5. Application n as 2 to the n: the sum over the numbers below k that pass the test.
 unfoldable pub powersBelow : ℕ → (ℕ → Bool) → ℕ
 powersBelow zero p = 0
 powersBelow (suc k) p = powersBelow k p + one (p k) * 2 ^ k
@@ -47,7 +47,7 @@ unfoldable pub lastBelow : ℕ → (ℕ → Bool) → Last
 lastBelow zero p = none
 lastBelow (suc k) p = cond (p k) (last k) (lastBelow k p)
 
--- "Each mask is 0, 4 or 8 bytes, the least that holds its last set bit."
+-- L4. The least of 0, 4 and 8 bytes that holds the last set bit.
 unfoldable pub bytesToHold : Last → ℕ
 bytesToHold none = 0
 bytesToHold (last n) = cond (ltb n 32) 4 8

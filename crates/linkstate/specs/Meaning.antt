@@ -1,5 +1,4 @@
--- Document 01, "BGP-LS bytes": "The *meaning* of a link or of a run is: the three bandwidth kinds, the RSVP-TE set, the general set,
--- the named applications other than RSVP-TE, and the set of each." It knows no protocol and no places.
+-- The *meaning* of a link or of a run, and when two are the same (rules L15 to L18). It knows no protocol and no places.
 use mathlib.Core.Path.{_≡_}
 use mathlib.Core.Bool.{Bool, true}
 use mathlib.Core.List.{List, map}
@@ -11,7 +10,7 @@ use Rattle.linkstate.specs.Attributes.{valueOf}
 use Rattle.linkstate.specs.Replies.{Verdict, accepted}
 use Rattle.linkstate.specs.Questions.{Source}
 
--- A value is its BGP-LS value bytes, none where the kind is absent; an SRLG value is ascending, without repeats.
+-- L15. A value is its BGP-LS value bytes, none where the kind is absent; an SRLG value is ascending, without repeats.
 pub record Meaning : Type 0 where
   pub bandwidth : (code : ℕ) → List ℕ
   pub rsvpTe : (code : ℕ) → List ℕ
@@ -33,7 +32,7 @@ meaning s =
 unfoldable pub row : (ℕ → List ℕ) → List (List ℕ)
 row f = map f applicationCodes
 
--- "Values are equal when their BGP-LS value bytes are equal, floats too; SRLGs when the same numbers occur. Places are not part of it."
+-- L16, L17. The same meaning: equal value bytes of every kind, the same applications named, and equal sets for each.
 pub record Same (m n : Meaning) : Type 0 where
   pub bandwidth : map (m .bandwidth) linkCodes ≡ map (n .bandwidth) linkCodes
   pub rsvpTe : row (m .rsvpTe) ≡ row (n .rsvpTe)
@@ -41,6 +40,6 @@ pub record Same (m n : Meaning) : Type 0 where
   pub named : (a : ℕ) → member a others ≡ true → m .named a ≡ n .named a
   pub set : (a : ℕ) → member a others ≡ true → m .named a ≡ true → row (m .set a) ≡ row (n .set a)
 
--- "A link is *accepted* when no number but 5 refuses its export, a BGP-LS run when none but 5, 6 or 7 refuses a question to it": its bytes pass the checks.
+-- L18. *Accepted*: the checks of its bytes let it pass, so that only 5 can refuse an export, and only 5, 6 or 7 a question.
 abbrev pub Accepted : Source → Type 0
 Accepted s = s .verdict ≡ accepted

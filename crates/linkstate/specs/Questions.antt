@@ -1,4 +1,4 @@
--- The services: what is asked of a link or of a BGP-LS run, and the reply. Document 01, "Numbers of the replies" and "The fourteen kinds".
+-- The services (rule I5): what is asked of a link or of a BGP-LS run, and what comes of it (rules R1 to R12, K4 to K6).
 use mathlib.Core.Bool.{Bool, true, false, cond, _&&_, not}
 use mathlib.Core.List.{List, [], _∷_}
 use Prim.Native.Nat.{ℕ, _+_}
@@ -30,7 +30,7 @@ pub record Source : Type 0 where
   pub names : (application : ℕ) → Bool
   pub application : (application code : ℕ) → List Attribute
 
--- 6, "application number above 63"; the general set has none.
+-- R6. An application number above 63; the general set has no number.
 unfoldable pub numberTooHigh : Subject → Bool
 numberTooHigh generally = false
 numberTooHigh (standardNo n) = ltb 63 n
@@ -42,15 +42,15 @@ setOf s generally k = s .general k
 setOf s (standardNo n) k = cond (eqb n 0) (s .rsvpTe k) (s .application n k)
 setOf s (userNo n) k = s .application (user n) k
 
--- "These three answer the same for every application and for the general set."
+-- W13. The link's three kinds answer everyone the same.
 unfoldable pub given : Source → Subject → ℕ → List Attribute
 given s whom k = cond (isLinkCode k) (s .bandwidth k) (setOf s whom k)
 
--- "Order: 6, 7, 1, 2, then A from its start, B from its start, then 5; for a BGP-LS run 6, 7, 1, then the run from its start .., then 5."
+-- R9. The order of refusals before an answer: 6, 7, then those of the bytes.
 unfoldable pub beforeAnswer : Source → Subject → ℕ → Verdict
 beforeAnswer s whom k = refusedIf (numberTooHigh whom) 6 then refusedIf (not (isCode k)) 7 then s .verdict
 
--- The reply where a value is looked for by its place: "absent, or found with a reading".
+-- K4, R12. The reply of every kind but SRLG: that of the first attribute.
 unfoldable pub firstOf : Run → List Attribute → Reply
 firstOf run [] = absent
 firstOf run (t ∷ ts) = found (reading run t)
@@ -58,7 +58,7 @@ firstOf run (t ∷ ts) = found (reading run t)
 unfoldable pub unwritten : List ℕ → Reply → Asked
 unwritten list r = record { reply = r; list = list }
 
--- "the count of different SRLGs, which are written ascending to the front of a lent list of 32-bit numbers"; none at all is absent; 5 where they do not fit.
+-- K4, R5. The reply of SRLG: none at all is absent; 5 where the list is too short; else their count, and the list begins with them.
 unfoldable pub srlgAnswer : List ℕ → List ℕ → Asked
 srlgAnswer ns list =
     cond (empty ns) (unwritten list absent)
@@ -68,7 +68,7 @@ srlgAnswer ns list =
 unfoldable pub answer : Run → ℕ → List Attribute → List ℕ → Asked
 answer run k ts list = cond (eqb k 1096) (srlgAnswer (srlgs ts) list) (unwritten list (firstOf run (ofKind k ts)))
 
--- The first service: one kind of one subject, with a lent list.
+-- I5. The first service: one kind of one subject, with a lent list.
 unfoldable pub ask : Source → Subject → ℕ → List ℕ → Asked
 ask s whom k list = unless (beforeAnswer s whom k) (λ r. unwritten list (askRefused r)) (answer (s .run) k (given s whom k) list)
 
@@ -76,15 +76,15 @@ unfoldable pub bytesOfFirst : List ℕ → List Attribute → List ℕ
 bytesOfFirst run [] = []
 bytesOfFirst run (t ∷ ts) = bytesAt run (t .at) (t .len)
 
--- "Another entry hands back the value's bytes as a part of the caller's own run, empty if absent, refused, or 1096."
+-- K6. The value's bytes as they stand in the run; none where it is absent, refused, or SRLG.
 unfoldable pub value : Source → Subject → ℕ → List ℕ
 value s whom k = unless (beforeAnswer s whom k) (λ r. []) (cond (eqb k 1096) [] (bytesOfFirst (s .bytes) (ofKind k (given s whom k))))
 
--- The second service: "the link's named applications other than RSVP-TE".
+-- I5. The second service: the named applications other than RSVP-TE.
 unfoldable pub listNamed : Source → Named
 listNamed s = unless (s .verdict) namedRefused (listed (asNumber (s .names)) (asNumber (λ n. s .names (user n))))
 
--- The third service, over the bytes to write: "5 | the whole result is longer than the lent buffer"; they start at the buffer's front.
+-- I5, K5, R5. The third service, over the bytes to write: refused as the link is, then by 5; else they stand at the buffer's front.
 unfoldable pub write : Verdict → List ℕ → List ℕ → Exported
 write v result buffer =
     unless (v then refusedIf (ltb (length buffer) (length result)) 5) (λ r. record { reply = exportRefused r; buffer = buffer })

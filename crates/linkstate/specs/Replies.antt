@@ -1,17 +1,17 @@
--- Document 01, "Numbers of the replies": what a refusal tells, and what a question is answered by.
+-- Document 01, "Numbers of the replies" (rules R1 to R12): what a refusal tells, and what a question is answered by (rule K4).
 use mathlib.Core.Bool.{Bool, true, false, cond}
 use mathlib.Core.List.{List, [], _∷_}
 use Prim.Native.Nat.{ℕ}
 use lib.Ieee.{Float}
 
--- The lent runs that a place can lie in.
+-- R8. The lent runs that a place can lie in.
 pub data Run : Type 0 where
   runA : Run
   runB : Run
   runC : Run
   runBgpLs : Run
 
--- "the run and the offset there".
+-- R8. An offset in a run.
 pub record Place : Type 0 where
   pub run : Run
   pub offset : ℕ
@@ -19,7 +19,7 @@ pub record Place : Type 0 where
 unfoldable pub place : Run → ℕ → Place
 place r o = record { run = r; offset = o }
 
--- "A refusal gives its number, the run and the offset there of the innermost faulty element's first byte".
+-- R8. A refusal: its number, and where the innermost faulty element begins.
 pub record Refusal : Type 0 where
   pub number : ℕ
   pub at : Place
@@ -29,14 +29,14 @@ pub data Verdict : Type 0 where
   accepted : Verdict
   refused : Refusal → Verdict
 
--- Refusal n at an offset of a run.
+-- R8. Refusal n at an offset of a run.
 unfoldable pub refusalAt : ℕ → Run → ℕ → Refusal
 refusalAt n r o = record { number = n; at = place r o }
 
 unfoldable pub fault : ℕ → Run → ℕ → Verdict
 fault n r o = refused (refusalAt n r o)
 
--- "(for 1, 2, 5, 6, 7: offset 0, run A)".
+-- R8. A refusal that no element is to blame for (1, 2, 5, 6, 7): run A, offset 0.
 unfoldable pub faultOfCall : ℕ → Verdict
 faultOfCall n = fault n runA 0
 
@@ -45,7 +45,7 @@ unfoldable pub refusedIf : Bool → ℕ → Verdict
 refusedIf test n = cond test (faultOfCall n) accepted
 
 infixr 20 _then_
--- The first refusal of two checks that come one after the other.
+-- R9. The first refusal of two checks that come one after the other.
 unfoldable pub _then_ : Verdict → Verdict → Verdict
 accepted then w = w
 (refused r) then w = refused r
@@ -55,7 +55,7 @@ unfoldable pub unless : {A : Type 0} → Verdict → (Refusal → A) → A → A
 unless accepted f x = x
 unless (refused r) f x = f r
 
--- "found with a reading".
+-- K4. A reading: a whole number, two numbers, a float, where the value stands and its length, or how many different SRLGs there are.
 pub data Reading : Type 0 where
   whole : ℕ → Reading
   pair : ℕ → ℕ → Reading
@@ -63,7 +63,7 @@ pub data Reading : Type 0 where
   part : (at : Place) (length : ℕ) → Reading
   count : ℕ → Reading
 
--- "A question is answered by absent, or found with a reading", or it is refused.
+-- K4, R12. The reply to a question: absent is a normal one.
 pub data Reply : Type 0 where
   absent : Reply
   found : Reading → Reply
@@ -74,12 +74,12 @@ pub record Asked : Type 0 where
   pub reply : Reply
   pub list : List ℕ
 
--- "the link's named applications other than RSVP-TE (two 64-bit numbers, application n as 2 to the n)", or a refusal.
+-- I5. The applications that are named, RSVP-TE apart, as two numbers in which application n is 2 to the n; or a refusal.
 pub data Named : Type 0 where
   listed : (standard user : ℕ) → Named
   namedRefused : Refusal → Named
 
--- "an export, which .. answers its length", or a refusal.
+-- K5. The reply to an export: the length written, or a refusal.
 pub data Length : Type 0 where
   bytes : ℕ → Length
   exportRefused : Refusal → Length

@@ -1,4 +1,4 @@
--- Demand 3: the rivals of a link, over its meaning.
+-- Demand 3: the *rivals* of a link, over its meaning.
 use mathlib.Core.Path.{_≡_}
 use mathlib.Core.Bool.{true}
 use mathlib.Core.List.{List}
@@ -9,7 +9,7 @@ use Rattle.linkstate.specs.Sides.{names}
 use Rattle.linkstate.specs.Meaning.{Meaning, meaning, Same, Accepted}
 use Rattle.linkstate.specs.BgpLs.{runSource, aslas}
 
--- A *rival*: "any accepted BGP-LS run with the link's meaning that names each of its applications, RSVP-TE apart, in exactly one ASLA TLV".
+-- A rival: an accepted run of the same meaning, of whose 1122s exactly one names each named application (rules L18, L20).
 pub record IsRival (m : Meaning) (r : List ℕ) : Type 0 where
   pub accepted : Accepted (runSource r)
   pub same : Same m (meaning (runSource r))

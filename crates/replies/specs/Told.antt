@@ -1,4 +1,4 @@
--- What each case of the answers says in document 01's terms: "When an answer is an enum, a definition gives this paper's number and values for each of its cases".
+-- What each case of the answers says in document 01's terms: its number, its run and offset, its values. Contracts go through these definitions.
 use mathlib.Core.List.{List}
 use Prim.Native.Nat.{ℕ}
 use Rattle.linkstate.specs.Replies as R

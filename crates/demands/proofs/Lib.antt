@@ -1,0 +1,13 @@
+pub mod MoreLists
+pub mod SrlgLengths
+pub mod Lengths
+pub mod Passed
+pub mod SetValues
+pub mod Sides
+pub mod SideA
+pub mod SideB
+pub mod AcceptedLinks
+pub mod MetByALink
+pub mod Bounds
+pub mod Demands
+pub mod ExactlyOne

@@ -1,0 +1,17 @@
+-- `masks::has` meets its contract.
+-- Assumes nothing.
+use mathlib.Core.Path.{refl}
+use Rattle.linkstate.specs.Masks.{inNumber}
+use borrow.Author.Needs.{needs}
+use Rattle.masks.proofs.has.Statement.{statement}
+use Rattle.masks.proofs.has.Tie as tie
+
+shr-result : tie.Need-shr-result
+shr-result c = search needs
+
+returns : tie.Need-returns
+unfolding inNumber
+returns c = refl
+
+pub has-spec : {M : Type 1} → statement M
+has-spec = tie.close (tie.spec shr-result returns)

@@ -1,0 +1,17 @@
+pub mod ListLaws
+pub mod Sums
+pub mod Sizes
+pub mod MaskLaws
+pub mod KindLaws
+pub mod RunLaws
+pub mod Groups
+pub mod ExportSize
+pub mod Shortest
+pub mod Bounds
+pub mod ReadBack
+pub mod RoundTrip
+pub mod Acceptance
+pub mod SrlgLaws
+pub mod Reader
+pub mod ExportRead
+pub mod Example
