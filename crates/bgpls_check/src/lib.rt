@@ -1,0 +1,165 @@
+// The checks of a BGP-LS run that anybody may have written.
+ghost use mathlib.Core.Path.{_≡_};
+ghost use mathlib.Core.Bool.{_&&_};
+ghost use Prim.Native.Nat.{_+_, _≤_, _<_};
+ghost use lib.ListN.{length};
+ghost use Rattle.linkstate.specs.Replies.{fault, runBgpLs};
+ghost use Rattle.linkstate.specs.Elements.{elements, faults};
+ghost use Rattle.linkstate.specs.Kinds.{wrongInside};
+ghost use Rattle.linkstate.specs.BgpLs.{sabmLength, udabmLength, isMaskLength, checkInner, checkAsla, checkTop, runVerdict};
+ghost use Rattle.replies.specs.Told.{toldChecked};
+ghost use Rattle.bgpls_check.specs.Framing.{frameAt};
+use kinds::Kind;
+use kinds::classify_code;
+use kinds::fits;
+use octets::read16;
+use replies::Checked;
+use replies::Run;
+use replies::refuse_at;
+use replies::refuse_call;
+
+// The element at a position of its list: cut off, or whole, with its type and the length of its value.
+pub enum Frame {
+    Cut,
+    Whole { code: usize, len: usize },
+}
+
+pub fn read_frame(s: &[u8], at: usize) -> Frame
+    requires { ⌜ at ≤ length (now s) ⌝ }
+    ensures { λ r. ⌜ r ≡ frameAt (now (s .entry)) at ⌝ }
+{
+    let rest = s.len() - at;
+    if rest < 4 {
+        return Frame::Cut;
+    }
+    let code = read16(s, at);
+    let len = read16(s, at + 2);
+    if rest - 4 < len {
+        return Frame::Cut;
+    }
+    Frame::Whole { code, len }
+}
+
+// A refusal at an element of the run.
+fn refuse(number: u8, offset: usize) -> Checked
+    ensures { λ r. ⌜ toldChecked r ≡ fault number runBgpLs offset ⌝ }
+{
+    Checked::Refused(refuse_at(number, Run::BgpLs, offset))
+}
+
+// Whether a value of n bytes is wrong for its code inside a 1122, where the link's kinds are unknown.
+fn wrong_inside(code: usize, n: usize) -> bool
+    ensures { λ r. ⌜ r ≡ wrongInside code n ⌝ }
+{
+    let rule = classify_code(code);
+    let kind = rule.kind;
+    let size = rule.size;
+    let wrong = !fits(size, n);
+    match kind {
+        Kind::Link(_) => false,
+        _ => wrong,
+    }
+}
+
+// The inner elements of a 1122, the first of which is at the offset `base` of the run.
+pub fn check_inner(s: &[u8], base: usize) -> Checked
+    requires { ⌜ base + length (now s) ≤ 524288 ⌝ }
+    ensures { λ r. ⌜ toldChecked r ≡ faults runBgpLs checkInner (elements 2 base (now (s .entry))) ⌝ }
+{
+    let mut at = 0;
+    while at < s.len() {
+        let offset = base + at;
+        let Frame::Whole { code, len } = read_frame(s, at) else {
+            return refuse(3, offset);
+        };
+        if wrong_inside(code, len) {
+            return refuse(4, offset);
+        }
+        at = at + 4 + len;
+    }
+    Checked::Accepted
+}
+
+// The lengths of the two masks of a 1122, as sent.
+pub struct AslaHeader {
+    pub standard: usize,
+    pub user: usize,
+}
+
+pub fn read_asla_header(v: &[u8]) -> AslaHeader
+    requires { ⌜ 4 ≤ length (now v) ⌝ }
+    ensures { λ r. ⌜ (r .standard ≡ sabmLength (now (v .entry))) × (r .user ≡ udabmLength (now (v .entry))) × (r .standard < 256) × (r .user < 256) ⌝ }
+{
+    let standard = v[0] as usize;
+    let user = v[1] as usize;
+    AslaHeader { standard, user }
+}
+
+fn is_mask_length(n: usize) -> bool
+    ensures { λ r. ⌜ r ≡ isMaskLength n ⌝ }
+{
+    (n == 0) | (n == 4) | (n == 8)
+}
+
+// Whether a 1122 with these mask lengths is not ignored.
+pub fn not_ignored(h: AslaHeader) -> bool
+    ensures { λ r. ⌜ r ≡ isMaskLength (h .standard) && isMaskLength (h .user) ⌝ }
+{
+    is_mask_length(h.standard) & is_mask_length(h.user)
+}
+
+// The value of a 1122 whose first byte is at the offset `at` of the run.
+pub fn check_asla(v: &[u8], at: usize) -> Checked
+    requires { ⌜ at + 4 + length (now v) ≤ 524288 ⌝ }
+    ensures { λ r. ⌜ toldChecked r ≡ checkAsla at (now (v .entry)) ⌝ }
+{
+    if v.len() < 4 {
+        return refuse(3, at);
+    }
+    let h = read_asla_header(v);
+    let first = 4 + h.standard + h.user;
+    if !not_ignored(h) {
+        return Checked::Accepted;
+    }
+    if v.len() < first {
+        return refuse(3, at);
+    }
+    check_inner(&v[first..], at + 4 + first)
+}
+
+// A top-level element by its type, its value and the offset of its first byte.
+fn check_top(v: &[u8], code: usize, at: usize) -> Checked
+    requires { ⌜ at + 4 + length (now v) ≤ 524288 ⌝ }
+    ensures { λ r. ⌜ toldChecked r ≡ checkTop at code (now (v .entry)) ⌝ }
+{
+    if code == 1122 {
+        return check_asla(v, at);
+    }
+    let size = classify_code(code).size;
+    if fits(size, v.len()) {
+        return Checked::Accepted;
+    }
+    refuse(4, at)
+}
+
+// A whole run.
+pub fn check_run(r: &[u8]) -> Checked
+    ensures { λ c. ⌜ toldChecked c ≡ runVerdict (now (r .entry)) ⌝ }
+{
+    if 524288 < r.len() {
+        return Checked::Refused(refuse_call(1));
+    }
+    let mut at = 0;
+    while at < r.len() {
+        let Frame::Whole { code, len } = read_frame(r, at) else {
+            return refuse(3, at);
+        };
+        let value = at + 4;
+        let next = value + len;
+        match check_top(&r[value..next], code, at) {
+            Checked::Accepted => at = next,
+            Checked::Refused(x) => return Checked::Refused(x),
+        }
+    }
+    Checked::Accepted
+}
