@@ -9,8 +9,8 @@ use lib.ListN.{length}
 use Rattle.linkstate.specs.Lists.{empty, put}
 use Rattle.linkstate.specs.Kinds.{Form, formOf, isCode}
 use Rattle.linkstate.specs.Replies.{Run, Verdict, accepted, refused, Refusal, refusalAt, fault, faultOfCall, refusedIf, _then_, unless, runA, Reading, count, Reply, absent, found, askRefused}
-use Rattle.linkstate.specs.Attributes.{readingAs}
-use Rattle.linkstate.specs.Questions.{srlgAnswer, unwritten}
+use Rattle.linkstate.specs.Attributes.{Attribute, readingAs, reading}
+use Rattle.linkstate.specs.Questions.{srlgAnswer, unwritten, firstOf}
 use Rattle.kinds.specs.declared.Kind.{Kind}
 use Rattle.kinds.specs.declared.Rule.{Rule}
 use Rattle.kinds.specs.Rules.{ruleOfCode, isKnown}
@@ -69,3 +69,15 @@ module _ (ns list : List ℕ) where
   pub srlgs-written : (after : List ℕ) → (length ns ≡ 0 → ⊥) → length ns ≤ length list → after ≡ put list 0 ns → record { reply = found (count (length ns)); list = after } ≡ srlgAnswer ns list
   unfolding srlgAnswer refusedIf unless
   srlgs-written after n h e = rw (something ns n, le-ltb (length list) (length ns) h, e)
+
+-- The reply of a kind is that of its first attribute, by its place.
+module _ (s : List ℕ) (run : Run) (k : ℕ) (ts : List Attribute) where
+  pub first-absent : ts ≡ [] → firstOf run ts ≡ rowAnswer s run k 0 0
+  unfolding firstOf rowAnswer
+  first-absent e = rw e
+
+  pub first-present : (t : Attribute) (us : List Attribute) → ts ≡ t ∷ us → t .code ≡ k → 0 < t .at
+      → readingAs (formOf k) run t ≡ readingAs (formOf k) run (standing s (t .at) (t .len)) → firstOf run ts ≡ rowAnswer s run k (t .at) (t .len)
+  unfolding firstOf rowAnswer reading
+  first-present t us e c p h =
+      rw (e, ne-eqb (t .at) 0 (λ z. omega arith)) (ap found (ap (λ (x : ℕ). readingAs (formOf x) run t) c ∙ h))

@@ -1,14 +1,16 @@
 -- What each form asks of a length, and what it reads.
 use mathlib.Core.Path.{_≡_, refl, sym, ap, ap₂, _∙_, subst}
-use mathlib.Core.List.{List, _++_}
+use mathlib.Core.List.{List, _∷_, _++_}
 use Prim.Native.Nat.{ℕ, _+_, _≤_}
 use native.Mathlib.Omega.{arith}
 use lib.Ieee.{ofBits, binary32}
 use lib.ListN.{length, take, drop}
 use lib.Seq.{take-at, drop-at}
-use Rattle.linkstate.specs.Bytes.{number, bytesAt}
+use Rattle.linkstate.specs.Bytes.{number, numberFrom, bytesAt, words, distinct}
+use Rattle.linkstate.specs.Kinds as T
+use Rattle.linkstate.specs.Replies as R
 use Rattle.linkstate.specs.Replies.{Run, whole, pair, bandwidth, part, place}
-use Rattle.linkstate.specs.Attributes.{readingAs}
+use Rattle.linkstate.specs.Attributes.{Attribute, readingAs}
 use Rattle.octets.proofs.Laws.{bytesAt-add, length-bytesAt}
 use Rattle.kinds.specs.declared.Form.{Form}
 use Rattle.kinds.specs.declared.Form.the-variants.{WholeNumber, TwoNumbers, Float, PlaceAndLength, SrlgCount}
@@ -41,3 +43,17 @@ module _ (f : Form) (s : List ℕ) (run : Run) (at len : ℕ) where
   pub reads-part : f ≡ PlaceAndLength → part (place run at) len ≡ readingAs (toldForm f) run (standing s at len)
   unfolding readingAs standing
   reads-part e = rw e
+
+-- An attribute whose value is the run's own bytes, or these behind a zero, reads as what stands there.
+module _ (s : List ℕ) (run : Run) (t : Attribute) where
+  pub own-bytes : (f : T.Form) → t .value ≡ bytesAt s (t .at) (t .len) → readingAs f run t ≡ readingAs f run (standing s (t .at) (t .len))
+  unfolding readingAs standing
+  own-bytes T.wholeNumber e = ap (λ (v : List ℕ). whole (number v)) e
+  own-bytes T.twoNumbers e = ap (λ (v : List ℕ). pair (number (take 4 v)) (number (drop 4 v))) e
+  own-bytes T.float e = ap (λ (v : List ℕ). bandwidth (ofBits binary32 (number v))) e
+  own-bytes T.placeAndLength e = refl
+  own-bytes T.srlgCount e = ap (λ (v : List ℕ). R.count (length (distinct (words v)))) e
+
+  pub zero-in-front : t .value ≡ 0 ∷ bytesAt s (t .at) (t .len) → readingAs T.wholeNumber run t ≡ readingAs T.wholeNumber run (standing s (t .at) (t .len))
+  unfolding readingAs standing number numberFrom
+  zero-in-front e = ap (λ (v : List ℕ). whole (number v)) e
