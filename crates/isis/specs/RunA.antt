@@ -16,7 +16,7 @@ use Rattle.isis.specs.MaskHeader.{lFlag, headerLength, maskTooLong, lFor
 unfoldable pub listElements : ℕ → List ℕ → List Element
 listElements at v = elements 1 (at + 2 + headerLength v) (drop (headerLength v) v)
 
--- A4, A5. The check of an attribute: a known kind's length. An ASLA inside a list is unknown.
+-- A4, A5. The check of an attribute: a known kind's length; an ASLA inside a list is unknown.
 unfoldable pub checkAttribute : ℕ → ℕ → List ℕ → Verdict
 checkAttribute at t v = cond (wrongInA t (length v)) (fault 4 runA at) accepted
 
@@ -32,7 +32,7 @@ checkAsla at v =
 unfoldable pub checkA : ℕ → ℕ → List ℕ → Verdict
 checkA at t v = cond (eqb t 16) (checkAsla at v) (checkAttribute at t v)
 
--- K1, K3. An element as an attribute, with code 0 where its type is unknown. A TE metric gets a zero byte in front, as BGP-LS has it.
+-- K1, K3. An element as an attribute, with code 0 where its type is unknown, and with a zero byte in front of a TE metric, as BGP-LS has it.
 unfoldable pub attributesOf : Element → List Attribute
 attributesOf (element at t v) = attribute 1 at v (codeOfType t) (cond (eqb t 18) (0 ∷ v) v) ∷ []
 attributesOf (cut at) = []

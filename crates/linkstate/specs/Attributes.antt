@@ -34,7 +34,7 @@ unfoldable pub firstValue : List Attribute → List ℕ
 firstValue [] = []
 firstValue (t ∷ ts) = t .value
 
--- W5, L16. A kind's value, as BGP-LS value bytes: the first; for SRLG all. No bytes: absent.
+-- W5, L16. A kind's value, as BGP-LS value bytes, none where it is absent: the first; for SRLG all.
 unfoldable pub valueOf : ℕ → List Attribute → List ℕ
 valueOf k ts = cond (eqb k 1096) (bytesOfWords (srlgs ts)) (firstValue (ofKind k ts))
 

@@ -82,7 +82,7 @@ unfoldable pub runSide : List ℕ → Side
 runSide r = record { legacy = topLevel r; live = aslas r }
 
 -- L9, L10, L13. What questions to a run find: at the top level the bandwidths and RSVP-TE's kinds; for another application the 1122s that name it, else
--- the general ones. RSVP-TE is named by none of them.
+-- the general ones; RSVP-TE is named by none of them.
 unfoldable pub runSource : List ℕ → Source
 runSource r =
     record {

@@ -11,8 +11,8 @@ use Rattle.linkstate.specs.Masks.{others}
 use Rattle.linkstate.specs.Meaning.{Meaning}
 use Rattle.linkstate.specs.Export.{bytesOf, present, topValue}
 
--- The values of a set: each has a right length, SRLGs ascend without repeats, and together their TLVs have at most 4,000 bytes. So every length fits
--- 16 bits, and an export, of at most 129 such sets, is within the reader's 524,288.
+-- The values of a set: each has a right length, SRLGs ascend without repeats, and together their TLVs have at most 4,000 bytes, so that every
+-- length fits 16 bits and an export, of at most 129 such sets, is within the reader's 524,288.
 pub record Values (ks : List ℕ) (f : ℕ → List ℕ) : Type 0 where
   pub right : (k : ℕ) → member k ks ≡ true → empty (f k) ≡ false → wrongAtTop k (length (f k)) ≡ false
   pub canonical : bytesOfWords (distinct (words (f 1096))) ≡ f 1096
