@@ -5,6 +5,8 @@ use Prim.Native.Nat.{ℕ}
 use lib.ListN.{replicate}
 use Rattle.linkstate.specs.Replies.{Verdict, accepted, fault, faultOfCall, runA, runB, Reply, absent, found, whole, count, listed}
 use Rattle.linkstate.specs.Questions.{Subject, generally, standardNo, userNo, ask, listNamed}
+use Rattle.linkstate.specs.Meaning.{meaning}
+use Rattle.linkstate.specs.Export.{export}
 use Rattle.isis.specs.Link.{linkVerdict, linkSource}
 use Rattle.isis.specs.Starred.{M, S, G, Z}
 use Rattle.isis.proofs.Computing.{computing}
@@ -93,3 +95,12 @@ pair-identifies = refl
 named-on-either-side : listNamed (linkSource (Z ++ (0x10 ∷ 0x03 ∷ 0x00 ∷ 0x01 ∷ 0x80 ∷ [])) (srPolicySrlg 7 ++ rsvpTeEmpty) []) ≡ listed 2 1
 unfolding computing tlv238 idLocal srPolicySrlg rsvpTeEmpty
 named-on-either-side = refl
+
+-- RFC 9294 section 4.1: an ASLA for S, F and X, general SRLGs, and SRLGs for X. S and F get the general SRLGs and share a TLV; X has its own.
+illustration :
+    export (meaning (linkSource (0x10 ∷ 0x08 ∷ 0x01 ∷ 0x00 ∷ 0x70 ∷ 0x12 ∷ 0x03 ∷ 0x00 ∷ 0x00 ∷ 0x0A ∷ []) (generalSrlg 5 ++ tlv238 25 (0x01 ∷ 0x00 ∷ 0x10 ∷ 10 ∷ idLocal ++ (0 ∷ 0 ∷ 0 ∷ 6 ∷ []))) []))
+    ≡ (0x04 ∷ 0x62 ∷ 0 ∷ 12 ∷ 0 ∷ 0 ∷ 0 ∷ 0 ∷ 0x04 ∷ 0x48 ∷ 0 ∷ 4 ∷ 0 ∷ 0 ∷ 0 ∷ 5 ∷ [])
+    ++ (0x04 ∷ 0x62 ∷ 0 ∷ 24 ∷ 4 ∷ 0 ∷ 0 ∷ 0 ∷ 0x60 ∷ 0 ∷ 0 ∷ 0 ∷ 0x04 ∷ 0x44 ∷ 0 ∷ 4 ∷ 0 ∷ 0 ∷ 0 ∷ 10 ∷ 0x04 ∷ 0x48 ∷ 0 ∷ 4 ∷ 0 ∷ 0 ∷ 0 ∷ 5 ∷ [])
+    ++ (0x04 ∷ 0x62 ∷ 0 ∷ 24 ∷ 4 ∷ 0 ∷ 0 ∷ 0 ∷ 0x10 ∷ 0 ∷ 0 ∷ 0 ∷ 0x04 ∷ 0x44 ∷ 0 ∷ 4 ∷ 0 ∷ 0 ∷ 0 ∷ 10 ∷ 0x04 ∷ 0x48 ∷ 0 ∷ 4 ∷ 0 ∷ 0 ∷ 0 ∷ 6 ∷ [])
+unfolding computing tlv238 idLocal generalSrlg
+illustration = refl

@@ -1,0 +1,69 @@
+// The steps that every question shares, whatever it is put to: the question's own refusals, the reply of a value by its place, and that of SRLGs.
+ghost use mathlib.Core.Path.{_≡_};
+ghost use mathlib.Core.Bool.{not};
+ghost use Prim.Native.Nat.{_+_, _≤_};
+ghost use lib.ListN.{length};
+ghost use Rattle.linkstate.specs.Kinds.{isCode, formOf};
+ghost use Rattle.linkstate.specs.Replies.{refusedIf, _then_};
+ghost use Rattle.linkstate.specs.Questions.{numberTooHigh, srlgAnswer};
+ghost use Rattle.replies.specs.Told.{toldRun, toldAnswer, toldAsked, toldChecked, subjectOf};
+ghost use Rattle.answering.specs.Rows.{ReadableRow, rowAnswer};
+use kinds::Kind;
+use replies::Answer;
+use replies::Checked;
+use replies::Reading;
+use replies::Run;
+use replies::Subject;
+
+// Whether a code is one of the fourteen.
+pub fn is_code(code: usize) -> bool
+    ensures { λ r. ⌜ r ≡ isCode code ⌝ }
+{
+    let kind = kinds::classify_code(code).kind;
+    match kind {
+        Kind::Link(_) => true,
+        Kind::Application(_) => true,
+        Kind::Srlg => true,
+        Kind::Asla => false,
+        Kind::Unknown => false,
+    }
+}
+
+// The refusals of a question for its own sake: 6, then 7.
+pub fn check_question(whom: Subject, code: usize) -> Checked
+    ensures { λ r. ⌜ toldChecked r ≡ (refusedIf (numberTooHigh (subjectOf whom)) 6 then refusedIf (not (isCode code)) 7) ⌝ }
+{
+    if replies::number_too_high(whom) {
+        return Checked::Refused(replies::refuse_call(6));
+    }
+    if !is_code(code) {
+        return Checked::Refused(replies::refuse_call(7));
+    }
+    Checked::Accepted
+}
+
+// The reply of a kind other than SRLG whose first value stands at a place of the run; place 0 says that there is none.
+pub fn answer_row(s: &[u8], run: Run, code: usize, place: usize, len: usize) -> Answer
+    requires { ⌜ ReadableRow (formOf code) (length (now s)) place len ⌝ }
+    ensures { λ r. ⌜ toldAnswer r ≡ rowAnswer (now (s .entry)) (toldRun run) code place len ⌝ }
+{
+    if place == 0 {
+        return Answer::Absent;
+    }
+    let form = kinds::form_of(code);
+    Answer::Found(readings::read_value(s, run, form, place, len))
+}
+
+// The reply of SRLG, from the different numbers, ascending: they go to the front of the lent list if they fit.
+pub fn answer_srlgs(ns: &[u32], list: &mut [u32]) -> Answer
+    ensures { λ r. ⌜ toldAsked r (now (list .exit)) ≡ srlgAnswer (now (ns .entry)) (now (list .entry)) ⌝ }
+{
+    if ns.len() == 0 {
+        return Answer::Absent;
+    }
+    if list.len() < ns.len() {
+        return Answer::Refused(replies::refuse_call(5));
+    }
+    srlg::copy_words(ns, list);
+    Answer::Found(Reading::Count(ns.len()))
+}
