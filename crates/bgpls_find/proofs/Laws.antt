@@ -161,10 +161,11 @@ module _ (set : Set) (r : List ℕ) (at : ℕ) where
       is-asla from h e k =
           let both = and-l (eqb t 1122 && notIgnored value) (chosenBy set (standardMask value) (userMask value)) k in
           let v = sound at t value element-passes (eqb-true t 1122 (and-l (eqb t 1122) (notIgnored value) both)) in
-          let m = v .masks (and-r (eqb t 1122) (notIgnored value) both) in
+          let l = and-r (eqb t 1122) (notIgnored value) both in
+          let m = v .masks l in
           let z = length-bytesAt r (at + 4) n (f .within) in
           let g = v .fixed in
-          record { behind = h; within = f .within; fixed = omega arith; masks = omega arith; passes = rest-passes; left = sym e ∙ aslas-turn ∙ rw k }
+          record { behind = h; within = f .within; fixed = omega arith; live = l; masks = omega arith; passes = rest-passes; left = sym e ∙ aslas-turn ∙ rw k }
 
 -- ---- the attributes of a list of elements, whose first byte is at an offset of the run
 

@@ -85,6 +85,7 @@ module _ (set : Set) (r : List ℕ) (from : ℕ) where
       let none = attributes-end set r (length r) (omega arith) in
       record {
         on = h;
+        start = omega arith;
         order = omega arith;
         within = omega arith;
         passes = passes-end r (length r) (omega arith);
@@ -110,6 +111,7 @@ module _ (set : Set) (r : List ℕ) (from : ℕ) where
         let k : at + 4 + n - first ≡ length (drop h v) = omega (arith, length-drop h v) in
         record {
           on = omega arith;
+          start = omega arith;
           order = omega arith;
           within = w;
           passes = a .passes;

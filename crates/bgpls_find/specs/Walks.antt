@@ -48,6 +48,7 @@ pub record IsAsla (set : Set) (r : List ℕ) (from at n : ℕ) : Type 0 where
   pub behind : from ≤ at
   pub within : at + 4 + n ≤ length r
   pub fixed : 4 ≤ n
+  pub live : notIgnored (bytesAt r (at + 4) n) ≡ true
   pub masks : aslaHeader (bytesAt r (at + 4) n) ≤ n
   pub passes : Passes r (at + 4 + n)
   pub left : aslasFrom set r from ≡ advertisement at (bytesAt r (at + 4) n) ∷ aslasFrom set r (at + 4 + n)
@@ -59,6 +60,7 @@ NextAsla set r from Next.Absent = aslasFrom set r from ≡ []
 -- The next list of elements that a set has attributes in: its first byte, and the byte after it.
 pub record IsPart (set : Set) (r : List ℕ) (from first next : ℕ) : Type 0 where
   pub on : from < next
+  pub start : from ≤ first
   pub order : first ≤ next
   pub within : next ≤ length r
   pub passes : Passes r next
