@@ -1,0 +1,217 @@
+-- What one turn of a walk over a run does: to the 1122s of a set that are left, to the attributes, and to what is found.
+use mathlib.Core.Path.{_≡_, refl, sym, ap, ap₂, _∙_, subst}
+use mathlib.Core.Bool.{Bool, true, false, cond, _&&_, not}
+use mathlib.Core.List.{List, [], _∷_, _++_}
+use Prim.Native.Nat.{ℕ, _+_, _-_, _≤_, _<_}
+use native.Mathlib.Omega.{arith}
+use native.Mathlib.Nat.{add-sub-cancel-left}
+use borrow.Author.Tests.{ltb-false, eq-eqb, ne-eqb, eqb-true}
+use lib.Dec.{eqb, ltb}
+use lib.ListN.{length, take, drop, length-drop, drop-of-length-le}
+use lib.Seq.{length-take-le, take-length}
+use Rattle.linkstate.specs.Lists.{keep, each}
+use Rattle.linkstate.specs.Bytes.{bytesAt}
+use Rattle.linkstate.specs.Masks.{inMasks}
+use Rattle.linkstate.specs.Replies.{Verdict, accepted, fault, runBgpLs, _then_}
+use Rattle.linkstate.specs.Elements.{Element, element, cut, elements, faults}
+use Rattle.linkstate.specs.Attributes.{Attribute, attribute, ofKind}
+use Rattle.linkstate.specs.Sides.{Advertisement}
+use Rattle.linkstate.specs.BgpLs.{sabmLength, udabmLength, aslaHeader, notIgnored, checkAsla, checkTop, runVerdict, attributesOf, advertisement, advertisementsOf, innerElements}
+use Rattle.linkstate.proofs.WalkLaws.{left, typeAt, lengthAt, left-end, left-cut, left-whole, then-first, then-second, not-accepted}
+use Rattle.octets.proofs.Laws.{length-bytesAt, part-is}
+use Rattle.bgpls_check.specs.declared.Frame.the-variants.{Cut, Whole}
+use Rattle.bgpls_check.specs.Framing.{frameAt}
+use Rattle.bgpls_check.proofs.Laws.{IsWhole, is-cut, top-asla}
+use Rattle.rivals.proofs.RunLaws.{asla-checked}
+use Rattle.rivals.proofs.ListLaws.{and-l, and-r}
+use Rattle.bgpls_find.specs.declared.Set.{Set}
+use Rattle.bgpls_find.specs.declared.Set.the-variants.{General, Naming}
+use Rattle.bgpls_find.specs.declared.Found.{Found}
+use Rattle.bgpls_find.specs.declared.Found.the-variants.{At, Absent}
+use Rattle.bgpls_find.specs.Sets.{chosenBy, chosen, foundIn}
+use Rattle.bgpls_find.specs.Walks.{rest, Passes, aslasFrom, attributesFrom, standardMask, userMask, Sound, IsAsla}
+
+-- ---- the elements that are left
+
+module _ (r : List ℕ) (at : ℕ) where
+  rest-left : left 2 0 r at ≡ rest r at
+  rest-left = let z : 0 + at ≡ at = omega arith in ap (λ (i : ℕ). elements 2 i (drop at r)) z
+
+  pub rest-end : length r ≤ at → rest r at ≡ []
+  rest-end h = sym rest-left ∙ left-end 2 (omega arith) 0 r at h
+
+  pub rest-cut : at < length r → frameAt r at ≡ Cut → rest r at ≡ cut at ∷ []
+  rest-cut h f =
+      let z : 0 + at ≡ at = omega arith in
+      sym rest-left ∙ left-cut 2 (omega arith) 0 r at h (is-cut r at f) ∙ ap (λ (i : ℕ). cut i ∷ []) z
+
+  pub rest-whole : (t n : ℕ) → IsWhole r at t n → rest r at ≡ element at t (bytesAt r (at + 4) n) ∷ rest r (at + 4 + n)
+  rest-whole t n f =
+      let z : 0 + at ≡ at = omega arith in
+      let y : 0 + (at + 4 + n) ≡ at + 4 + n = omega arith in
+      sym rest-left
+      ∙ left-whole 2 (omega arith) 0 r at n (f .size) (f .within)
+      ∙ ap₂ (λ (e : Element) (es : List Element). e ∷ es)
+      (ap₂ (λ (i k : ℕ). element i k (bytesAt r (at + 4) n)) z (f .type))
+      (ap (λ (i : ℕ). elements 2 i (drop (at + 4 + n) r)) y)
+
+pub passes-end : (r : List ℕ) (at : ℕ) → length r ≤ at → Passes r at
+unfolding faults
+passes-end r at h = ap (faults runBgpLs checkTop) (rest-end r at h)
+
+-- ---- a 1122 that passed
+
+pub sound : (at t : ℕ) (v : List ℕ) → checkTop at t v ≡ accepted → t ≡ 1122 → Sound v
+unfolding checkAsla
+sound at t v h e = record { fixed = go (ltb (length v) 4) refl checked; masks = λ p. asla-checked at v p checked .0 }
+  where
+    checked : checkAsla at v ≡ accepted
+    checked = top-asla at t v e ∙ h
+
+    go : (b : Bool) → ltb (length v) 4 ≡ b
+        → cond b (fault 3 runBgpLs at)
+        (cond (not (notIgnored v)) accepted (cond (ltb (length v) (aslaHeader v)) (fault 3 runBgpLs at) (faults runBgpLs Rattle.linkstate.specs.BgpLs.checkInner (innerElements at v))))
+        ≡ accepted → 4 ≤ length v
+    go true f k = absurd (not-accepted 3 runBgpLs at k)
+    go false f k = ltb-false (length v) 4 f
+
+-- ---- the masks of a 1122 that has room for them
+
+module _ (v : List ℕ) (s u : ℕ) (e : s ≡ sabmLength v) (f : u ≡ udabmLength v) where
+  -- Whether the code's parts name an application.
+  pub names-part : (a : ℕ) → inMasks (take (4 + s - 4) (drop 4 v)) (take (4 + s + u - (4 + s)) (drop (4 + s) v)) a ≡ chosenBy (Naming a) (standardMask v) (userMask v)
+  unfolding chosenBy standardMask userMask
+  names-part a =
+      rw (add-sub-cancel-left 4 s, add-sub-cancel-left (4 + s) u)
+      (ap₂ (λ (x y : ℕ). inMasks (take x (drop 4 v)) (take y (drop (4 + x) v)) a) e f)
+
+  pub general-lengths : 4 + s + u ≤ length v → (eqb s 0 && eqb u 0) ≡ chosenBy General (standardMask v) (userMask v)
+  unfolding chosenBy standardMask userMask
+  general-lengths h =
+      ap₂ (λ (x y : ℕ). eqb x 0 && eqb y 0)
+      (e ∙ sym (length-take-le (sabmLength v) (drop 4 v) (omega (arith, length-drop 4 v))))
+      (f ∙ sym (length-take-le (udabmLength v) (drop (4 + sabmLength v) v) (omega (arith, length-drop (4 + sabmLength v) v))))
+
+-- ---- whether an element is taken, test by test
+
+module _ (set : Set) (t : ℕ) (v : List ℕ) where
+  abbrev pub Taken : Bool
+  Taken = eqb t 1122 && notIgnored v && chosenBy set (standardMask v) (userMask v)
+
+  pub not-asla : (t ≡ 1122 → ⊥) → false ≡ Taken
+  not-asla h = rw (ne-eqb t 1122 h)
+
+  pub not-live : t ≡ 1122 → notIgnored v ≡ false → false ≡ Taken
+  not-live h p = rw (eq-eqb t 1122 h, p)
+
+  pub by-set : t ≡ 1122 → notIgnored v ≡ true → (x : Set) → set ≡ x → chosenBy x (standardMask v) (userMask v) ≡ Taken
+  by-set h p x e = rw (eq-eqb t 1122 h, p, e)
+
+-- ---- a turn at a whole element
+
+module _ (set : Set) (r : List ℕ) (at : ℕ) where
+  pub aslas-end : length r ≤ at → aslasFrom set r at ≡ []
+  unfolding aslasFrom each keep
+  aslas-end h = ap (λ (es : List Element). keep (chosen set) (each advertisementsOf es)) (rest-end r at h)
+
+  pub aslas-cut : at < length r → frameAt r at ≡ Cut → aslasFrom set r at ≡ []
+  unfolding aslasFrom each keep advertisementsOf
+  aslas-cut h f = ap (λ (es : List Element). keep (chosen set) (each advertisementsOf es)) (rest-cut r at h f)
+
+  module _ (t n : ℕ) (f : IsWhole r at t n) where
+    abbrev value : List ℕ
+    value = bytesAt r (at + 4) n
+
+    abbrev taken : List ℕ → Bool
+    taken v = Taken set t v
+
+    pub aslas-turn : aslasFrom set r at ≡ cond (taken value) (advertisement at value ∷ aslasFrom set r (at + 4 + n)) (aslasFrom set r (at + 4 + n))
+    unfolding aslasFrom each keep advertisementsOf chosen advertisement standardMask userMask
+    aslas-turn = ap (λ (es : List Element). keep (chosen set) (each advertisementsOf es)) (rest-whole r at t n f) ∙ go (eqb t 1122 && notIgnored value)
+      where
+        others : List Advertisement
+        others = each advertisementsOf (rest r (at + 4 + n))
+
+        go : (b : Bool) → keep (chosen set) (cond b (advertisement at value ∷ []) [] ++ others)
+            ≡ cond (b && chosenBy set (standardMask value) (userMask value)) (advertisement at value ∷ keep (chosen set) others) (keep (chosen set) others)
+        go true = refl
+        go false = refl
+
+    -- What the code asks of the slice from at + 4 to at + 4 + n.
+    pub part-taken : (b : Bool) → b ≡ taken (take (at + 4 + n - (at + 4)) (drop (at + 4) r)) → taken value ≡ b
+    part-taken b e = ap taken (sym (part-is r (at + 4) n)) ∙ sym e
+
+    pub aslas-passed : taken value ≡ false → aslasFrom set r (at + 4 + n) ≡ aslasFrom set r at
+    aslas-passed e = sym (aslas-turn ∙ rw e)
+
+    module _ (p : Passes r at) where
+      pub element-passes : checkTop at t value ≡ accepted
+      unfolding faults
+      element-passes = then-first (checkTop at t value) (faults runBgpLs checkTop (rest r (at + 4 + n))) (sym (ap (faults runBgpLs checkTop) (rest-whole r at t n f)) ∙ p)
+
+      pub rest-passes : Passes r (at + 4 + n)
+      unfolding faults
+      rest-passes = then-second (checkTop at t value) (faults runBgpLs checkTop (rest r (at + 4 + n))) (sym (ap (faults runBgpLs checkTop) (rest-whole r at t n f)) ∙ p)
+
+      pub part-sound : t ≡ 1122 → Sound (take (at + 4 + n - (at + 4)) (drop (at + 4) r))
+      part-sound e = subst Sound (sym (part-is r (at + 4) n)) (sound at t value element-passes e)
+
+      -- the next 1122 of the set
+      pub is-asla : (from : ℕ) → from ≤ at → aslasFrom set r at ≡ aslasFrom set r from → taken value ≡ true → IsAsla set r from at n
+      is-asla from h e k =
+          let both = and-l (eqb t 1122 && notIgnored value) (chosenBy set (standardMask value) (userMask value)) k in
+          let v = sound at t value element-passes (eqb-true t 1122 (and-l (eqb t 1122) (notIgnored value) both)) in
+          let l = and-r (eqb t 1122) (notIgnored value) both in
+          let m = v .masks l in
+          let z = length-bytesAt r (at + 4) n (f .within) in
+          let g = v .fixed in
+          record { behind = h; within = f .within; fixed = omega arith; live = l; masks = omega arith; passes = rest-passes; left = sym e ∙ aslas-turn ∙ rw k }
+
+-- ---- the attributes of a list of elements, whose first byte is at an offset of the run
+
+module _ (base : ℕ) (s : List ℕ) (at : ℕ) where
+  abbrev pub attributesLeft : List Attribute
+  attributesLeft = each attributesOf (left 2 base s at)
+
+  pub attributes-end : length s ≤ at → attributesLeft ≡ []
+  unfolding each
+  attributes-end h = ap (each attributesOf) (left-end 2 (omega arith) base s at h)
+
+  pub attributes-cut : at < length s → frameAt s at ≡ Cut → attributesLeft ≡ []
+  unfolding each attributesOf
+  attributes-cut h f = ap (each attributesOf) (left-cut 2 (omega arith) base s at h (is-cut s at f))
+
+  pub attributes-turn : (t n : ℕ) → IsWhole s at t n
+      → attributesLeft ≡ attribute 2 (base + at) (bytesAt s (at + 4) n) t (bytesAt s (at + 4) n) ∷ each attributesOf (left 2 base s (at + 4 + n))
+  unfolding each attributesOf
+  attributes-turn t n f =
+      ap (each attributesOf) (left-whole 2 (omega arith) base s at n (f .size) (f .within))
+      ∙ ap (λ (k : ℕ). attribute 2 (base + at) (bytesAt s (at + 4) n) k (bytesAt s (at + 4) n) ∷ each attributesOf (left 2 base s (at + 4 + n))) (f .type)
+
+-- ---- the first of a kind
+
+module _ (base : ℕ) (s : List ℕ) (at k : ℕ) where
+  abbrev found : ℕ → Found
+  found i = foundIn (ofKind k (attributesLeft base s i))
+
+  pub first-end : length s ≤ at → Absent ≡ found at
+  unfolding foundIn ofKind keep
+  first-end h = sym (ap (λ (ts : List Attribute). foundIn (ofKind k ts)) (attributes-end base s at h))
+
+  pub first-cut : at < length s → frameAt s at ≡ Cut → Absent ≡ found at
+  unfolding foundIn ofKind keep
+  first-cut h f = sym (ap (λ (ts : List Attribute). foundIn (ofKind k ts)) (attributes-cut base s at h f))
+
+  module _ (t n : ℕ) (f : IsWhole s at t n) where
+    turn : found at ≡ foundIn (ofKind k (attribute 2 (base + at) (bytesAt s (at + 4) n) t (bytesAt s (at + 4) n) ∷ attributesLeft base s (at + 4 + n)))
+    turn = ap (λ (ts : List Attribute). foundIn (ofKind k ts)) (attributes-turn base s at t n f)
+
+    pub first-here : t ≡ k → At (base + (at + 4)) n ≡ found at
+    unfolding foundIn ofKind keep attribute
+    first-here e =
+        let z : base + (at + 4) ≡ base + at + 4 = omega arith in
+        sym (turn ∙ rw (eq-eqb k t (sym e)) (ap₂ At (sym z) (length-bytesAt s (at + 4) n (f .within))))
+
+    pub first-later : (t ≡ k → ⊥) → found (at + 4 + n) ≡ found at
+    unfolding ofKind keep attribute
+    first-later h = sym (turn ∙ rw (ne-eqb k t (λ e. h (sym e))))
