@@ -7,20 +7,23 @@ use native.Mathlib.Omega.{arith}
 use borrow.Author.Tests.{lt-ltb, le-ltb, ne-eqb}
 use lib.ListN.{length}
 use Rattle.linkstate.specs.Lists.{empty, put}
-use Rattle.linkstate.specs.Kinds.{Form, formOf, isCode}
+use Rattle.linkstate.specs.Kinds.{Form, formOf, isCode, isLinkCode}
 use Rattle.linkstate.specs.Replies.{Run, Verdict, accepted, refused, Refusal, refusalAt, fault, faultOfCall, refusedIf, _then_, unless, runA, Reading, count, Reply, absent, found, askRefused}
 use Rattle.linkstate.specs.Attributes.{Attribute, readingAs, reading}
 use Rattle.linkstate.specs.Questions.{srlgAnswer, unwritten, firstOf}
 use Rattle.kinds.specs.declared.Kind.{Kind}
 use Rattle.kinds.specs.declared.Rule.{Rule}
-use Rattle.kinds.specs.Rules.{ruleOfCode, isKnown}
-use Rattle.kinds.proofs.Laws.{code-known}
+use Rattle.kinds.specs.Rules.{ruleOfCode, isKnown, isLink}
+use Rattle.kinds.proofs.Laws.{code-known, code-link}
 use Rattle.readings.specs.Standing.{standing}
 use Rattle.answering.specs.Rows.{rowAnswer}
 
 -- Whether a code is known is told by its rule's kind.
 pub known-by-kind : (c : ℕ) (r : Rule) (k : Kind) → r ≡ ruleOfCode c → r .kind ≡ k → isKnown k ≡ isCode c
 known-by-kind c r k e h = ap isKnown (sym h) ∙ ap (λ (x : Rule). isKnown (x .kind)) e ∙ sym (code-known c)
+
+pub link-by-kind : (c : ℕ) (r : Rule) (k : Kind) → r ≡ ruleOfCode c → r .kind ≡ k → isLink k ≡ isLinkCode c
+link-by-kind c r k e h = ap isLink (sym h) ∙ ap (λ (x : Rule). isLink (x .kind)) e ∙ sym (code-link c)
 
 -- 6, then 7, then nothing.
 module _ (high known : Bool) where

@@ -3,7 +3,7 @@ ghost use mathlib.Core.Path.{_≡_};
 ghost use mathlib.Core.Bool.{not};
 ghost use Prim.Native.Nat.{_+_, _≤_};
 ghost use lib.ListN.{length};
-ghost use Rattle.linkstate.specs.Kinds.{isCode, formOf};
+ghost use Rattle.linkstate.specs.Kinds.{isCode, isLinkCode, formOf};
 ghost use Rattle.linkstate.specs.Replies.{refusedIf, _then_};
 ghost use Rattle.linkstate.specs.Questions.{numberTooHigh, srlgAnswer};
 ghost use Rattle.replies.specs.Told.{toldRun, toldAnswer, toldAsked, toldChecked, subjectOf};
@@ -24,6 +24,20 @@ pub fn is_code(code: usize) -> bool
         Kind::Link(_) => true,
         Kind::Application(_) => true,
         Kind::Srlg => true,
+        Kind::Asla => false,
+        Kind::Unknown => false,
+    }
+}
+
+// Whether a code is one of the link's three.
+pub fn is_link_code(code: usize) -> bool
+    ensures { λ r. ⌜ r ≡ isLinkCode code ⌝ }
+{
+    let kind = kinds::classify_code(code).kind;
+    match kind {
+        Kind::Link(_) => true,
+        Kind::Application(_) => false,
+        Kind::Srlg => false,
         Kind::Asla => false,
         Kind::Unknown => false,
     }

@@ -3,7 +3,7 @@
 use mathlib.Core.Path.{_≡_, refl, sym, ap, ap₂, _∙_, subst}
 use mathlib.Core.Bool.{Bool, true, false, cond, false≢true}
 use mathlib.Core.List.{List, [], _∷_, List·Memᴰ, List·Memᴰ·head}
-use Prim.Native.Nat.{ℕ, _+_}
+use Prim.Native.Nat.{ℕ, _+_, _<_}
 use native.Mathlib.Omega.{arith}
 use borrow.Author.Tests.{eqb-true, ltb-true, ltb-false}
 use lib.Dec.{eqb, ltb}
@@ -67,7 +67,7 @@ module _ (r : List ℕ) (k : ℕ) where
 -- ---- where a given attribute comes from
 
 -- The top of the run, or, for a kind of applications, one of its ASLAs.
-data From (r : List ℕ) (k : ℕ) (t : Attribute) : Type 0 where
+pub data From (r : List ℕ) (k : ℕ) (t : Attribute) : Type 0 where
   at-top : List·Memᴰ t (topLevel r) → From r k t
   in-asla : (d : Advertisement) → isLinkCode k ≡ false → List·Memᴰ d (aslas r) → List·Memᴰ t (d .attributes) → From r k t
 
@@ -96,7 +96,7 @@ module _ (r : List ℕ) (k : ℕ) {t : Attribute} where
       go false i = application-from n l i
   set-from (userNo n) l h = application-from (user n) l h
 
-  given-from : (whom : Subject) → List·Memᴰ t (given (runSource r) whom k) → From r k t
+  pub given-from : (whom : Subject) → List·Memᴰ t (given (runSource r) whom k) → From r k t
   unfolding given runSource
   given-from whom h = go (isLinkCode k) refl h
     where
@@ -107,16 +107,17 @@ module _ (r : List ℕ) (k : ℕ) {t : Attribute} where
 -- ---- what the checks say of it
 
 -- It stands in the run at its place.
-record Stands (r : List ℕ) (t : Attribute) : Type 0 where
-  bytes : bytesAt r (t .at) (t .len) ≡ t .value
-  len : t .len ≡ length (t .value)
+pub record Stands (r : List ℕ) (t : Attribute) : Type 0 where
+  pub bytes : bytesAt r (t .at) (t .len) ≡ t .value
+  pub len : t .len ≡ length (t .value)
+  pub placed : 0 < t .at
 
 -- The attributes of elements that stand in the run stand there.
 attribute-stands : (r : List ℕ) (at : ℕ) (s : List ℕ) → bytesAt r at (length s) ≡ s → {t : Attribute} → List·Memᴰ t (each attributesOf (elements 2 at s)) → Stands r t
 unfolding attribute
 attribute-stands r at s e i =
     let q = attribute-mem (elements 2 at s) i in
-    rw (q .4) (record { bytes = at-place 2 (omega arith) r at s e (q .0) (q .2) (q .1) (q .3); len = refl })
+    rw (q .4) (record { bytes = at-place 2 (omega arith) r at s e (q .0) (q .2) (q .1) (q .3); len = refl; placed = omega arith })
 
 whole-place : (r : List ℕ) → bytesAt r 0 (length r) ≡ r
 unfolding bytesAt
@@ -133,7 +134,7 @@ right-length true at h = not-refused _ h
 right-length false at h = refl
 
 module _ (r : List ℕ) (ok : Accepted (runSource r)) where
-  top-right : {t : Attribute} → List·Memᴰ t (topLevel r) → eqb (t .code) 1122 ≡ false → wrongAtTop (t .code) (length (t .value)) ≡ false
+  pub top-right : {t : Attribute} → List·Memᴰ t (topLevel r) → eqb (t .code) 1122 ≡ false → wrongAtTop (t .code) (length (t .value)) ≡ false
   unfolding topLevel checkTop attribute
   top-right {t} i n =
       let q = attribute-mem (elements 2 0 r) i in
@@ -141,7 +142,7 @@ module _ (r : List ℕ) (ok : Accepted (runSource r)) where
       let m : eqb (q .2) 1122 ≡ false = sym (ap (λ (u : Attribute). eqb (u .code) 1122) (q .4)) ∙ n in
       rw (q .4) (right-length (wrongAtTop (q .2) (length (q .1))) (q .0) (rw m at c))
 
-  inner-fits : {d : Advertisement} {t : Attribute} → List·Memᴰ d (aslas r) → List·Memᴰ t (d .attributes) → Stands r t × (wrongInside (t .code) (length (t .value)) ≡ false)
+  pub inner-fits : {d : Advertisement} {t : Attribute} → List·Memᴰ d (aslas r) → List·Memᴰ t (d .attributes) → Stands r t × (wrongInside (t .code) (length (t .value)) ≡ false)
   unfolding aslas checkTop checkInner attribute advertisement innerElements
   inner-fits {d} {t} i j =
       let q = asla-mem (elements 2 0 r) i in
@@ -168,7 +169,7 @@ module _ (r : List ℕ) (ok : Accepted (runSource r)) where
       go (in-asla a l i j) [] d =
           absurd (false≢true (sym (inner-fits i j .1) ∙ ap₂ (λ (x : ℕ) (v : List ℕ). wrongInside x (length v)) e d ∙ inside-bytes (code-mem k c) n l))
 
-  from-stands : (k : ℕ) {t : Attribute} → From r k t → Stands r t
+  pub from-stands : (k : ℕ) {t : Attribute} → From r k t → Stands r t
   from-stands k (at-top i) = top-stands r i
   from-stands k (in-asla d l i j) = inner-fits i j .0
 
@@ -222,17 +223,17 @@ module _ (r : List ℕ) (ok : Accepted (runSource r)) (whom : Subject) (n : numb
   unfolding value unless runSource attributes
   value-is = rw let-pass
 
-  of-kind : (t : Attribute) → eqb k 1096 ≡ false → List·Memᴰ t (ofKind k attributes) → Stands r t × (t .code ≡ k) × (empty (t .value) ≡ false)
+  pub of-kind : (t : Attribute) → eqb k 1096 ≡ false → List·Memᴰ t (ofKind k (given (runSource r) whom k)) → Stands r t × (t .code ≡ k) × (empty (t .value) ≡ false)
   unfolding ofKind attributes
   of-kind t d i =
-      let q = keep-mem (λ t. eqb k (t .code)) attributes i in
+      let q = keep-mem (λ t. eqb k (t .code)) (given (runSource r) whom k) i in
       let from = given-from r k whom (q .1) in
       let e : t .code ≡ k = sym (eqb-true k (t .code) (q .0)) in
       (from-stands r ok k from, e, has-bytes r ok k c d from e)
 
   tells : Tells r k (valueOf k attributes) list (answer runBgpLs k attributes list)
       × (cond (eqb k 1096) [] (bytesOfFirst r (ofKind k attributes)) ≡ cond (eqb k 1096) [] (valueOf k attributes))
-  unfolding valueOf answer srlgs
+  unfolding valueOf answer srlgs attributes
   tells = go (eqb k 1096) refl
     where
       go : (b : Bool) → eqb k 1096 ≡ b

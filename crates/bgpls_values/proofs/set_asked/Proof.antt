@@ -1,0 +1,60 @@
+-- The set that a question is about, subject by subject.
+use Rattle.bgpls_values.proofs.Laws.{asks-top, asks-general, asks-rsvp-te, asks-standard, asks-user, low-user}
+use native.Mathlib.Omega.{arith}
+use mathlib.Core.Path.{sym, _∙_}
+use borrow.Author.Needs.{needs}
+use Rattle.bgpls_values.proofs.set_asked.Statement.{statement}
+use Rattle.bgpls_values.proofs.set_asked.Tie as tie
+
+is-link-code-requires : tie.Need-is-link-code-requires
+is-link-code-requires c κs = search needs
+
+returns : tie.Need-returns
+returns c = let a = c .before .before .before .args in asks-top _ _ (a .whom) (sym (c .before .is-link-code .ensures) ∙ c .if1 .taken)
+
+enum-told : tie.Need-enum-told
+enum-told c = search needs
+
+enum-known-whom : tie.Need-enum-known-whom
+enum-known-whom c = search needs
+
+returns-2 : tie.Need-returns-2
+returns-2 c = let b = c .before .before .before .before in let a = b .before .before .before .args in asks-rsvp-te _ _ (a .whom) (sym (b .before .is-link-code .ensures) ∙ b .if1 .left) _ (c .before .before .whom .given .1) (c .if2 .taken)
+
+set-of-requires : tie.Need-set-of-requires
+set-of-requires c κs = search needs
+
+enum-known-whom-2 : tie.Need-enum-known-whom-2
+enum-known-whom-2 c = search needs
+
+add-set-of : tie.Need-add-set-of
+add-set-of c = let a = c .before .before .before .before .before .before in omega (arith, low-user (a .args .whom) _ (c .before .whom2 .given .1) (a .pre .1))
+
+set-of-requires-2 : tie.Need-set-of-requires-2
+set-of-requires-2 c κs = search needs
+
+returns-3 : tie.Need-returns-3
+returns-3 c = let a = c .before .before .before .before .before .args in asks-general _ _ (a .whom) (sym (c .before .before .before .is-link-code .ensures) ∙ c .before .before .if1 .left) (c .enum-told .given .1)
+
+returns-4 : tie.Need-returns-4
+returns-4 c = let b = c .before .before .before .before .before in let a = b .before .before .before .args in asks-standard _ _ (a .whom) (sym (b .before .is-link-code .ensures) ∙ b .if1 .left) _ _ (c .before .before .before .whom .given .1) (c .before .if2 .left) (c .set-of .ensures)
+
+returns-5 : tie.Need-returns-5
+returns-5 c = let b = c .before .before .before .before in let a = b .before .before .before .args in asks-user _ _ (a .whom) (sym (b .before .is-link-code .ensures) ∙ b .if1 .left) _ _ (c .before .before .whom2 .given .1) (c .set-of2 .ensures)
+
+pub set-asked-spec : {M : Type 1} → statement M
+set-asked-spec =
+    tie.close
+    (tie.spec
+    is-link-code-requires
+    returns
+    enum-told
+    enum-known-whom
+    returns-2
+    set-of-requires
+    enum-known-whom-2
+    add-set-of
+    set-of-requires-2
+    returns-3
+    returns-4
+    returns-5)
