@@ -55,21 +55,26 @@ pub fn header_length(h: Header) -> usize
     2 + h.standard + h.user
 }
 
-// What begins at a position of a list of elements: one that is cut off, or a whole one, by the number of its value bytes.
+// What begins at a position of a list of elements: nothing more, one that is cut off, or a whole one, by the number of its value bytes.
 pub enum Frame {
+    End,
     Cut,
     Whole(usize),
 }
 
 pub fn frame_at(s: &[u8], at: usize) -> Frame
-    requires { ⌜ at < length (now s) ⌝ }
+    requires { ⌜ at ≤ length (now s) ⌝ }
     ensures { λ r. ⌜ r ≡ frameAt (now (s .entry)) at ⌝ }
 {
-    if s.len() - at < 2 {
+    let left = s.len() - at;
+    if left < 2 {
+        if left == 0 {
+            return Frame::End;
+        }
         return Frame::Cut;
     }
     let n = s[at + 1] as usize;
-    if s.len() - at - 2 < n {
+    if left - 2 < n {
         return Frame::Cut;
     }
     Frame::Whole(n)
@@ -82,10 +87,60 @@ pub fn refused(number: u8, run: Run, at: usize) -> Checked
     Checked::Refused(replies::refuse_at(number, run, at))
 }
 
+// A length that values of each type below 40 may have, and mostly the only one: nearly every element passes by a look at it.
+const USUAL: [u8; 40] = [
+    0,
+    0,
+    0,
+    4,
+    0,
+    0,
+    0,
+    0,
+    0,
+    4,
+    4,
+    32,
+    0,
+    0,
+    4,
+    0,
+    0,
+    0,
+    3,
+    0,
+    0,
+    0,
+    0,
+    0,
+    0,
+    0,
+    0,
+    0,
+    0,
+    0,
+    0,
+    0,
+    0,
+    4,
+    8,
+    4,
+    4,
+    4,
+    4,
+    4,
+];
+
 // Whether the type is known and does not let a value have n bytes.
 fn wrong_length(t: u8, n: usize) -> bool
     ensures { λ r. ⌜ r ≡ wrongInA t n ⌝ }
 {
+    let i = t as usize;
+    if i < 40 {
+        if USUAL[i] as usize == n {
+            return false;
+        }
+    }
     let rule = kinds::classify_type(t);
     let size = rule.size;
     !kinds::fits(size, n)
@@ -97,16 +152,18 @@ pub fn check_attributes(s: &[u8], base: usize) -> Checked
     ensures { λ r. ⌜ toldChecked r ≡ faults runA checkAttribute (elements 1 base (now (s .entry))) ⌝ }
 {
     let mut at = 0;
-    while at < s.len() {
-        let Frame::Whole(n) = frame_at(s, at) else {
-            return refused(3, Run::A, base + at);
-        };
-        if wrong_length(s[at], n) {
-            return refused(4, Run::A, base + at);
+    loop {
+        match frame_at(s, at) {
+            Frame::End => return Checked::Accepted,
+            Frame::Cut => return refused(3, Run::A, base + at),
+            Frame::Whole(n) => {
+                if wrong_length(s[at], n) {
+                    return refused(4, Run::A, base + at);
+                }
+                at = at + 2 + n;
+            }
         }
-        at = at + 2 + n;
     }
-    Checked::Accepted
 }
 
 // An ASLA sub-TLV by its value; its first byte is at an offset of run A.
@@ -150,16 +207,18 @@ pub fn check_a(a: &[u8]) -> Checked
     ensures { λ r. ⌜ toldChecked r ≡ faults runA checkA (elements 1 0 (now (a .entry))) ⌝ }
 {
     let mut at = 0;
-    while at < a.len() {
-        let Frame::Whole(n) = frame_at(a, at) else {
-            return refused(3, Run::A, at);
-        };
-        let value = at + 2;
-        let end = value + n;
-        if let Checked::Refused(r) = check_element(a[at], &a[value..end], at) {
-            return Checked::Refused(r);
+    loop {
+        match frame_at(a, at) {
+            Frame::End => return Checked::Accepted,
+            Frame::Cut => return refused(3, Run::A, at),
+            Frame::Whole(n) => {
+                let value = at + 2;
+                let end = value + n;
+                if let Checked::Refused(r) = check_element(a[at], &a[value..end], at) {
+                    return Checked::Refused(r);
+                }
+                at = end;
+            }
         }
-        at = end;
     }
-    Checked::Accepted
 }

@@ -76,17 +76,17 @@ add-least c = omega (arith, c .shared-slice-known2 .given (c .before .before .he
 least-requires : tie.Need-least-requires
 least-requires c κs = search needs
 
-sub-read-identifiers : tie.Need-sub-read-identifiers
-sub-read-identifiers c = omega (arith, within c .0)
+sub-tally-identifiers : tie.Need-sub-tally-identifiers
+sub-tally-identifiers c = omega (arith, within c .0)
 
-part-read-identifiers-start : tie.Need-part-read-identifiers-start
-part-read-identifiers-start c = omega (arith, within c .0)
+part-tally-identifiers-start : tie.Need-part-tally-identifiers-start
+part-tally-identifiers-start c = omega (arith, within c .0)
 
-part-read-identifiers-end : tie.Need-part-read-identifiers-end
-part-read-identifiers-end c = omega (arith, within c .0)
+part-tally-identifiers-end : tie.Need-part-tally-identifiers-end
+part-tally-identifiers-end c = omega (arith, within c .0)
 
-read-identifiers-requires : tie.Need-read-identifiers-requires
-read-identifiers-requires c κs = (within (c .before) .2, omega (arith, within (c .before) .2))
+tally-identifiers-requires : tie.Need-tally-identifiers-requires
+tally-identifiers-requires c κs = within (c .before) .2
 
 identified-requires : tie.Need-identified-requires
 identified-requires c κs = search needs
@@ -97,7 +97,7 @@ returns-5 c = let k = c .before .before .before in
     let e = h .before .before .before .before .before .read-header .ensures .0 in
     λ at.
     c .identified .ensures
-    ∙ ap identifiedIn (c .before .read-identifiers .ensures .1)
+    ∙ ap identifiedIn (c .before .tally-identifiers .ensures)
     ∙ live-says _ at _ (sym (header-too-long _ _ e) ∙ sym (h .before .before .before .before .mask-too-long .ensures) ∙ h .before .before .before .if2 .left)
     (sym (header-nobody _ _ e) ∙ sym (h .before .before .l-for-nobody .ensures) ∙ h .before .if3 .left)
     (within k .1)
@@ -120,9 +120,9 @@ live-srlg-spec =
     cast-least
     add-least
     least-requires
-    sub-read-identifiers
-    part-read-identifiers-start
-    part-read-identifiers-end
-    read-identifiers-requires
+    sub-tally-identifiers
+    part-tally-identifiers-start
+    part-tally-identifiers-end
+    tally-identifiers-requires
     identified-requires
     returns-5)
