@@ -87,60 +87,10 @@ pub fn refused(number: u8, run: Run, at: usize) -> Checked
     Checked::Refused(replies::refuse_at(number, run, at))
 }
 
-// A length that values of each type below 40 may have, and mostly the only one: nearly every element passes by a look at it.
-const USUAL: [u8; 40] = [
-    0,
-    0,
-    0,
-    4,
-    0,
-    0,
-    0,
-    0,
-    0,
-    4,
-    4,
-    32,
-    0,
-    0,
-    4,
-    0,
-    0,
-    0,
-    3,
-    0,
-    0,
-    0,
-    0,
-    0,
-    0,
-    0,
-    0,
-    0,
-    0,
-    0,
-    0,
-    0,
-    0,
-    4,
-    8,
-    4,
-    4,
-    4,
-    4,
-    4,
-];
-
 // Whether the type is known and does not let a value have n bytes.
 fn wrong_length(t: u8, n: usize) -> bool
     ensures { λ r. ⌜ r ≡ wrongInA t n ⌝ }
 {
-    let i = t as usize;
-    if i < 40 {
-        if USUAL[i] as usize == n {
-            return false;
-        }
-    }
     let rule = kinds::classify_type(t);
     let size = rule.size;
     !kinds::fits(size, n)
