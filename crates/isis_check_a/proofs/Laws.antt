@@ -5,8 +5,8 @@ use mathlib.Core.Bool.{Bool, true, false, cond, _&&_}
 use mathlib.Core.List.{List, [], _∷_}
 use Prim.Native.Nat.{ℕ, _+_, _-_, _≤_, _<_}
 use native.Mathlib.Omega.{arith}
-use borrow.Author.Tests.{le-leb, lt-leb, leb-true, leb-false, lt-ltb, le-ltb, ne-eqb}
-use lib.Dec.{leb}
+use borrow.Author.Tests.{le-leb, lt-leb, leb-true, leb-false, lt-ltb, le-ltb, ltb-true, ltb-false, ne-eqb}
+use lib.Dec.{leb, ltb}
 use lib.ListN.{length, take, drop, getD, length-drop}
 use lib.Seq.{take-all}
 use Rattle.linkstate.specs.Bytes.{bytesAt}
@@ -24,8 +24,10 @@ use Rattle.isis.specs.RunA.{listElements, checkAttribute, checkAsla, checkA}
 use Rattle.isis_check_a.specs.declared.Frame.{Frame}
 use Rattle.isis_check_a.specs.declared.Frame.the-variants.{End, Cut, Whole}
 use Rattle.isis_check_a.specs.declared.Header.{Header}
+use Rattle.isis_check_a.specs.declared.Masks.{Masks}
+use Rattle.isis_check_a.specs.declared.Masks.the-variants as Masks
 use Rattle.isis_check_a.specs.Frames.{frameAt}
-use Rattle.isis_check_a.specs.Headers.{headerOf, tooLong, forNobody, bytesBefore}
+use Rattle.isis_check_a.specs.Headers.{headerOf, tooLong, forNobody, bytesBefore, masksIn}
 
 -- ---- framing
 
@@ -136,9 +138,42 @@ module _ (h : Header) (v : List ℕ) (e : h ≡ headerOf v) where
   unfolding headerLength
   header-bytes = ap bytesBefore e
 
+-- where its masks end in n bytes
+module _ (h : Header) (n : ℕ) where
+  pub masks-ignored : tooLong h ≡ true → Masks.Ignored ≡ masksIn h n
+  unfolding masksIn
+  masks-ignored t = rw t
+
+  pub masks-past : tooLong h ≡ false → n < bytesBefore h → Masks.Past ≡ masksIn h n
+  unfolding masksIn
+  masks-past t p = rw (t, lt-ltb n (bytesBefore h) p)
+
+  pub masks-end : tooLong h ≡ false → bytesBefore h ≤ n → Masks.End (bytesBefore h) ≡ masksIn h n
+  unfolding masksIn
+  masks-end t p = rw (t, le-ltb n (bytesBefore h) p)
+
+  -- and back, of the bytes v that have the header
+  module _ (v : List ℕ) (is : h ≡ headerOf v) where
+    abbrev Ends : Masks → Type 0
+    Ends Masks.Ignored = maskTooLong v ≡ true
+    Ends Masks.Past = (maskTooLong v ≡ false) × (n < headerLength v)
+    Ends (Masks.End e) = (maskTooLong v ≡ false) × (e ≡ headerLength v) × (e ≤ n)
+
+    pub masks-say : (m : Masks) → masksIn h n ≡ m → Ends m
+    unfolding masksIn
+    masks-say m e = subst Ends e (go (tooLong h) refl (ltb n (bytesBefore h)) refl)
+      where
+        go : (b : Bool) → tooLong h ≡ b → (c : Bool) → ltb n (bytesBefore h) ≡ c → Ends (cond b Masks.Ignored (cond c Masks.Past (Masks.End (bytesBefore h))))
+        go true t c p = sym (header-too-long h v is) ∙ t
+        go false t true p = (sym (header-too-long h v is) ∙ t, omega (arith, ltb-true n (bytesBefore h) p, header-bytes h v is))
+        go false t false p = (sym (header-too-long h v is) ∙ t, header-bytes h v is, ltb-false n (bytesBefore h) p)
+
 -- what follows an offset
 pub rest-is : (v : List ℕ) (n : ℕ) → n ≤ length v → take (length v - n) (drop n v) ≡ drop n v
 rest-is v n h = take-all (length v - n) (drop n v) (omega (arith, length-drop n v))
+
+pub rest-length : (v : List ℕ) (n : ℕ) → n ≤ length v → length (take (length v - n) (drop n v)) ≡ length v - n
+rest-length v n h = ap length (rest-is v n h) ∙ length-drop n v
 
 -- ---- an ASLA sub-TLV, check by check
 
@@ -157,19 +192,23 @@ module _ (at : ℕ) (v : List ℕ) where
       unfolding checkAsla
       asla-past p = rw (le-ltb (length v) 2 h, m, lt-ltb (length v) (headerLength v) p)
 
-      module _ (p : headerLength v ≤ length v) where
+      -- the list begins at this offset
+      module _ (list : ℕ) (is : list ≡ headerLength v) (p : list ≤ length v) where
         -- with L nothing else is read, whoever it names
         pub asla-l : lFlag v ≡ true → accepted ≡ checkAsla at v
         unfolding checkAsla
-        asla-l l = rw (le-ltb (length v) 2 h, m, le-ltb (length v) (headerLength v) p, l) (go (lForNobody v))
+        asla-l l = rw (le-ltb (length v) 2 h, m, le-ltb (length v) (headerLength v) (omega arith), l) (go (lForNobody v))
           where
             go : (b : Bool) → accepted ≡ cond b accepted accepted
             go true = refl
             go false = refl
 
-        pub asla-list : lFlag v ≡ false → faults runA checkAttribute (elements 1 (at + 2 + headerLength v) (drop (headerLength v) v)) ≡ checkAsla at v
+        pub asla-list : lFlag v ≡ false → faults runA checkAttribute (elements 1 (at + 2 + list) (take (length v - list) (drop list v))) ≡ checkAsla at v
         unfolding checkAsla lForNobody listElements
-        asla-list l = rw (le-ltb (length v) 2 h, m, le-ltb (length v) (headerLength v) p, l)
+        asla-list l =
+            ap (λ (s : List ℕ). faults runA checkAttribute (elements 1 (at + 2 + list) s)) (rest-is v list p)
+            ∙ ap (λ (n : ℕ). faults runA checkAttribute (elements 1 (at + 2 + n) (drop n v))) is
+            ∙ rw (le-ltb (length v) 2 h, m, le-ltb (length v) (headerLength v) (omega arith), l)
 
 -- ---- a sub-TLV
 

@@ -1,15 +1,14 @@
 // The checks of run A: framing, the mask header of an ASLA sub-TLV, and the lengths of attributes (document 01, "Advertisements in A").
 ghost use mathlib.Core.Path.{_≡_};
-ghost use mathlib.Core.Bool.{cond};
 ghost use Prim.Native.Nat.{_+_, _≤_, _<_};
 ghost use lib.ListN.{length};
-ghost use Rattle.linkstate.specs.Replies.{runA, fault, accepted};
+ghost use Rattle.linkstate.specs.Replies.{runA, fault};
 ghost use Rattle.linkstate.specs.Elements.{elements, faults};
 ghost use Rattle.linkstate.specs.Kinds.{wrongInA};
 ghost use Rattle.replies.specs.Told.{toldRun, toldChecked};
 ghost use Rattle.isis.specs.RunA.{checkAttribute, checkAsla, checkA};
 ghost use Rattle.isis_check_a.specs.Frames.{frameAt};
-ghost use Rattle.isis_check_a.specs.Headers.{headerOf, tooLong, forNobody, bytesBefore};
+ghost use Rattle.isis_check_a.specs.Headers.{headerOf, tooLong, forNobody, bytesBefore, masksIn};
 use replies::Checked;
 use replies::Run;
 
@@ -53,6 +52,30 @@ pub fn header_length(h: Header) -> usize
     ensures { λ r. ⌜ r ≡ bytesBefore h ⌝ }
 {
     2 + h.standard + h.user
+}
+
+// Where the masks end in a value: nowhere, since the advertisement is ignored; past the value's end; or at this offset.
+pub enum Masks {
+    Ignored,
+    Past,
+    End(usize),
+}
+
+// The masks of a header in a value of n bytes, its two length bytes among them.
+pub fn masks_within(h: Header, n: usize) -> Masks
+    requires { ⌜ (h .standard < 128) × (h .user < 128) ⌝ }
+    ensures { λ r. ⌜ r ≡ masksIn h n ⌝ }
+{
+    let end = header_length(h);
+    let ignored = mask_too_long(h);
+    let past = n < end;
+    if ignored {
+        return Masks::Ignored;
+    }
+    if past {
+        return Masks::Past;
+    }
+    Masks::End(end)
 }
 
 // What begins at a position of a list of elements: nothing more, one that is cut off, or a whole one, by the number of its value bytes.
@@ -116,7 +139,7 @@ pub fn check_attributes(s: &[u8], base: usize) -> Checked
     }
 }
 
-// An ASLA sub-TLV by its value; its first byte is at an offset of run A.
+// An ASLA sub-TLV by its value; its first byte is at an offset of run A. With L its list is not read, whoever it names.
 pub fn check_asla(v: &[u8], at: usize) -> Checked
     requires { ⌜ at + 2 + length (now v) < 18446744073709551616 ⌝ }
     ensures { λ r. ⌜ toldChecked r ≡ checkAsla at (now (v .entry)) ⌝ }
@@ -125,17 +148,17 @@ pub fn check_asla(v: &[u8], at: usize) -> Checked
         return refused(3, Run::A, at);
     }
     let h = read_header(v);
-    if mask_too_long(h) {
-        return Checked::Accepted;
+    match masks_within(h, v.len()) {
+        Masks::Ignored => return Checked::Accepted,
+        Masks::Past => return refused(3, Run::A, at),
+        Masks::End(list) => {
+            let l = h.l;
+            if l {
+                return Checked::Accepted;
+            }
+            return check_attributes(&v[list..], at + 2 + list);
+        }
     }
-    let list = header_length(h);
-    if v.len() < list {
-        return refused(3, Run::A, at);
-    }
-    if h.l {
-        return Checked::Accepted;
-    }
-    check_attributes(&v[list..], at + 2 + list)
 }
 
 // A sub-TLV of run A by its type and value.

@@ -11,6 +11,7 @@ ghost use Rattle.isis_check_b.specs.Identifiers.{knownOf, wrongIdentifie
 ghost use Rattle.isis_check_b.specs.Parts.{partsVerdict, Within};
 use isis_check_a::Frame;
 use isis_check_a::Header;
+use isis_check_a::Masks;
 use replies::Checked;
 use replies::Run;
 
@@ -175,19 +176,18 @@ pub fn check_srlg(value: &[u8], at: usize) -> Checked
     }
     let v = &value[7..];
     let h = isis_check_a::read_header(v);
-    if isis_check_a::mask_too_long(h) {
-        return Checked::Accepted;
+    match isis_check_a::masks_within(h, v.len() - 1) {
+        Masks::Ignored => return Checked::Accepted,
+        Masks::Past => return isis_check_a::refused(3, Run::B, at),
+        Masks::End(length_byte) => {
+            let list = length_byte + 1;
+            let n = v[length_byte] as usize;
+            if v.len() - list < n {
+                return isis_check_a::refused(3, Run::B, at);
+            }
+            return check_parts(v, h, list, list + n, at);
+        }
     }
-    let length_byte = isis_check_a::header_length(h);
-    if v.len() <= length_byte {
-        return isis_check_a::refused(3, Run::B, at);
-    }
-    let list = length_byte + 1;
-    let n = v[length_byte] as usize;
-    if v.len() - list < n {
-        return isis_check_a::refused(3, Run::B, at);
-    }
-    check_parts(v, h, list, list + n, at)
 }
 
 // A TLV of run B by its type and value.
@@ -235,21 +235,20 @@ fn least(x: usize, y: usize) -> usize
 pub fn live_srlg(v: &[u8]) -> bool
     ensures { λ r. ⌜ ((at : ℕ) → r ≡ liveSrlg at (now (v .entry))) ⌝ }
 {
-    if v.len() < 3 {
+    if v.len() < 2 {
         return false;
     }
     let h = isis_check_a::read_header(v);
-    if isis_check_a::mask_too_long(h) {
-        return false;
-    }
     if isis_check_a::l_for_nobody(h) {
         return false;
     }
-    let length_byte = isis_check_a::header_length(h);
-    if v.len() <= length_byte {
-        return false;
+    match isis_check_a::masks_within(h, v.len() - 1) {
+        Masks::Ignored => return false,
+        Masks::Past => return false,
+        Masks::End(length_byte) => {
+            let list = length_byte + 1;
+            let end = least(list + (v[length_byte] as usize), v.len());
+            return identified(tally_identifiers(&v[list..end]));
+        }
     }
-    let list = length_byte + 1;
-    let end = least(list + (v[length_byte] as usize), v.len());
-    identified(tally_identifiers(&v[list..end]))
 }
