@@ -20,8 +20,9 @@ knownOf t =
     (cond (eqb t 12) (known 16 16777216)
     (cond (eqb t 13) (known 16 4294967296) (known 0 0)))))
 
-unfoldable pub wrongBy : Known → ℕ → Bool
-wrongBy k n = not (eqb (k .weight) 0) && not (eqb n (k .length))
+-- "identifier length (type 4: 8 bytes; 6, 8: 4; 12, 13: 16)".
+unfoldable pub wrongIdentifier : ℕ → ℕ → Bool
+wrongIdentifier t n = any (λ q. eqb t (q .type) && not (eqb n (q .len))) knownIdentifiers
 
 -- The tally: each type's count is a digit to the base 256.
 unfoldable pub tallyOf : List Element → ℕ
