@@ -1,0 +1,195 @@
+-- Link identifiers: the code's classification against the definitions, the tally of types, and what a turn of the walk does to both.
+use mathlib.Core.Path.{_≡_, refl, sym, ap, ap₂, _∙_, subst}
+use mathlib.Core.Bool.{Bool, true, false, cond, _&&_, _||_, not}
+use mathlib.Core.List.{List, [], _∷_, map}
+use Prim.Native.Nat.{ℕ, zero, suc, pred, _+_, _-_, _*_, _/_, _%_, _≤_, _<_}
+use native.Mathlib.Omega.{arith}
+use borrow.Author.Tests.{eqb-true, ne-eqb, eq-eqb, lt-ltb, le-ltb}
+use lib.Dec.{eqb, ltb, leb}
+use lib.ListN.{length, take, drop, getD}
+use Rattle.linkstate.specs.Lists.{any, count}
+use Rattle.linkstate.specs.Bytes.{bytesAt}
+use Rattle.linkstate.specs.Replies.{Verdict, accepted, refused, fault, _then_, runB}
+use Rattle.linkstate.specs.Elements.{Element, element, cut, sizeOf, elementsAfter, elements, faults}
+use Rattle.linkstate.proofs.ElementLaws.{moved, elements-moved}
+use Rattle.linkstate.proofs.WalkLaws.{left, left-end, left-cut, left-whole, type-one, length-one}
+use Rattle.octets.proofs.Laws.{length-bytesAt}
+use Rattle.isis.specs.RunB.{Identifier, identifier, knownIdentifiers, checkIdentifier, isOfType, times, repeats, identifies}
+use Rattle.isis_check_a.specs.declared.Frame.the-variants.{Cut, Whole}
+use Rattle.isis_check_a.specs.Frames.{frameAt}
+use Rattle.isis_check_a.proofs.Laws.{cut-past, whole-within, turn-then}
+use Rattle.isis_check_b.specs.declared.Known.{Known}
+use Rattle.isis_check_b.specs.Identifiers.{knownOf, wrongBy, tallyOf, identifiedBy, identifiedIn}
+
+-- ---- the five types
+
+at-or : (P : ℕ → Type 0) (k : ℕ) → P k → (t : ℕ) → (eqb t k ≡ false → P t) → P t
+at-or P k p t f = go (eqb t k) refl
+  where
+    go : (b : Bool) → eqb t k ≡ b → P t
+    go true e = subst P (sym (eqb-true t k e)) p
+    go false e = f e
+
+by-type : (P : ℕ → Type 0) → P 4 → P 6 → P 8 → P 12 → P 13
+    → ((t : ℕ) → eqb t 4 ≡ false → eqb t 6 ≡ false → eqb t 8 ≡ false → eqb t 12 ≡ false → eqb t 13 ≡ false → P t) → (t : ℕ) → P t
+by-type P p4 p6 p8 p12 p13 other t =
+    at-or P 4 p4 t (λ n4. at-or P 6 p6 t (λ n6. at-or P 8 p8 t (λ n8. at-or P 12 p12 t (λ n12. at-or P 13 p13 t (λ n13. other t n4 n6 n8 n12 n13)))))
+
+or-false : (b : Bool) → b ≡ b || false
+or-false true = refl
+or-false false = refl
+
+-- A wrong length by the classification is one by the table.
+wrong-known : (n t : ℕ) → wrongBy (knownOf t) n ≡ any (λ q. eqb t (q .type) && not (eqb n (q .len))) knownIdentifiers
+unfolding wrongBy knownOf any knownIdentifiers identifier
+wrong-known n =
+    by-type (λ t. wrongBy (knownOf t) n ≡ any (λ q. eqb t (q .type) && not (eqb n (q .len))) knownIdentifiers)
+    (or-false (not (eqb n 8))) (or-false (not (eqb n 4))) (or-false (not (eqb n 4))) (or-false (not (eqb n 16))) (or-false (not (eqb n 16)))
+    (λ t n4 n6 n8 n12 n13. simp (n4, n6, n8, n12, n13))
+
+-- ---- counts
+
+-- One more identifier adds its weight.
+tally-element : (o : ℕ) (v : List ℕ) (es : List Element) (t : ℕ) → tallyOf (element o t v ∷ es) ≡ (knownOf t) .weight + tallyOf es
+unfolding tallyOf times count isOfType knownOf
+tally-element o v es =
+    by-type (λ t. tallyOf (element o t v ∷ es) ≡ (knownOf t) .weight + tallyOf es)
+    (omega arith) (omega arith) (omega arith) (omega arith) (omega arith)
+    (λ t n4 n6 n8 n12 n13. simp (n4, n6, n8, n12, n13) (omega arith))
+
+pub tally-nil : tallyOf [] ≡ 0
+unfolding tallyOf times count
+tally-nil = refl
+
+pub tally-cut : (o : ℕ) → tallyOf (cut o ∷ []) ≡ 0
+unfolding tallyOf times count isOfType
+tally-cut o = refl
+
+count-le : {A : Type 0} (p : A → Bool) (xs : List A) → count p xs ≤ length xs
+unfolding count
+count-le p [] = omega arith
+count-le p (x ∷ xs) = go (p x) (count-le p xs)
+  where
+    go : (b : Bool) → count p xs ≤ length xs → cond b (suc (count p xs)) (count p xs) ≤ suc (length xs)
+    go true h = omega arith
+    go false h = omega arith
+
+any-count : {A : Type 0} (p : A → Bool) (xs : List A) → any p xs ≡ ltb 0 (count p xs)
+unfolding any count
+any-count p [] = refl
+any-count p (x ∷ xs) = go (p x) (any-count p xs)
+  where
+    go : (b : Bool) → any p xs ≡ ltb 0 (count p xs) → b || any p xs ≡ ltb 0 (cond b (suc (count p xs)) (count p xs))
+    go true h = sym (lt-ltb 0 (suc (count p xs)) (omega arith))
+    go false h = h
+
+-- There are no more elements than bytes.
+elements-after-le : (w at k : ℕ) (s : List ℕ) → length (elementsAfter w at k s) ≤ length s
+unfolding elementsAfter
+elements-after-le w at k [] = omega arith
+elements-after-le w at (suc k) (b ∷ bs) = omega (arith, elements-after-le w (suc at) k bs)
+elements-after-le w at zero (b ∷ bs) = go _ (leb (sizeOf w (b ∷ bs)) (length (b ∷ bs))) (elements-after-le w (suc at) (pred (sizeOf w (b ∷ bs))) bs)
+  where
+    go : (e : Element) (t : Bool) → length (elementsAfter w (suc at) (pred (sizeOf w (b ∷ bs))) bs) ≤ length bs
+        → length (cond t (e ∷ elementsAfter w (suc at) (pred (sizeOf w (b ∷ bs))) bs) (cut at ∷ [])) ≤ suc (length bs)
+    go e true h = omega arith
+    go e false h = omega arith
+
+times-le : (k at : ℕ) (s : List ℕ) → times k (elements 1 at s) ≤ length s
+unfolding times elements
+times-le k at s = omega (arith, count-le (isOfType k) (elementsAfter 1 at 0 s), elements-after-le 1 at 0 s)
+
+-- A tally of a short list is small.
+pub tally-small : (at : ℕ) (s : List ℕ) → length s < 256 → tallyOf (elements 1 at s) < 1099511627776
+unfolding tallyOf
+tally-small at s h = omega (arith, times-le 4 at s, times-le 6 at s, times-le 8 at s, times-le 12 at s, times-le 13 at s)
+
+-- ---- what a tally says
+
+-- The digits of a tally are the counts.
+module _ (a b c d e n : ℕ) (is : n ≡ a + 256 * b + 65536 * c + 16777216 * d + 4294967296 * e) (small : (a < 256) × (b < 256) × (c < 256) × (d < 256) × (e < 256)) where
+  digits : identifiedIn n ≡ identifiedBy a b c d e
+  unfolding identifiedIn
+  digits =
+      let qb : n / 256 ≡ b + 256 * c + 65536 * d + 16777216 * e = omega arith in
+      let qc : n / 65536 ≡ c + 256 * d + 65536 * e = omega arith in
+      let qd : n / 16777216 ≡ d + 256 * e = omega arith in
+      let qe : n / 4294967296 ≡ e = omega arith in
+      let za : n % 256 ≡ a = omega arith in
+      let zb : n / 256 % 256 ≡ b = rw qb (omega arith) in
+      let zc : n / 65536 % 256 ≡ c = rw qc (omega arith) in
+      let zd : n / 16777216 % 256 ≡ d = rw qd (omega arith) in
+      let ze : n / 4294967296 % 256 ≡ e = rw qe (omega arith) in
+      rw (za, zb, zc, zd, ze)
+
+-- By the counts of its types a list repeats one, or identifies the link.
+counts-say : (es : List Element) → identifiedBy (times 4 es) (times 6 es) (times 8 es) (times 12 es) (times 13 es) ≡ not (repeats es) && identifies es
+unfolding identifiedBy repeats identifies times knownIdentifiers identifier any
+counts-say es =
+    rw (any-count (isOfType 4) es, any-count (isOfType 6) es, any-count (isOfType 8) es, any-count (isOfType 12) es, any-count (isOfType 13) es, ← or-false (ltb 1 (count (isOfType 13) es)))
+
+-- A short list's tally says whether its identifiers repeat, and whether they identify.
+pub tally-says : (at : ℕ) (s : List ℕ) → length s < 256 → identifiedIn (tallyOf (elements 1 at s)) ≡ not (repeats (elements 1 at s)) && identifies (elements 1 at s)
+unfolding tallyOf
+tally-says at s h =
+    digits (times 4 (elements 1 at s)) (times 6 (elements 1 at s)) (times 8 (elements 1 at s)) (times 12 (elements 1 at s)) (times 13 (elements 1 at s)) (tallyOf (elements 1 at s)) refl
+    (omega (arith, times-le 4 at s), omega (arith, times-le 6 at s), omega (arith, times-le 8 at s), omega (arith, times-le 12 at s), omega (arith, times-le 13 at s))
+    ∙ counts-say (elements 1 at s)
+
+-- Where no type is there twice, sums tell the pairs.
+both : (b c : ℕ) → b ≤ 1 → c ≤ 1 → (ltb 0 b && ltb 0 c) ≡ eqb (b + c) 2
+both zero c h g = rw (ne-eqb (0 + c) 2 (λ e. omega arith))
+both (suc b) zero h g = rw (lt-ltb 0 (suc b) (omega arith), ne-eqb (suc b + 0) 2 (λ e. omega arith))
+both (suc b) (suc c) h g = rw (lt-ltb 0 (suc b) (omega arith), lt-ltb 0 (suc c) (omega arith), eq-eqb (suc b + suc c) 2 (omega arith))
+
+some : (a : ℕ) → a ≤ 1 → ltb 0 a ≡ eqb a 1
+some zero h = refl
+some (suc a) h = rw (lt-ltb 0 (suc a) (omega arith), eq-eqb (suc a) 1 (omega arith))
+
+pub once : (a b c d e : ℕ) → a ≤ 1 → b ≤ 1 → c ≤ 1 → d ≤ 1 → e ≤ 1 → identifiedBy a b c d e ≡ eqb a 1 || eqb (b + c) 2 || eqb (d + e) 2
+unfolding identifiedBy
+once a b c d e ha hb hc hd he =
+    rw (le-ltb 1 a ha, le-ltb 1 b hb, le-ltb 1 c hc, le-ltb 1 d hd, le-ltb 1 e he, some a ha, both b c hb hc, both d e hd he)
+
+-- ---- one turn of the walk
+
+-- A refusal that stands stays, whatever follows.
+pub then-then : (u v w : Verdict) → (u then (v then w)) ≡ ((u then v) then w)
+unfolding _then_
+then-then accepted v w = refl
+then-then (refused r) v w = refl
+
+-- The end, and an element that is cut off.
+pub then-accepted : (u : Verdict) → (u then accepted) ≡ u
+unfolding _then_
+then-accepted accepted = refl
+then-accepted (refused r) = refl
+
+module _ (base : ℕ) (s : List ℕ) (at : ℕ) where
+  pub tally-end : length s ≤ at → tallyOf (left 1 base s at) ≡ 0
+  tally-end h = ap tallyOf (left-end 1 (omega arith) base s at h) ∙ tally-nil
+
+  pub tally-past : at < length s → frameAt s at ≡ Cut → tallyOf (left 1 base s at) ≡ 0
+  tally-past h e = ap tallyOf (left-cut 1 (omega arith) base s at h (omega (arith, cut-past s at e, length-one s at))) ∙ tally-cut (base + at)
+
+  module _ (n : ℕ) (e : frameAt s at ≡ Whole n) (k : Known) (is : k ≡ knownOf (getD s at 0)) where
+    -- the type's weight, and what is left behind it
+    pub tally-turn : tallyOf (left 1 base s at) ≡ k .weight + tallyOf (left 1 base s (at + 2 + n))
+    tally-turn =
+        ap tallyOf (left-whole 1 (omega arith) base s at n (length-one s at ∙ whole-within s at n e .0) (whole-within s at n e .1))
+        ∙ tally-element (base + at) (bytesAt s (at + 2) n) (left 1 base s (at + 2 + n)) _
+        ∙ ap (λ (q : Known). q .weight + tallyOf (left 1 base s (at + 2 + n))) (ap knownOf (type-one s at) ∙ sym is)
+
+    identifier-check : checkIdentifier (base + at) (getD s at 0) (bytesAt s (at + 2) n) ≡ cond (wrongBy k n) (fault 4 runB (base + at)) accepted
+    unfolding checkIdentifier
+    identifier-check = rw (length-bytesAt s (at + 2) n (whole-within s at n e .1), is, wrong-known n (getD s at 0))
+
+    -- the check so far, with this element's
+    pub check-turn : (u v x : Verdict) → v ≡ cond (wrongBy k n) (fault 4 runB (base + at)) accepted → x ≡ (u then v)
+        → (x then faults runB checkIdentifier (left 1 base s (at + 2 + n))) ≡ (u then faults runB checkIdentifier (left 1 base s at))
+    check-turn u v x f g =
+        ap (λ (w : Verdict). w then faults runB checkIdentifier (left 1 base s (at + 2 + n))) g
+        ∙ sym (then-then u v _)
+        ∙ ap (λ (w : Verdict). u then w)
+        (ap (λ (w : Verdict). w then faults runB checkIdentifier (left 1 base s (at + 2 + n))) (f ∙ sym identifier-check)
+        ∙ sym (turn-then runB checkIdentifier base s at (base + at) refl n e))

@@ -1,0 +1,134 @@
+-- A TLV 238, check by check: its parts, and what its identifiers decide.
+use mathlib.Core.Path.{_≡_, refl, sym, ap, ap₂, _∙_}
+use mathlib.Core.Bool.{Bool, true, false, cond, _&&_, _||_, not}
+use mathlib.Core.List.{List}
+use Prim.Native.Nat.{ℕ, _+_, _-_, _%_, _≤_, _<_}
+use native.Mathlib.Omega.{arith}
+use borrow.Author.Tests.{lt-ltb, le-ltb, ne-eqb}
+use lib.Dec.{eqb, ltb}
+use lib.ListN.{length, take, drop, getD, length-drop}
+use lib.Seq.{length-take-le}
+use Rattle.linkstate.specs.Replies.{Verdict, accepted, refused, Refusal, fault, _then_, runB}
+use Rattle.linkstate.specs.Elements.{Element, elements, faults}
+use Rattle.isis.specs.MaskHeader.{lFlag, headerLength, maskTooLong, lForNobody}
+use Rattle.isis.specs.RunB.{identifierBytes, identifiers, srlgValues, checkIdentifier, repeats, identifies, ignored, checkSrlg, checkB, afterNeighbour}
+use Rattle.isis_check_a.specs.declared.Header.{Header}
+use Rattle.isis_check_a.proofs.Laws.{header-l, rest-is}
+use Rattle.isis_check_b.specs.Identifiers.{tallyOf, identifiedIn}
+use Rattle.isis_check_b.specs.Parts.{partsVerdict, Within}
+use Rattle.isis_check_b.proofs.Laws.{tally-says}
+
+-- ---- the parts
+
+module _ (at : ℕ) (v : List ℕ) (h : Header) (from to : ℕ) (w : Within v h from to) where
+  -- the identifiers that the walk is lent
+  abbrev lent : List Element
+  lent = elements 1 (at + 9 + from) (take (to - from) (drop from v))
+
+  lent-is : lent ≡ identifiers at v
+  unfolding identifiers
+  lent-is =
+      let i : at + 9 + from ≡ at + 2 + 7 + headerLength v + 1 = omega (arith, w .list) in
+      let k : to - from ≡ identifierBytes v = omega (arith, w .values) in
+      ap₂ (λ (i : ℕ) (s : List ℕ). elements 1 i s) i (ap₂ (λ (k f : ℕ). take k (drop f v)) k (w .list))
+
+  pub lent-length : length (take (to - from) (drop from v)) ≡ to - from
+  lent-length = length-take-le (to - from) (drop from v) (omega (arith, w .fits, length-drop from v))
+
+  pub parts-refused : (r : Refusal) → refused r ≡ faults runB checkIdentifier lent → refused r ≡ partsVerdict at v
+  unfolding partsVerdict _then_
+  parts-refused r e = rw (sym (ap (faults runB checkIdentifier) lent-is) ∙ sym e)
+
+  module _ (p : accepted ≡ faults runB checkIdentifier lent) where
+    passed : faults runB checkIdentifier (identifiers at v) ≡ accepted
+    passed = sym (ap (faults runB checkIdentifier) lent-is) ∙ sym p
+
+    -- with L the values are not read, whether or not it is ignored
+    pub parts-l : h .l ≡ true → accepted ≡ partsVerdict at v
+    unfolding partsVerdict _then_
+    parts-l l = rw (passed, sym (header-l h v (w .header)) ∙ l) (go (ignored v (identifiers at v)))
+      where
+        go : (b : Bool) → accepted ≡ cond b accepted accepted
+        go true = refl
+        go false = refl
+
+    module _ (l : h .l ≡ false) where
+      no-l : lFlag v ≡ false
+      no-l = sym (header-l h v (w .header)) ∙ l
+
+      -- without L an advertisement is ignored where its identifiers do not identify the link
+      decided : (b : Bool) → identifiedIn (tallyOf lent) ≡ b → ignored v (identifiers at v) ≡ not b
+      unfolding ignored lForNobody
+      decided b t = rw (no-l) (go (repeats (identifiers at v)) (identifies (identifiers at v)) (sym (tally-says (at + 9 + from) (take (to - from) (drop from v)) (omega (arith, w .small, lent-length)) ∙ ap (λ (es : List Element). not (repeats es) && identifies es) lent-is) ∙ t))
+        where
+          go : (r i : Bool) → not r && i ≡ b → r || not i ≡ not b
+          go true i e = ap not e
+          go false i e = ap not e
+
+      pub parts-ignored : identifiedIn (tallyOf lent) ≡ false → accepted ≡ partsVerdict at v
+      unfolding partsVerdict _then_
+      parts-ignored t = rw (passed, decided false t)
+
+      rest : length (srlgValues v) ≡ length v - to
+      unfolding srlgValues
+      rest = let e : headerLength v + 1 + identifierBytes v ≡ to = omega (arith, w .list, w .values) in rw e (length-drop to v)
+
+      pub parts-values : identifiedIn (tallyOf lent) ≡ true → (length v - to) % 4 ≡ 0 → accepted ≡ partsVerdict at v
+      unfolding partsVerdict _then_
+      parts-values t e = rw (passed, decided true t, no-l, rest, e)
+
+      pub parts-rest : identifiedIn (tallyOf lent) ≡ true → ((length v - to) % 4 ≡ 0 → ⊥) → fault 4 runB at ≡ partsVerdict at v
+      unfolding partsVerdict _then_
+      parts-rest t e = rw (passed, decided true t, no-l, rest, ne-eqb ((length v - to) % 4) 0 e)
+
+-- ---- a TLV 238
+
+-- What follows the neighbour bytes, as it is lent.
+abbrev pub behind : List ℕ → List ℕ
+behind value = take (length value - 7) (drop 7 value)
+
+pub behind-length : (value : List ℕ) → length (behind value) ≡ length value - 7
+behind-length value = length-take-le (length value - 7) (drop 7 value) (omega (arith, length-drop 7 value))
+
+pub behind-is : (at : ℕ) (value : List ℕ) → 7 ≤ length value → checkSrlg at value (behind value) ≡ checkSrlg at value (afterNeighbour value)
+unfolding afterNeighbour
+behind-is at value h = ap (checkSrlg at value) (rest-is value 7 h)
+
+pub length-byte : (v : List ℕ) (n : ℕ) → n ≡ headerLength v → getD v n 0 ≡ identifierBytes v
+unfolding identifierBytes
+length-byte v n e = ap (λ (k : ℕ). getD v k 0) e
+
+module _ (at : ℕ) (value v : List ℕ) where
+  pub srlg-short : length value < 9 → fault 3 runB at ≡ checkSrlg at value v
+  unfolding checkSrlg
+  srlg-short h = rw (lt-ltb (length value) 9 h)
+
+  module _ (h : 9 ≤ length value) where
+    pub srlg-ignored : maskTooLong v ≡ true → accepted ≡ checkSrlg at value v
+    unfolding checkSrlg
+    srlg-ignored m = rw (le-ltb (length value) 9 h, m)
+
+    module _ (m : maskTooLong v ≡ false) where
+      pub srlg-no-list : length v < headerLength v + 1 → fault 3 runB at ≡ checkSrlg at value v
+      unfolding checkSrlg
+      srlg-no-list p = rw (le-ltb (length value) 9 h, m, lt-ltb (length v) (headerLength v + 1) p)
+
+      module _ (p : headerLength v + 1 ≤ length v) where
+        pub srlg-past : length v < headerLength v + 1 + identifierBytes v → fault 3 runB at ≡ checkSrlg at value v
+        unfolding checkSrlg
+        srlg-past q = rw (le-ltb (length value) 9 h, m, le-ltb (length v) (headerLength v + 1) p, lt-ltb (length v) (headerLength v + 1 + identifierBytes v) q)
+
+        pub srlg-parts : headerLength v + 1 + identifierBytes v ≤ length v → partsVerdict at v ≡ checkSrlg at value v
+        unfolding checkSrlg partsVerdict
+        srlg-parts q = rw (le-ltb (length value) 9 h, m, le-ltb (length v) (headerLength v + 1) p, le-ltb (length v) (headerLength v + 1 + identifierBytes v) q)
+
+-- ---- a TLV of run B
+
+module _ (at t : ℕ) (value : List ℕ) where
+  pub tlv-srlg : t ≡ 238 → checkSrlg at value (afterNeighbour value) ≡ checkB at t value
+  unfolding checkB
+  tlv-srlg e = rw e
+
+  pub tlv-other : (t ≡ 238 → ⊥) → accepted ≡ checkB at t value
+  unfolding checkB
+  tlv-other n = rw (ne-eqb t 238 n)

@@ -1,0 +1,224 @@
+// The checks of run B: TLVs 238, Application-Specific SRLG (document 01, "Advertisements in B").
+ghost use mathlib.Core.Path.{_≡_};
+ghost use mathlib.Core.Bool.{cond};
+ghost use Prim.Native.Nat.{ℕ, _+_, _/_, _%_, _≤_, _<_};
+ghost use lib.ListN.{length};
+ghost use Rattle.linkstate.specs.Replies.{runB, fault, accepted, _then_};
+ghost use Rattle.linkstate.specs.Elements.{elements, faults};
+ghost use Rattle.replies.specs.Told.{toldChecked};
+ghost use Rattle.isis.specs.RunB.{checkIdentifier, afterNeighbour, checkSrlg, checkB, liveSrlg};
+ghost use Rattle.isis_check_b.specs.Identifiers.{knownOf, wrongBy, tallyOf, identifiedBy, identifiedIn};
+ghost use Rattle.isis_check_b.specs.Parts.{partsVerdict, Within};
+use isis_check_a::Frame;
+use isis_check_a::Header;
+use replies::Checked;
+use replies::Run;
+
+// A type of link identifier: the length of its value, and its weight in a tally of types, 0 where the type is none of the five known ones.
+pub struct Known {
+    pub length: usize,
+    pub weight: u64,
+}
+
+fn known_identifier(t: u8) -> Known
+    ensures { λ r. ⌜ r ≡ knownOf t ⌝ }
+{
+    match t {
+        4 => Known {
+            length: 8,
+            weight: 1,
+        },
+        6 => Known {
+            length: 4,
+            weight: 256,
+        },
+        8 => Known {
+            length: 4,
+            weight: 65536,
+        },
+        12 => Known {
+            length: 16,
+            weight: 16777216,
+        },
+        13 => Known {
+            length: 16,
+            weight: 4294967296,
+        },
+        _ => Known {
+            length: 0,
+            weight: 0,
+        },
+    }
+}
+
+// An identifier's length; its first byte is at an offset of run B.
+fn check_length(k: Known, n: usize, at: usize) -> Checked
+    ensures { λ r. ⌜ toldChecked r ≡ cond (wrongBy k n) (fault 4 runB at) accepted ⌝ }
+{
+    if k.weight == 0 {
+        return Checked::Accepted;
+    }
+    if n == k.length {
+        return Checked::Accepted;
+    }
+    isis_check_a::refused(4, Run::B, at)
+}
+
+// The first refusal of two checks.
+fn first_of(x: Checked, y: Checked) -> Checked
+    ensures { λ r. ⌜ toldChecked r ≡ (toldChecked x then toldChecked y) ⌝ }
+{
+    match x {
+        Checked::Accepted => y,
+        Checked::Refused(r) => Checked::Refused(r),
+    }
+}
+
+// What a list of link identifiers shows: its first refusal, and how often each known type stands in it, a byte of the tally for each.
+pub struct Identifiers {
+    pub checked: Checked,
+    pub tally: u64,
+}
+
+// One walk, which goes on past a wrong length: whether an advertisement is live hangs on the types alone.
+pub fn read_identifiers(s: &[u8], base: usize) -> Identifiers
+    requires { ⌜ (length (now s) < 256) × (base + length (now s) < 18446744073709551616) ⌝ }
+    ensures { λ r. ⌜ (toldChecked (r .checked) ≡ faults runB checkIdentifier (elements 1 base (now (s .entry)))) × (r .tally ≡ tallyOf (elements 1 base (now (s .entry)))) ⌝ }
+{
+    let mut checked = Checked::Accepted;
+    let mut tally: u64 = 0;
+    let mut at = 0;
+    while at < s.len() {
+        let Frame::Whole(n) = isis_check_a::frame_at(s, at) else {
+            let last = first_of(checked, isis_check_a::refused(3, Run::B, base + at));
+            return Identifiers {
+                checked: last,
+                tally,
+            };
+        };
+        let known = known_identifier(s[at]);
+        checked = first_of(checked, check_length(known, n, base + at));
+        tally = tally + known.weight;
+        at = at + 2 + n;
+    }
+    Identifiers { checked, tally }
+}
+
+// By the counts of types 4, 6, 8, 12 and 13: none is there twice, and a 4, both 6 and 8, or both 12 and 13 are.
+fn identifies(a: u64, b: u64, c: u64, d: u64, e: u64) -> bool
+    ensures { λ r. ⌜ r ≡ identifiedBy a b c d e ⌝ }
+{
+    if 1 < a {
+        return false;
+    }
+    if 1 < b {
+        return false;
+    }
+    if 1 < c {
+        return false;
+    }
+    if 1 < d {
+        return false;
+    }
+    if 1 < e {
+        return false;
+    }
+    if a == 1 {
+        return true;
+    }
+    if b + c == 2 {
+        return true;
+    }
+    d + e == 2
+}
+
+// Whether the types of a tally identify the link.
+pub fn identified(tally: u64) -> bool
+    ensures { λ r. ⌜ r ≡ identifiedIn tally ⌝ }
+{
+    identifies(
+        tally % 256,
+        tally / 256 % 256,
+        tally / 65536 % 256,
+        tally / 16777216 % 256,
+        tally / 4294967296 % 256,
+    )
+}
+
+// The identifiers, then the SRLG values, of a TLV 238 whose first byte is at an offset of run B. v follows its neighbour bytes and has the header h;
+// the identifiers stand in it from `list` to `values`. With L, or where nothing identifies the link, the values are not read.
+fn check_parts(v: &[u8], h: Header, list: usize, values: usize, at: usize) -> Checked
+    requires { ⌜ Within (now v) h list values × (at + 9 + length (now v) < 18446744073709551616) ⌝ }
+    ensures { λ r. ⌜ toldChecked r ≡ partsVerdict at (now (v .entry)) ⌝ }
+{
+    let found = read_identifiers(&v[list..values], at + 9 + list);
+    let checked = found.checked;
+    if let Checked::Refused(r) = checked {
+        return Checked::Refused(r);
+    }
+    if h.l {
+        return Checked::Accepted;
+    }
+    if !identified(found.tally) {
+        return Checked::Accepted;
+    }
+    if (v.len() - values) % 4 != 0 {
+        return isis_check_a::refused(4, Run::B, at);
+    }
+    Checked::Accepted
+}
+
+// A TLV 238 by its value; its first byte is at an offset of run B.
+pub fn check_srlg(value: &[u8], at: usize) -> Checked
+    requires { ⌜ at + 2 + length (now value) < 18446744073709551616 ⌝ }
+    ensures { λ r. ⌜ toldChecked r ≡ checkSrlg at (now (value .entry)) (afterNeighbour (now (value .entry))) ⌝ }
+{
+    if value.len() < 9 {
+        return isis_check_a::refused(3, Run::B, at);
+    }
+    let v = &value[7..];
+    let h = isis_check_a::read_header(v);
+    if isis_check_a::mask_too_long(h) {
+        return Checked::Accepted;
+    }
+    let length_byte = isis_check_a::header_length(h);
+    if v.len() <= length_byte {
+        return isis_check_a::refused(3, Run::B, at);
+    }
+    let list = length_byte + 1;
+    let n = v[length_byte] as usize;
+    if v.len() - list < n {
+        return isis_check_a::refused(3, Run::B, at);
+    }
+    check_parts(v, h, list, list + n, at)
+}
+
+// A TLV of run B by its type and value.
+fn check_element(t: u8, value: &[u8], at: usize) -> Checked
+    requires { ⌜ at + 2 + length (now value) < 18446744073709551616 ⌝ }
+    ensures { λ r. ⌜ toldChecked r ≡ checkB at t (now (value .entry)) ⌝ }
+{
+    if t != 238 {
+        return Checked::Accepted;
+    }
+    check_srlg(value, at)
+}
+
+// Run B whole.
+pub fn check_b(b: &[u8]) -> Checked
+    ensures { λ r. ⌜ toldChecked r ≡ faults runB checkB (elements 1 0 (now (b .entry))) ⌝ }
+{
+    let mut at = 0;
+    while at < b.len() {
+        let Frame::Whole(n) = isis_check_a::frame_at(b, at) else {
+            return isis_check_a::refused(3, Run::B, at);
+        };
+        let value = at + 2;
+        let end = value + n;
+        if let Checked::Refused(r) = check_element(b[at], &b[value..end], at) {
+            return Checked::Refused(r);
+        }
+        at = end;
+    }
+    Checked::Accepted
+}
