@@ -83,6 +83,21 @@ any-count p (x ∷ xs) = go (p x) (any-count p xs)
     go true h = sym (lt-ltb 0 (suc (count p xs)) (omega arith))
     go false h = h
 
+-- Where a list of elements begins does not change its tally.
+count-moved : (k d : ℕ) (es : List Element) → count (isOfType k) (map (moved d) es) ≡ count (isOfType k) es
+unfolding count isOfType moved
+count-moved k d [] = refl
+count-moved k d (element at t v ∷ es) = ap (λ (n : ℕ). cond (eqb t k) (suc n) n) (count-moved k d es)
+count-moved k d (cut at ∷ es) = count-moved k d es
+
+pub tally-anywhere : (at : ℕ) (s : List ℕ) → tallyOf (elements 1 at s) ≡ tallyOf (elements 1 0 s)
+unfolding tallyOf times
+tally-anywhere at s =
+    let z : at ≡ at + 0 = omega arith in
+    ap (λ (i : ℕ). tallyOf (elements 1 i s)) z
+    ∙ ap tallyOf (elements-moved 1 at 0 s)
+    ∙ simp (count-moved 4 at (elements 1 0 s), count-moved 6 at (elements 1 0 s), count-moved 8 at (elements 1 0 s), count-moved 12 at (elements 1 0 s), count-moved 13 at (elements 1 0 s))
+
 -- There are no more elements than bytes.
 elements-after-le : (w at k : ℕ) (s : List ℕ) → length (elementsAfter w at k s) ≤ length s
 unfolding elementsAfter

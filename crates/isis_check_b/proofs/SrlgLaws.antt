@@ -1,22 +1,30 @@
 -- A TLV 238, check by check: its parts, and what its identifiers decide.
 use mathlib.Core.Path.{_≡_, refl, sym, ap, ap₂, _∙_}
 use mathlib.Core.Bool.{Bool, true, false, cond, _&&_, _||_, not}
-use mathlib.Core.List.{List}
+use mathlib.Core.List.{List, []}
+use mathlib.Core.Logic.{_⊎_, inl, inr}
 use Prim.Native.Nat.{ℕ, _+_, _-_, _%_, _≤_, _<_}
 use native.Mathlib.Omega.{arith}
 use borrow.Author.Tests.{lt-ltb, le-ltb, ne-eqb}
 use lib.Dec.{eqb, ltb}
-use lib.ListN.{length, take, drop, getD, length-drop}
-use lib.Seq.{length-take-le}
+use lib.ListN.{length, take, drop, getD, length-drop, drop-of-length-le}
+use lib.Seq.{length-take-le, take-all, take-nil}
+use Rattle.linkstate.specs.Lists.{any, count}
 use Rattle.linkstate.specs.Replies.{Verdict, accepted, refused, Refusal, fault, _then_, runB}
 use Rattle.linkstate.specs.Elements.{Element, elements, faults}
+use Rattle.linkstate.proofs.ElementLaws.{none-left}
 use Rattle.isis.specs.MaskHeader.{lFlag, headerLength, maskTooLong, lForNobody}
-use Rattle.isis.specs.RunB.{identifierBytes, identifiers, srlgValues, checkIdentifier, repeats, identifies, ignored, checkSrlg, checkB, afterNeighbour}
+use Rattle.isis.specs.RunB.{identifierBytes, identifiers, srlgValues, checkIdentifier, Identifier, identifier, knownIdentifiers, times, repeats, identifies, ignored, liveSrlg, checkSrlg, checkB, afterNeighbour}
 use Rattle.isis_check_a.specs.declared.Header.{Header}
 use Rattle.isis_check_a.proofs.Laws.{header-l, rest-is}
 use Rattle.isis_check_b.specs.Identifiers.{tallyOf, identifiedIn}
 use Rattle.isis_check_b.specs.Parts.{partsVerdict, Within}
-use Rattle.isis_check_b.proofs.Laws.{tally-says}
+use Rattle.isis_check_b.proofs.Laws.{tally-says, tally-anywhere}
+
+-- What repeats or does not identify is what does not identify once.
+judged : (r i b : Bool) → not r && i ≡ b → (r || not i) ≡ not b
+judged true i b e = ap not e
+judged false i b e = ap not e
 
 -- ---- the parts
 
@@ -59,11 +67,10 @@ module _ (at : ℕ) (v : List ℕ) (h : Header) (from to : ℕ) (w : Within v h 
       -- without L an advertisement is ignored where its identifiers do not identify the link
       decided : (b : Bool) → identifiedIn (tallyOf lent) ≡ b → ignored v (identifiers at v) ≡ not b
       unfolding ignored lForNobody
-      decided b t = rw (no-l) (go (repeats (identifiers at v)) (identifies (identifiers at v)) (sym (tally-says (at + 9 + from) (take (to - from) (drop from v)) (omega (arith, w .small, lent-length)) ∙ ap (λ (es : List Element). not (repeats es) && identifies es) lent-is) ∙ t))
-        where
-          go : (r i : Bool) → not r && i ≡ b → r || not i ≡ not b
-          go true i e = ap not e
-          go false i e = ap not e
+      decided b t =
+          rw no-l
+          (judged (repeats (identifiers at v)) (identifies (identifiers at v)) b
+          (sym (tally-says (at + 9 + from) (take (to - from) (drop from v)) (omega (arith, w .small, lent-length)) ∙ ap (λ (es : List Element). not (repeats es) && identifies es) lent-is) ∙ t))
 
       pub parts-ignored : identifiedIn (tallyOf lent) ≡ false → accepted ≡ partsVerdict at v
       unfolding partsVerdict _then_
@@ -132,3 +139,54 @@ module _ (at t : ℕ) (value : List ℕ) where
   pub tlv-other : (t ≡ 238 → ⊥) → accepted ≡ checkB at t value
   unfolding checkB
   tlv-other n = rw (ne-eqb t 238 n)
+
+-- ---- whether a 238 is live
+
+-- A part that is not longer than what is there is the same part.
+pub part-within : (v : List ℕ) (from n to : ℕ) → from ≤ length v → to ≤ from + n → to ≤ length v → (to ≡ from + n) ⊎ (to ≡ length v) → take (to - from) (drop from v) ≡ take n (drop from v)
+part-within v from n to h p q (inl e) = let z : to - from ≡ n = omega arith in ap (λ (k : ℕ). take k (drop from v)) z
+part-within v from n to h p q (inr e) = take-all (to - from) (drop from v) (omega (arith, length-drop from v)) ∙ sym (take-all n (drop from v) (omega (arith, length-drop from v)))
+
+pub part-short : (v : List ℕ) (from to n : ℕ) → to ≤ from + n → to ≤ length v → n < 256 → length (take (to - from) (drop from v)) < 256
+part-short v from to n h p q = omega (arith, length-take-le (to - from) (drop from v) (omega (arith, length-drop from v)))
+
+-- No identifiers, no link.
+none-identify : (m n : Bool) → false ≡ not (m || (n || repeats [] || not (identifies [])))
+unfolding repeats identifies times count any knownIdentifiers identifier
+none-identify true n = refl
+none-identify false true = refl
+none-identify false false = refl
+
+module _ (v : List ℕ) (at : ℕ) where
+  pub live-short : length v ≤ headerLength v → false ≡ liveSrlg at v
+  unfolding liveSrlg ignored identifiers
+  live-short h =
+      rw (drop-of-length-le v {i = headerLength v + 1} (omega arith), take-nil {A = ℕ} (identifierBytes v), none-left 1 (at + 2 + 7 + headerLength v + 1))
+      (none-identify (maskTooLong v) (lForNobody v))
+
+  pub live-too-long : maskTooLong v ≡ true → false ≡ liveSrlg at v
+  unfolding liveSrlg
+  live-too-long m = rw m
+
+  pub live-nobody : lForNobody v ≡ true → false ≡ liveSrlg at v
+  unfolding liveSrlg ignored
+  live-nobody n = rw n (go (maskTooLong v))
+    where
+      go : (m : Bool) → false ≡ not (m || true)
+      go true = refl
+      go false = refl
+
+  -- as the tally of the identifiers says
+  pub live-says : (s : List ℕ) → maskTooLong v ≡ false → lForNobody v ≡ false → s ≡ take (identifierBytes v) (drop (headerLength v + 1) v) → length s < 256
+      → identifiedIn (tallyOf (elements 1 0 s)) ≡ liveSrlg at v
+  unfolding liveSrlg ignored identifiers
+  live-says s m n e h =
+      let base : ℕ = at + 2 + 7 + headerLength v + 1 in
+      ap identifiedIn (sym (tally-anywhere base s))
+      ∙ rw (m, n, sym e)
+      (sym (ap not (judged (repeats (elements 1 base s)) (identifies (elements 1 base s)) _ (sym (tally-says base s h)))
+      ∙ not-not (identifiedIn (tallyOf (elements 1 base s)))))
+    where
+      not-not : (b : Bool) → not (not b) ≡ b
+      not-not true = refl
+      not-not false = refl

@@ -1,6 +1,7 @@
 // The checks of run B: TLVs 238, Application-Specific SRLG (document 01, "Advertisements in B").
 ghost use mathlib.Core.Path.{_≡_};
 ghost use mathlib.Core.Bool.{cond};
+ghost use mathlib.Core.Logic.{_⊎_};
 ghost use Prim.Native.Nat.{ℕ, _+_, _/_, _%_, _≤_, _<_};
 ghost use lib.ListN.{length};
 ghost use Rattle.linkstate.specs.Replies.{runB, fault, accepted, _then_};
@@ -221,4 +222,37 @@ pub fn check_b(b: &[u8]) -> Checked
         at = end;
     }
     Checked::Accepted
+}
+
+fn least(x: usize, y: usize) -> usize
+    ensures { λ r. ⌜ (r ≤ x) × (r ≤ y) × ((r ≡ x) ⊎ (r ≡ y)) ⌝ }
+{
+    if y < x {
+        return y;
+    }
+    x
+}
+
+// Whether a TLV 238 is live, by what follows its neighbour bytes: any bytes, also those of a TLV that the checks refuse.
+pub fn live_srlg(v: &[u8]) -> bool
+    ensures { λ r. ⌜ ((at : ℕ) → r ≡ liveSrlg at (now (v .entry))) ⌝ }
+{
+    if v.len() < 3 {
+        return false;
+    }
+    let h = isis_check_a::read_header(v);
+    if isis_check_a::mask_too_long(h) {
+        return false;
+    }
+    if isis_check_a::l_for_nobody(h) {
+        return false;
+    }
+    let length_byte = isis_check_a::header_length(h);
+    if v.len() <= length_byte {
+        return false;
+    }
+    let list = length_byte + 1;
+    let end = least(list + (v[length_byte] as usize), v.len());
+    let found = read_identifiers(&v[list..end], 0);
+    identified(found.tally)
 }

@@ -1,0 +1,40 @@
+// The checks of an IS-IS link: all that can refuse it, in document 01's order.
+ghost use mathlib.Core.Path.{_≡_};
+ghost use mathlib.Core.Bool.{_||_};
+ghost use lib.Dec.{ltb};
+ghost use Rattle.isis.specs.Link.{linkVerdict};
+ghost use Rattle.replies.specs.Told.{toldChecked};
+use replies::Checked;
+
+// Whether a run is longer than it may be, by the lengths of runs A, B and C.
+fn too_long(a: usize, b: usize, c: usize) -> bool
+    ensures { λ r. ⌜ r ≡ ltb 2048 a || ltb 2048 b || ltb 1024 c ⌝ }
+{
+    if 2048 < a {
+        return true;
+    }
+    if 2048 < b {
+        return true;
+    }
+    1024 < c
+}
+
+// Checks a link before anything is read from it. `a` holds the sub-TLVs of its neighbour entry, `b` its TLVs 238, `c` its legacy SRLG values.
+// Takes any bytes, walks each run once, and keeps nothing.
+// Accepted: every question to the link and its export can be answered from these runs.
+// Refused: the first fault by its number, 1 a run too long, 2 run C no multiple of 4 bytes, 3 an element, mask or list cut off, 4 a wrong length;
+// 1 and 2 name run A and offset 0, 3 and 4 the run and the first byte of the innermost element at fault.
+pub fn check_link(a: &[u8], b: &[u8], c: &[u8]) -> Checked
+    ensures { λ r. ⌜ toldChecked r ≡ linkVerdict (now (a .entry)) (now (b .entry)) (now (c .entry)) ⌝ }
+{
+    if too_long(a.len(), b.len(), c.len()) {
+        return Checked::Refused(replies::refuse_call(1));
+    }
+    if c.len() % 4 != 0 {
+        return Checked::Refused(replies::refuse_call(2));
+    }
+    if let Checked::Refused(r) = isis_check_a::check_a(a) {
+        return Checked::Refused(r);
+    }
+    isis_check_b::check_b(b)
+}
