@@ -165,7 +165,7 @@ how-decided true false true x e = rw e
 how-decided true false false x e = rw e
 how-decided false l n x e = rw e
 
-words-one : (at : ℕ) (s : List ℕ) → srlgWords (srlgAttribute at s ∷ []) ≡ words s
+pub words-one : (at : ℕ) (s : List ℕ) → srlgWords (srlgAttribute at s ∷ []) ≡ words s
 unfolding srlgWords srlgAttribute ofKind keep each
 words-one at s = append-nil (words s)
 
