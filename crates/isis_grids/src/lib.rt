@@ -7,8 +7,10 @@ ghost use Rattle.linkstate.specs.Lists.{each};
 ghost use Rattle.linkstate.specs.Elements.{elements, faults};
 ghost use Rattle.linkstate.specs.Kinds.{codeOfType};
 ghost use Rattle.kinds.specs.Rules.{gridCodes, rowIn};
-ghost use Rattle.isis.specs.RunA.{attributesOf};
-ghost use Rattle.isis_grids.specs.Grid.{filled, unchecked};
+ghost use Rattle.linkstate.specs.Sides.{ofLive};
+ghost use Rattle.isis.specs.RunA.{attributesOf, checkA, sideA};
+ghost use Rattle.isis_grids.specs.Grid.{gridOf, filled, unchecked};
+ghost use Rattle.isis_grids.specs.Selected.{selects, unflagged, listFrom, Headed};
 use kinds::Kind;
 
 // The row of a type; 10 where it has none.
@@ -45,4 +47,87 @@ pub fn fill(g: [[usize; 2]; 10], s: &[u8], base: usize) -> [[usize; 2]; 10]
         at = at + 2 + n;
     }
     h
+}
+
+// The grid of run A's legacy attributes.
+pub fn legacy_grid(a: &[u8]) -> [[usize; 2]; 10]
+    requires { ⌜ faults runA checkA (elements 1 0 (now a)) ≡ accepted ⌝ }
+    ensures { λ r. ⌜ r ≡ gridOf ((sideA (now (a .entry))) .legacy) ⌝ }
+{
+    let g = [[0usize; 2]; 10];
+    fill(g, a, 0)
+}
+
+// Which live ASLA sub-TLVs are read: those that name an application, the general ones, those whose only set bit is RSVP-TE's, or all without L.
+pub enum Which {
+    Naming(u32),
+    General,
+    RsvpTeAlone,
+    WithoutL,
+}
+
+// Whether an ASLA without L, of these masks, is selected.
+fn passes(which: Which, standard: &[u8], user: &[u8]) -> bool
+    requires { ⌜ (length (now standard) ≤ 8) × (length (now user) ≤ 8) ⌝ }
+    ensures { λ r. ⌜ r ≡ selects which (unflagged (now (standard .entry)) (now (user .entry))) ⌝ }
+{
+    match which {
+        Which::Naming(n) => masks::names(standard, user, n),
+        Which::General => {
+            if standard.len() != 0 {
+                return false;
+            }
+            user.len() == 0
+        }
+        Which::RsvpTeAlone => {
+            if masks::mask_number(standard) != 1 {
+                return false;
+            }
+            masks::mask_number(user) == 0
+        }
+        Which::WithoutL => true,
+    }
+}
+
+// Where the attribute list of an ASLA with the value v begins; past the end where there is none to read, or the ASLA is not selected.
+pub fn list_start(v: &[u8], which: Which) -> usize
+    requires { ⌜ Headed (now v) ⌝ }
+    ensures { λ r. ⌜ r ≡ listFrom which (now (v .entry)) ⌝ }
+{
+    let h = isis_check_a::read_header(v);
+    if h.l {
+        return v.len();
+    }
+    if isis_check_a::mask_too_long(h) {
+        return v.len();
+    }
+    let m = 2 + h.standard;
+    let e = m + h.user;
+    if passes(which, &v[2..m], &v[m..e]) {
+        return e;
+    }
+    v.len()
+}
+
+// The grid of the live ASLA sub-TLVs that are selected, together.
+pub fn live_grid(a: &[u8], which: Which) -> [[usize; 2]; 10]
+    requires { ⌜ faults runA checkA (elements 1 0 (now a)) ≡ accepted ⌝ }
+    ensures { λ r. ⌜ r ≡ gridOf (ofLive (selects which) (sideA (now (a .entry)))) ⌝ }
+{
+    let mut g = [[0usize; 2]; 10];
+    let mut at = 0;
+    while at < a.len() {
+        let n = a[at + 1] as usize;
+        let next = at + 2 + n;
+        if a[at] == 16 {
+            let v = &a[at + 2..next];
+            let k = list_start(v, which);
+            if k < n {
+                let h = fill(g, &v[k..], at + 2 + k);
+                g = h;
+            }
+        }
+        at = next;
+    }
+    g
 }

@@ -1,0 +1,182 @@
+-- What framing at a position says of the elements that are left there, and one turn of a loop that checks them.
+use mathlib.Core.Path.{_≡_, refl, sym, ap, ap₂, _∙_}
+use mathlib.Core.Logic.{_⊎_, inl, inr}
+use mathlib.Core.Bool.{Bool, true, false, cond, _&&_}
+use mathlib.Core.List.{List, [], _∷_}
+use Prim.Native.Nat.{ℕ, _+_, _-_, _≤_, _<_}
+use native.Mathlib.Omega.{arith}
+use borrow.Author.Tests.{le-leb, lt-leb, leb-true, leb-false, lt-ltb, le-ltb, ne-eqb}
+use lib.Dec.{leb}
+use lib.ListN.{length, take, drop, getD, length-drop}
+use lib.Seq.{take-all}
+use Rattle.linkstate.specs.Bytes.{bytesAt}
+use Rattle.linkstate.specs.Kinds.{wrongInA}
+use Rattle.linkstate.specs.Replies.{Run, runA, Verdict, accepted, refused, Refusal, fault}
+use Rattle.linkstate.specs.Elements.{elements, faults}
+use Rattle.linkstate.proofs.WalkLaws.{left, typeAt, lengthAt, type-one, length-one, faults-cut, faults-pass, faults-stop}
+use Rattle.octets.proofs.Laws.{length-bytesAt, part-is}
+use Rattle.replies.specs.declared.Refusal.{Refusal as Told}
+use Rattle.replies.specs.declared.Checked.{Checked}
+use Rattle.replies.specs.declared.Checked.the-variants as Checks
+use Rattle.replies.specs.Told.{toldChecked, toldRefusal}
+use Rattle.isis.specs.MaskHeader.{lFlag, headerLength, maskTooLong, lForNobody}
+use Rattle.isis.specs.RunA.{listElements, checkAttribute, checkAsla, checkA}
+use Rattle.isis_check_a.specs.declared.Frame.{Frame}
+use Rattle.isis_check_a.specs.declared.Frame.the-variants.{Cut, Whole}
+use Rattle.isis_check_a.specs.declared.Header.{Header}
+use Rattle.isis_check_a.specs.Frames.{frameAt}
+use Rattle.isis_check_a.specs.Headers.{headerOf, tooLong, forNobody, bytesBefore}
+
+-- ---- framing
+
+module _ (s : List ℕ) (at : ℕ) where
+  pub frame-cut : length s < at + 2 + getD s (at + 1) 0 → Cut ≡ frameAt s at
+  unfolding frameAt
+  frame-cut h = rw (lt-leb (at + 2 + getD s (at + 1) 0) (length s) h)
+
+  pub frame-whole : at + 2 + getD s (at + 1) 0 ≤ length s → Whole (getD s (at + 1) 0) ≡ frameAt s at
+  unfolding frameAt
+  frame-whole h = rw (le-leb (at + 2 + getD s (at + 1) 0) (length s) h)
+
+  -- and back
+  pub cut-past : frameAt s at ≡ Cut → length s < at + 2 + getD s (at + 1) 0
+  unfolding frameAt
+  cut-past e = go (leb (at + 2 + getD s (at + 1) 0) (length s)) refl e
+    where
+      go : (b : Bool) → leb (at + 2 + getD s (at + 1) 0) (length s) ≡ b → cond b (Whole (getD s (at + 1) 0)) Cut ≡ Cut → length s < at + 2 + getD s (at + 1) 0
+      go true f e = let z : _≡_ {A = ℕ} 0 1 = cc in absurd (omega arith)
+      go false f e = leb-false (at + 2 + getD s (at + 1) 0) (length s) f
+
+  pub whole-within : (n : ℕ) → frameAt s at ≡ Whole n → (getD s (at + 1) 0 ≡ n) × (at + 2 + n ≤ length s)
+  unfolding frameAt
+  whole-within n e = go (leb (at + 2 + getD s (at + 1) 0) (length s)) refl e
+    where
+      go : (b : Bool) → leb (at + 2 + getD s (at + 1) 0) (length s) ≡ b → cond b (Whole (getD s (at + 1) 0)) Cut ≡ Whole n → (getD s (at + 1) 0 ≡ n) × (at + 2 + n ≤ length s)
+      go true f e = let z : getD s (at + 1) 0 ≡ n = cc in (z, omega (arith, leb-true (at + 2 + getD s (at + 1) 0) (length s) f))
+      go false f e = let z : _≡_ {A = ℕ} 0 1 = cc in absurd (omega arith)
+
+pub part-length : (s : List ℕ) (p n : ℕ) → p + n ≤ length s → length (take (p + n - p) (drop p s)) ≡ n
+part-length s p n h = ap length (part-is s p n) ∙ length-bytesAt s p n h
+
+-- ---- one turn, at the offset o of the run
+
+module _ (run : Run) (check : ℕ → ℕ → List ℕ → Verdict) (base : ℕ) (s : List ℕ) (at o : ℕ) (z : o ≡ base + at) where
+  pub turn-cut : at < length s → frameAt s at ≡ Cut → fault 3 run o ≡ faults run check (left 1 base s at)
+  turn-cut h e = ap (fault 3 run) z ∙ sym (faults-cut run check 1 (omega arith) base s at h (omega (arith, cut-past s at e, length-one s at)))
+
+  module _ (n : ℕ) (e : frameAt s at ≡ Whole n) where
+    here : (v : Verdict) → check o (getD s at 0) (bytesAt s (at + 2) n) ≡ v → check (base + at) (typeAt 1 s at) (bytesAt s (at + 2) n) ≡ v
+    here v a = ap₂ (λ (i t : ℕ). check i t (bytesAt s (at + 2) n)) (sym z) (type-one s at) ∙ a
+
+    pub turn-passed : check o (getD s at 0) (bytesAt s (at + 2) n) ≡ accepted → faults run check (left 1 base s (at + 2 + n)) ≡ faults run check (left 1 base s at)
+    turn-passed a = faults-pass run check 1 (omega arith) base s at n (length-one s at ∙ whole-within s at n e .0) (whole-within s at n e .1) (here accepted a)
+
+    pub turn-refused : (r : Refusal) → check o (getD s at 0) (bytesAt s (at + 2) n) ≡ refused r → refused r ≡ faults run check (left 1 base s at)
+    turn-refused r a = faults-stop run check 1 (omega arith) base s at n r (length-one s at ∙ whole-within s at n e .0) (whole-within s at n e .1) (here (refused r) a)
+
+    -- with the answer of a function that checks the element by its value, a part of the list
+    module _ (c : Checked) (told : toldChecked c ≡ check o (getD s at 0) (take (at + 2 + n - (at + 2)) (drop (at + 2) s))) where
+      value-told : toldChecked c ≡ check o (getD s at 0) (bytesAt s (at + 2) n)
+      value-told = told ∙ ap (check o (getD s at 0)) (part-is s (at + 2) n)
+
+      pub turn-told-passed : c ≡ Checks.Accepted → faults run check (left 1 base s (at + 2 + n)) ≡ faults run check (left 1 base s at)
+      turn-told-passed a = turn-passed (sym value-told ∙ ap toldChecked a)
+
+      pub turn-told-refused : (r : Told) → c ≡ Checks.Refused r → refused (toldRefusal r) ≡ faults run check (left 1 base s at)
+      turn-told-refused r a = turn-refused (toldRefusal r) (sym value-told ∙ ap toldChecked a)
+
+-- ---- an attribute's length
+
+module _ (at t : ℕ) (v : List ℕ) (n : ℕ) (l : length v ≡ n) where
+  pub attribute-fits : wrongInA t n ≡ false → checkAttribute at t v ≡ accepted
+  unfolding checkAttribute
+  attribute-fits e = rw (l, e)
+
+  pub attribute-wrong : wrongInA t n ≡ true → checkAttribute at t v ≡ fault 4 runA at
+  unfolding checkAttribute
+  attribute-wrong e = rw (l, e)
+
+module _ (base : ℕ) (s : List ℕ) (at n : ℕ) (e : frameAt s at ≡ Whole n) where
+  pub list-passed : wrongInA (getD s at 0) n ≡ false → faults runA checkAttribute (left 1 base s (at + 2 + n)) ≡ faults runA checkAttribute (left 1 base s at)
+  list-passed w = turn-passed runA checkAttribute base s at (base + at) refl n e (attribute-fits _ _ _ n (length-bytesAt s (at + 2) n (whole-within s at n e .1)) w)
+
+  pub list-refused : wrongInA (getD s at 0) n ≡ true → fault 4 runA (base + at) ≡ faults runA checkAttribute (left 1 base s at)
+  unfolding fault
+  list-refused w = turn-refused runA checkAttribute base s at (base + at) refl n e _ (attribute-wrong _ _ _ n (length-bytesAt s (at + 2) n (whole-within s at n e .1)) w)
+
+-- ---- the mask header
+
+module _ (h : Header) (v : List ℕ) (e : h ≡ headerOf v) where
+  pub header-l : h .l ≡ lFlag v
+  header-l = ap (λ (x : Header). x .l) e
+
+  pub header-too-long : tooLong h ≡ maskTooLong v
+  unfolding maskTooLong
+  header-too-long = ap tooLong e
+
+  pub header-nobody : forNobody h ≡ lForNobody v
+  unfolding lForNobody
+  header-nobody = ap forNobody e
+
+  pub header-bytes : bytesBefore h ≡ headerLength v
+  unfolding headerLength
+  header-bytes = ap bytesBefore e
+
+-- what follows an offset
+pub rest-is : (v : List ℕ) (n : ℕ) → n ≤ length v → take (length v - n) (drop n v) ≡ drop n v
+rest-is v n h = take-all (length v - n) (drop n v) (omega (arith, length-drop n v))
+
+-- ---- an ASLA sub-TLV, check by check
+
+module _ (at : ℕ) (v : List ℕ) where
+  pub asla-short : length v < 2 → fault 3 runA at ≡ checkAsla at v
+  unfolding checkAsla
+  asla-short h = rw (lt-ltb (length v) 2 h)
+
+  module _ (h : 2 ≤ length v) where
+    pub asla-ignored : maskTooLong v ≡ true → accepted ≡ checkAsla at v
+    unfolding checkAsla
+    asla-ignored m = rw (le-ltb (length v) 2 h, m)
+
+    module _ (m : maskTooLong v ≡ false) where
+      pub asla-past : length v < headerLength v → fault 3 runA at ≡ checkAsla at v
+      unfolding checkAsla
+      asla-past p = rw (le-ltb (length v) 2 h, m, lt-ltb (length v) (headerLength v) p)
+
+      module _ (p : headerLength v ≤ length v) where
+        -- with L nothing else is read, whoever it names
+        pub asla-l : lFlag v ≡ true → accepted ≡ checkAsla at v
+        unfolding checkAsla
+        asla-l l = rw (le-ltb (length v) 2 h, m, le-ltb (length v) (headerLength v) p, l) (go (lForNobody v))
+          where
+            go : (b : Bool) → accepted ≡ cond b accepted accepted
+            go true = refl
+            go false = refl
+
+        pub asla-list : lFlag v ≡ false → faults runA checkAttribute (elements 1 (at + 2 + headerLength v) (drop (headerLength v) v)) ≡ checkAsla at v
+        unfolding checkAsla lForNobody listElements
+        asla-list l = rw (le-ltb (length v) 2 h, m, le-ltb (length v) (headerLength v) p, l)
+
+-- ---- a sub-TLV
+
+module _ (at t : ℕ) (v : List ℕ) where
+  pub sub-tlv-asla : t ≡ 16 → checkAsla at v ≡ checkA at t v
+  unfolding checkA
+  sub-tlv-asla e = rw e
+
+  pub sub-tlv-other : (t ≡ 16 → ⊥) → checkAttribute at t v ≡ checkA at t v
+  unfolding checkA
+  sub-tlv-other n = rw (ne-eqb t 16 n)
+
+-- ---- `p && q && r`, where i is what `p && q` gave
+
+abbrev pub Both : Bool → Bool → Bool → Type 0
+Both p q i = ((p ≡ true) × (i ≡ q)) ⊎ ((p ≡ false) × (i ≡ false))
+
+pub and-third : (p q r i : Bool) → Both p q i → i ≡ true → r ≡ p && q && r
+and-third p q r i (inl w) h = let e : q ≡ true = cc in rw (w .0, e)
+and-third p q r i (inr w) h = let z : _≡_ {A = ℕ} 0 1 = cc in absurd (omega arith)
+
+pub and-less : (p q r i : Bool) → Both p q i → i ≡ false → i ≡ p && q && r
+and-less p q r i (inl w) h = let e : q ≡ false = cc in rw (w .0, e) h
+and-less p q r i (inr w) h = rw (w .0) h
