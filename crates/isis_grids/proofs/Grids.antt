@@ -8,7 +8,9 @@ use borrow.Author.Tests.{eqb-true, eqb-false, eq-eqb, ne-eqb}
 use lib.Dec.{eqb}
 use lib.ListN.{length, getD, set, replicate}
 use Rattle.linkstate.specs.Lists.{keep, each, member, all}
-use Rattle.linkstate.specs.Attributes.{Attribute, ofKind}
+use Rattle.linkstate.specs.Elements.{Element, element, cut}
+use Rattle.linkstate.specs.Attributes.{Attribute, attribute, ofKind}
+use Rattle.isis.specs.RunA.{attributesOf}
 use Rattle.kinds.specs.Rules.{gridCodes, rowIn}
 use Rattle.kinds.proofs.Computing.{computing}
 use Rattle.isis_grids.specs.Grid.{firstRow, rowOf, gridOf, enteredIn, filled}
@@ -142,3 +144,11 @@ grid-empty = refl
 -- From the empty grid.
 pub filled-empty : (ts : List Attribute) → All Placed ts → filled (replicate 10 (0 ∷ 0 ∷ [])) ts ≡ gridOf ts
 filled-empty ts p = ap (λ (g : List (List ℕ)). filled g ts) grid-empty ∙ filled-grid [] ts tt p
+
+-- ---- attributes of elements
+
+pub placed-each : (es : List Element) → All Placed (each attributesOf es)
+unfolding each attributesOf attribute
+placed-each [] = tt
+placed-each (element at t v ∷ es) = (omega arith, placed-each es)
+placed-each (cut at ∷ es) = placed-each es

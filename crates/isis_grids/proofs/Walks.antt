@@ -75,10 +75,11 @@ module _ (base : ℕ) (s : List ℕ) (at : ℕ) (here : at < length s) (ok : fau
   unfolding attributesOf attribute filled enteredIn
   fill-turn g e =
       let n = getD s (at + 1) 0 in
-      let rest = each attributesOf (left 1 base s (at + 2 + n)) in
-      (ap length e ∙ same (eqb (getD (getD h k []) 0 0) 0),
+      let rest = each attributesOf (left 1 base s (at + 2 + n)) in (
+        ap length e ∙ same (eqb (getD (getD h k []) 0 0) 0),
         ap (λ (x : List (List ℕ)). filled x rest) (e ∙ ap₂ (λ (i l : ℕ). cond (eqb (getD (getD h i []) 0 0) 0) (set h i ((base + at + 2) ∷ l ∷ [])) h) row (sym (length-bytesAt s (at + 2) n (inside unchecked base s at here ok))))
-        ∙ ap (filled h) (sym (turn unchecked base s at here ok attributesOf)))
+            ∙ ap (filled h) (sym (turn unchecked base s at here ok attributesOf)),
+      )
     where
       same : (b : Bool) → length (cond b (set h k ((base + at + 2) ∷ getD s (at + 1) 0 ∷ [])) h) ≡ length h
       same true = length-set h k ((base + at + 2) ∷ getD s (at + 1) 0 ∷ [])

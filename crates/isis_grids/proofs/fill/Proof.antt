@@ -84,9 +84,9 @@ loop-again c = let a = c .before .before .before .before .before .before .before
     let k = c .before .row-of .result in
     let row = c .before .row-of .ensures in
     let f = fill-turn (a .base) s (l .at) here ok (l .h) k row (c .if1 .h)
-      (⊎-elim (λ w. w .3 ∙ next-stored (a .base) s (l .at) here ok (l .h) k row (w .2 .taken))
-      (⊎-elim (λ w. w .3 ∙ next-kept (a .base) s (l .at) here ok (l .h) k row (w .2 .left))
-      (λ w. w .1 ∙ next-none (a .base) s (l .at) here ok (l .h) k row (omega (arith, w .0 .left, l .inv .1)))) (c .if1 .came)) in
+    (⊎-elim (λ w. w .3 ∙ next-stored (a .base) s (l .at) here ok (l .h) k row (w .2 .taken))
+    (⊎-elim (λ w. w .3 ∙ next-kept (a .base) s (l .at) here ok (l .h) k row (w .2 .left))
+    (λ w. w .1 ∙ next-none (a .base) s (l .at) here ok (l .h) k row (omega (arith, w .0 .left, l .inv .1)))) (c .if1 .came)) in
     (inside unchecked (a .base) s (l .at) here ok, f .0 ∙ l .inv .1, rest-ok unchecked (a .base) s (l .at) here ok, f .1 ∙ l .inv .3)
 
 returns : tie.Need-returns Inv-loop μ-loop

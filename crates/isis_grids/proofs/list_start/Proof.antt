@@ -1,71 +1,56 @@
+-- Each way out is one case of the definition.
+use Rattle.isis_grids.proofs.Headers.{parts-small, masks-inside, list-of-l, list-too-long, list-selected, list-passed-over}
+use denote.Ref.{now}
+use native.Mathlib.Omega.{arith}
+use mathlib.Core.Path.{sym, _∙_}
 use borrow.Author.Needs.{needs}
 use Rattle.isis_grids.proofs.list_start.Statement.{statement}
 use Rattle.isis_grids.proofs.list_start.Tie as tie
-use Rattle.isis_grids.proofs.list_start.Reads as reads
-use Rattle.isis_grids.proofs.list_start.Lts as lts
-use Rattle.isis_check_a.proofs.mask_too_long.Reads as mask-too-long-reads
-use Rattle.isis_check_a.proofs.read_header.Reads as read-header-reads
-use Rattle.isis_grids.proofs.passes.Reads as passes-reads
 
--- src/lib.rt:97:9
 read-header-requires : tie.Need-read-header-requires
 read-header-requires c κs = search needs
 
--- src/lib.rt:99:9
 returns : tie.Need-returns
-returns c = ?
+returns c = list-of-l _ _ (c .before .read-header .ensures .0) _ (c .if1 .taken)
 
--- src/lib.rt:101:8
 mask-too-long-requires : tie.Need-mask-too-long-requires
 mask-too-long-requires c κs = search needs
 
--- src/lib.rt:102:9
 returns-2 : tie.Need-returns-2
-returns-2 c = ?
+returns-2 c = list-too-long _ _ (c .before .before .before .read-header .ensures .0) _ (c .before .before .if1 .left) (sym (c .before .mask-too-long .ensures) ∙ c .if2 .taken)
 
--- src/lib.rt:104:13
 add-m : tie.Need-add-m
 add-m c = search needs
 
--- src/lib.rt:105:13
 add-e : tie.Need-add-e
 add-e c = search needs
 
--- src/lib.rt:106:22
 sub-passes : tie.Need-sub-passes
 sub-passes c = search needs
 
--- src/lib.rt:106:22
 part-passes-start : tie.Need-part-passes-start
 part-passes-start c = search needs
 
--- src/lib.rt:106:22
 part-passes-end : tie.Need-part-passes-end
-part-passes-end c = ?
+part-passes-end c = let v = now (c .before .before .before .before .before .before .before .args .v) in let r = c .before .before .before .before .before .read-header in omega (arith, masks-inside v (r .result) (r .ensures .0) (sym (c .before .before .before .mask-too-long .ensures) ∙ c .before .before .if2 .left) (c .before .before .before .before .before .before .before .pre))
 
--- src/lib.rt:106:32
 sub-passes-2 : tie.Need-sub-passes-2
 sub-passes-2 c = search needs
 
--- src/lib.rt:106:32
 part-passes-start-2 : tie.Need-part-passes-start-2
 part-passes-start-2 c = search needs
 
--- src/lib.rt:106:32
 part-passes-end-2 : tie.Need-part-passes-end-2
-part-passes-end-2 c = ?
+part-passes-end-2 c = let v = now (c .before .before .before .before .before .before .before .before .args .v) in let r = c .before .before .before .before .before .before .read-header in masks-inside v (r .result) (r .ensures .0) (sym (c .before .before .before .before .mask-too-long .ensures) ∙ c .before .before .before .if2 .left) (c .before .before .before .before .before .before .before .before .pre)
 
--- src/lib.rt:106:8
 passes-requires : tie.Need-passes-requires
-passes-requires c κs = ?
+passes-requires c κs = let r = c .before .before .before .before .before .before .before .read-header in parts-small (now (c .before .before .before .before .before .before .before .before .before .args .v)) (r .result) (r .ensures .0) (sym (c .before .before .before .before .before .mask-too-long .ensures) ∙ c .before .before .before .before .if2 .left)
 
--- src/lib.rt:107:9
 returns-3 : tie.Need-returns-3
-returns-3 c = ?
+returns-3 c = let r = c .before .before .before .before .before .before .before .before .before .read-header in list-selected _ _ (r .ensures .0) _ (c .before .before .before .before .before .before .before .before .if1 .left) (sym (c .before .before .before .before .before .before .before .mask-too-long .ensures) ∙ c .before .before .before .before .before .before .if2 .left) _ (c .before .passes .ensures) (c .if3 .taken)
 
--- src/lib.rt:93:1
 returns-4 : tie.Need-returns-4
-returns-4 c = ?
+returns-4 c = let r = c .before .before .before .before .before .before .before .before .before .read-header in list-passed-over _ _ (r .ensures .0) _ (c .before .before .before .before .before .before .before .before .if1 .left) (sym (c .before .before .before .before .before .before .before .mask-too-long .ensures) ∙ c .before .before .before .before .before .before .if2 .left) _ (c .before .passes .ensures) (c .if3 .left)
 
 pub list-start-spec : {M : Type 1} → statement M
 list-start-spec =

@@ -1,115 +1,128 @@
+-- A turn that meets a selected ASLA fills the grid from its list; every other turn leaves it.
+use Rattle.isis_grids.proofs.Aslas.{value-length, tail-room, asla-headed, asla-framed, live-read, live-unread, live-other, live-end, live-start, filled-nil}
+use Rattle.isis_grids.proofs.Aslas.{asla-headed, asla-framed, live-read, live-unread, live-other, live-end, live-start, filled-nil}
+use Rattle.isis_grids.proofs.Walks.{left-all, inside, rest-ok}
+use Rattle.isis_grids.proofs.Grids.{filled-append}
+use Rattle.isis_grids.specs.Selected.{selects, selected}
+use Rattle.isis_grids.specs.Grid.{gridOf, filled}
+use Rattle.isis.specs.RunA.{checkA, sideA}
+use Rattle.linkstate.proofs.WalkLaws.{left}
+use Rattle.linkstate.specs.Sides.{ofLive}
+use Rattle.linkstate.specs.Elements.{elements, faults}
+use Rattle.linkstate.specs.Replies.{accepted, runA}
+use Rattle.linkstate.specs.Lists.{each}
+use denote.Ref.{now}
+use lib.ListN.{length, length-drop}
+use native.Mathlib.Omega.{arith}
+use mathlib.Core.Path.{_≡_, ap, sym, _∙_}
+use Prim.Native.Nat.{_+_, _≤_, _-_}
+use borrow.Author.Needs.{needs}
 use Rattle.isis_grids.proofs.live_grid.Statement.{statement}
 use Rattle.isis_grids.proofs.live_grid.Tie as tie
-use Rattle.isis_grids.proofs.live_grid.Reads as reads
-use Rattle.isis_grids.proofs.live_grid.Lts as lts
-use Rattle.isis_grids.proofs.fill.Reads as fill-reads
-use Rattle.isis_grids.proofs.list_start.Reads as list-start-reads
 
 abbrev Inv-loop : tie.InvT-loop
-Inv-loop a which g₀ at₀ g at = ?
+Inv-loop a which g₀ at₀ g at = (at ≤ length a) × (faults runA checkA (left 1 0 a at) ≡ accepted) × (filled g (each (selected which) (left 1 0 a at)) ≡ gridOf (ofLive (selects which) (sideA a)))
 
 abbrev μ-loop : tie.MeasureT-loop
-μ-loop a which g₀ at₀ g at = ?
+μ-loop a which g₀ at₀ g at = length a - at
 
--- src/lib.rt:119:5
 loop-holds : tie.Need-loop-holds Inv-loop μ-loop
-loop-holds c = ?
+loop-holds c = let x = c .before .args in (omega arith, ap (faults runA checkA) (left-all 0 (now (x .a))) ∙ c .before .pre, live-start (x .which) (now (x .a)))
 
--- src/lib.rt:120:19
 add-n : tie.Need-add-n Inv-loop μ-loop
-add-n c = ?
+add-n c = search needs
 
--- src/lib.rt:120:17
 shared-slice-read-n : tie.Need-shared-slice-read-n Inv-loop μ-loop
-shared-slice-read-n c = ?
+shared-slice-read-n c = let l = c .before .before .loop in omega (arith, inside checkA 0 (now (c .before .before .before .before .args .a)) (l .at) (c .before .loop-test .taken) (l .inv .1))
 
--- src/lib.rt:120:17
 cast-n : tie.Need-cast-n Inv-loop μ-loop
-cast-n c = ?
+cast-n c = omega (arith, c .shared-slice-known2 .given (c .before .before .loop .at + 1))
 
--- src/lib.rt:121:20
 add-next : tie.Need-add-next Inv-loop μ-loop
-add-next c = ?
+add-next c = search needs
 
--- src/lib.rt:121:20
 add-next-2 : tie.Need-add-next-2 Inv-loop μ-loop
-add-next-2 c = ?
+add-next-2 c = let l = c .before .before .loop in omega (arith, inside checkA 0 (now (c .before .before .before .before .args .a)) (l .at) (c .before .loop-test .taken) (l .inv .1))
 
--- src/lib.rt:122:12
 shared-slice-read-if1 : tie.Need-shared-slice-read-if1 Inv-loop μ-loop
-shared-slice-read-if1 c = ?
+shared-slice-read-if1 c = search needs
 
--- src/lib.rt:123:24
 add-v : tie.Need-add-v Inv-loop μ-loop
-add-v c = ?
+add-v c = search needs
 
--- src/lib.rt:123:21
 sub-v : tie.Need-sub-v Inv-loop μ-loop
-sub-v c = ?
+sub-v c = search needs
 
--- src/lib.rt:123:21
 part-v-start : tie.Need-part-v-start Inv-loop μ-loop
-part-v-start c = ?
+part-v-start c = search needs
 
--- src/lib.rt:123:21
 part-v-end : tie.Need-part-v-end Inv-loop μ-loop
-part-v-end c = ?
+part-v-end c = let l = c .before .before .before .before .loop in inside checkA 0 (now (c .before .before .before .before .before .before .args .a)) (l .at) (c .before .before .before .loop-test .taken) (l .inv .1)
 
--- src/lib.rt:124:17
 list-start-requires : tie.Need-list-start-requires Inv-loop μ-loop
-list-start-requires c κs = ?
+list-start-requires c κs = let l = c .before .before .before .before .before .loop in asla-headed (c .before .before .before .before .before .before .before .args .which) (now (c .before .before .before .before .before .before .before .args .a)) (l .at) (c .before .before .before .before .loop-test .taken) (l .inv .1) (c .before .if1 .taken)
 
--- src/lib.rt:126:33
 sub-fill : tie.Need-sub-fill Inv-loop μ-loop
-sub-fill c = ?
+sub-fill c = let l = c .before .before .before .before .before .before .before .loop in omega (arith, value-length (c .before .before .before .before .before .before .before .before .before .args .which) (now (c .before .before .before .before .before .before .before .before .before .args .a)) (l .at) (c .before .before .before .before .before .before .loop-test .taken) (l .inv .1))
 
--- src/lib.rt:126:33
 part-fill-start : tie.Need-part-fill-start Inv-loop μ-loop
-part-fill-start c = ?
+part-fill-start c = let l = c .before .before .before .before .before .before .before .loop in omega (arith, value-length (c .before .before .before .before .before .before .before .before .before .args .which) (now (c .before .before .before .before .before .before .before .before .before .args .a)) (l .at) (c .before .before .before .before .before .before .loop-test .taken) (l .inv .1))
 
--- src/lib.rt:126:33
 part-fill-end : tie.Need-part-fill-end Inv-loop μ-loop
-part-fill-end c = ?
+part-fill-end c = search needs
 
--- src/lib.rt:126:42
 add-fill : tie.Need-add-fill Inv-loop μ-loop
-add-fill c = ?
+add-fill c = let l = c .before .before .before .before .before .before .before .before .loop in omega (arith, inside checkA 0 (now (c .before .before .before .before .before .before .before .before .before .before .args .a)) (l .at) (c .before .before .before .before .before .before .before .loop-test .taken) (l .inv .1))
 
--- src/lib.rt:126:42
 add-fill-2 : tie.Need-add-fill-2 Inv-loop μ-loop
-add-fill-2 c = ?
+add-fill-2 c = let l = c .before .before .before .before .before .before .before .before .loop in omega (arith, inside checkA 0 (now (c .before .before .before .before .before .before .before .before .before .before .args .a)) (l .at) (c .before .before .before .before .before .before .before .loop-test .taken) (l .inv .1))
 
--- src/lib.rt:126:21
 fill-requires : tie.Need-fill-requires Inv-loop μ-loop
-fill-requires c κs = ?
+fill-requires c κs = let l = c .before .before .before .before .before .before .before .before .loop in
+    let x = c .before .before .before .before .before .before .before .before .before .before .args in
+    let here = c .before .before .before .before .before .before .before .loop-test .taken in (
+      omega (arith, tail-room (x .which) (now (x .a)) (l .at) here (l .inv .1) (c .before .before .list-start .result) (c .before .if2 .taken)),
+      asla-framed (x .which) (now (x .a)) (l .at) here (l .inv .1) (c .before .before .before .before .if1 .taken) (c .before .before .list-start .result) (c .before .before .list-start .ensures),
+    )
 
--- src/lib.rt:119:5
 loop-less : tie.Need-loop-less Inv-loop μ-loop
-loop-less c = ?
+loop-less c = omega arith
 
--- src/lib.rt:119:5
 loop-again : tie.Need-loop-again Inv-loop μ-loop
-loop-again c = ?
+loop-again c = let l = c .before .before .before .before .before .before .before .before .before .loop in
+    let x = c .before .before .before .before .before .before .before .before .before .before .before .args in
+    let here = c .before .before .before .before .before .before .before .before .loop-test .taken in (
+      inside checkA 0 (now (x .a)) (l .at) here (l .inv .1),
+      rest-ok checkA 0 (now (x .a)) (l .at) here (l .inv .1),
+      live-read (x .which) (now (x .a)) (l .at) here (l .inv .1) filled filled-nil filled-append (l .g) (c .before .before .before .list-start .result) (c .fill .result) (c .before .before .before .before .before .if1 .taken) (c .before .before .before .list-start .ensures) (c .fill .ensures) ∙ l .inv .2,
+    )
 
--- src/lib.rt:119:5
 loop-less-2 : tie.Need-loop-less-2 Inv-loop μ-loop
-loop-less-2 c = ?
+loop-less-2 c = omega arith
 
--- src/lib.rt:119:5
 loop-again-2 : tie.Need-loop-again-2 Inv-loop μ-loop
-loop-again-2 c = ?
+loop-again-2 c = let l = c .before .before .before .before .before .before .before .loop in
+    let x = c .before .before .before .before .before .before .before .before .before .args in
+    let here = c .before .before .before .before .before .before .loop-test .taken in (
+      inside checkA 0 (now (x .a)) (l .at) here (l .inv .1),
+      rest-ok checkA 0 (now (x .a)) (l .at) here (l .inv .1),
+      live-unread (x .which) (now (x .a)) (l .at) here (l .inv .1) filled filled-nil filled-append (l .g) (c .before .list-start .result) (c .before .before .before .if1 .taken) (c .before .list-start .ensures) (c .if2 .left) ∙ l .inv .2,
+    )
 
--- src/lib.rt:119:5
 loop-less-3 : tie.Need-loop-less-3 Inv-loop μ-loop
-loop-less-3 c = ?
+loop-less-3 c = omega arith
 
--- src/lib.rt:119:5
 loop-again-3 : tie.Need-loop-again-3 Inv-loop μ-loop
-loop-again-3 c = ?
+loop-again-3 c = let l = c .before .before .before .before .loop in
+    let x = c .before .before .before .before .before .before .args in
+    let here = c .before .before .before .loop-test .taken in (
+      inside checkA 0 (now (x .a)) (l .at) here (l .inv .1),
+      rest-ok checkA 0 (now (x .a)) (l .at) here (l .inv .1),
+      live-other (x .which) (now (x .a)) (l .at) here (l .inv .1) filled filled-nil filled-append (l .g) (c .if1 .left) ∙ l .inv .2,
+    )
 
--- src/lib.rt:113:1
 returns : tie.Need-returns Inv-loop μ-loop
-returns c = ?
+returns c = let l = c .before .loop in live-end filled filled-nil (c .before .before .before .args .which) (now (c .before .before .before .args .a)) (l .at) (l .g) (c .loop-test .left) ∙ l .inv .2
 
 pub live-grid-spec : {M : Type 1} → statement M
 live-grid-spec =
