@@ -29,7 +29,7 @@ use Rattle.isis_grids.specs.declared.Which.{Which}
 use Rattle.isis_grids.specs.declared.Which.the-variants.{Naming, General, RsvpTeAlone, WithoutL}
 use Rattle.isis_grids.specs.Grid.{gridOf, filled, unchecked}
 use Rattle.isis_grids.specs.Selected.{selects, unflagged, listFrom, Headed, selected}
-use Rattle.isis_grids.proofs.Grids.{All, all-append, Placed, placed-each, filled-empty}
+use Rattle.isis_grids.proofs.Grids.{All, all-each, Placed, placed-each, filled-empty}
 use Rattle.isis_grids.proofs.Walks.{framed, elementAt, inside, passed, turn, left-all}
 
 -- ---- one ASLA
@@ -149,7 +149,7 @@ module _ (w : Which) (v : List ℕ) where
       list-cases
 
 -- What holds of the attributes of every list that is read holds of those that are selected.
-all-selected : (P : Attribute → Type 0) (w : Which) (at t : ℕ) (v : List ℕ) → (t ≡ 16 → lFlag v ≡ false → maskTooLong v ≡ false → All P (each attributesOf (listElements at v))) → All P (selected w (element at t v))
+pub all-selected : (P : Attribute → Type 0) (w : Which) (at t : ℕ) (v : List ℕ) → (t ≡ 16 → lFlag v ≡ false → maskTooLong v ≡ false → All P (each attributesOf (listElements at v))) → All P (selected w (element at t v))
 unfolding listElements
 all-selected P w at t v h = go (eqb t 16) refl
   where
@@ -161,12 +161,13 @@ all-selected P w at t v h = go (eqb t 16) refl
         (list-cases w v))
     go false e = subst (All P) (sym (selected-other w at t v (eqb-false t 16 e))) tt
 
+placed-one : (w : Which) (e : Element) → All Placed (selected w e)
+unfolding selected aslaAdvertisements each keep
+placed-one w (element at t v) = all-selected Placed w at t v (λ a b c. placed-each (listElements at v))
+placed-one w (cut at) = tt
+
 pub placed-selected : (w : Which) (es : List Element) → All Placed (each (selected w) es)
-unfolding each selected aslaAdvertisements keep
-placed-selected w [] = tt
-placed-selected w (element at t v ∷ es) =
-    all-append Placed (selected w (element at t v)) (each (selected w) es) (all-selected Placed w at t v (λ a b c. placed-each (listElements at v))) (placed-selected w es)
-placed-selected w (cut at ∷ es) = placed-selected w es
+placed-selected w es = all-each Placed (selected w) es (λ e m. placed-one w e)
 
 -- ---- all ASLAs
 

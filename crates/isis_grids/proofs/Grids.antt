@@ -1,7 +1,8 @@
 -- Grids and the attributes that fill them: a grid that is filled from several lists is that of the lists joined.
 use mathlib.Core.Path.{_≡_, refl, sym, ap, ap₂, _∙_, subst}
 use mathlib.Core.Bool.{Bool, true, false, cond, _&&_, _||_, not}
-use mathlib.Core.List.{List, [], _∷_, _++_, map, append-assoc}
+use mathlib.Core.Logic.{_⊎_, inl, inr}
+use mathlib.Core.List.{List, [], _∷_, _++_, map, append-assoc, List·Memᴰ, List·Memᴰ·head, List·Memᴰ·tail, List·Memᴰ·cases-cons}
 use Prim.Native.Nat.{ℕ, zero, suc, _+_, _≤_, _<_}
 use native.Mathlib.Omega.{arith}
 use borrow.Author.Tests.{eqb-true, eqb-false, eq-eqb, ne-eqb}
@@ -24,6 +25,20 @@ module _ {A : Type 0} where
   pub all-append : (P : A → Type 0) (xs ys : List A) → All P xs → All P ys → All P (xs ++ ys)
   all-append P [] ys h g = g
   all-append P (x ∷ xs) ys h g = (h .0, all-append P xs ys (h .1) g)
+
+  -- and of a member
+  pub all-member : (P : A → Type 0) (xs : List A) → All P xs → (x : A) → List·Memᴰ x xs → P x
+  all-member P [] h x m = elim m [ ]
+  all-member P (y ∷ ys) h x m = go (List·Memᴰ·cases-cons m) (λ i. all-member P ys (h .1) x i)
+    where
+      go : (x ≡ y) ⊎ List·Memᴰ x ys → (List·Memᴰ x ys → P x) → P x
+      go (inl e) f = subst P (sym e) (h .0)
+      go (inr i) f = f i
+
+pub all-each : {A B : Type 0} (P : B → Type 0) (f : A → List B) (xs : List A) → ((x : A) → List·Memᴰ x xs → All P (f x)) → All P (each f xs)
+unfolding each
+all-each P f [] h = tt
+all-each P f (x ∷ xs) h = all-append P (f x) (each f xs) (h x (List·Memᴰ·head refl)) (all-each P f xs (λ y m. h y (List·Memᴰ·tail m)))
 
 -- The attribute's value does not stand at place 0.
 abbrev pub Placed : Attribute → Type 0
@@ -50,20 +65,28 @@ row-other c (u ∷ us) t e = go (eqb c (u .code)) (row-other c us t e)
     go true i = refl
     go false i = i
 
-row-own : (c : ℕ) (us : List Attribute) (t : Attribute) → All Placed us → eqb c (t .code) ≡ true
-    → cond (eqb (getD (rowOf c us) 0 0) 0) (t .at ∷ t .len ∷ []) (rowOf c us) ≡ rowOf c (us ++ (t ∷ []))
+pub row-one : (c : ℕ) (t : Attribute) → eqb c (t .code) ≡ true → rowOf c (t ∷ []) ≡ t .at ∷ t .len ∷ []
 unfolding rowOf ofKind keep firstRow
-row-own c [] t p e = rw e
-row-own c (u ∷ us) t p e = go (eqb c (u .code)) (row-own c us t (p .1) e)
+row-one c t e = rw e
+
+-- The row of joined lists: the first list's, unless it is absent there.
+pub row-append : (c : ℕ) (us ts : List Attribute) → All Placed us → cond (eqb (getD (rowOf c us) 0 0) 0) (rowOf c ts) (rowOf c us) ≡ rowOf c (us ++ ts)
+unfolding rowOf ofKind keep firstRow
+row-append c [] ts p = refl
+row-append c (u ∷ us) ts p = go (eqb c (u .code)) (row-append c us ts (p .1))
   where
     rest : List Attribute → List Attribute
     rest xs = keep (λ x. eqb c (x .code)) xs
 
-    go : (b : Bool) → cond (eqb (getD (firstRow (rest us)) 0 0) 0) (t .at ∷ t .len ∷ []) (firstRow (rest us)) ≡ firstRow (rest (us ++ (t ∷ [])))
-        → cond (eqb (getD (firstRow (cond b (u ∷ rest us) (rest us))) 0 0) 0) (t .at ∷ t .len ∷ []) (firstRow (cond b (u ∷ rest us) (rest us)))
-        ≡ firstRow (cond b (u ∷ rest (us ++ (t ∷ []))) (rest (us ++ (t ∷ []))))
+    go : (b : Bool) → cond (eqb (getD (firstRow (rest us)) 0 0) 0) (firstRow (rest ts)) (firstRow (rest us)) ≡ firstRow (rest (us ++ ts))
+        → cond (eqb (getD (firstRow (cond b (u ∷ rest us) (rest us))) 0 0) 0) (firstRow (rest ts)) (firstRow (cond b (u ∷ rest us) (rest us)))
+        ≡ firstRow (cond b (u ∷ rest (us ++ ts)) (rest (us ++ ts)))
     go true i = rw (ne-eqb (u .at) 0 (λ z. let q = p .0 in omega arith))
     go false i = i
+
+row-own : (c : ℕ) (us : List Attribute) (t : Attribute) → All Placed us → eqb c (t .code) ≡ true
+    → cond (eqb (getD (rowOf c us) 0 0) 0) (t .at ∷ t .len ∷ []) (rowOf c us) ≡ rowOf c (us ++ (t ∷ []))
+row-own c us t p e = ap (λ (r : List ℕ). cond (eqb (getD (rowOf c us) 0 0) 0) r (rowOf c us)) (sym (row-one c t e)) ∙ row-append c us (t ∷ []) p
 
 -- ---- all rows
 
@@ -147,8 +170,10 @@ filled-empty ts p = ap (λ (g : List (List ℕ)). filled g ts) grid-empty ∙ fi
 
 -- ---- attributes of elements
 
+placed-one : (e : Element) → All Placed (attributesOf e)
+unfolding attributesOf attribute
+placed-one (element at t v) = (omega arith, tt)
+placed-one (cut at) = tt
+
 pub placed-each : (es : List Element) → All Placed (each attributesOf es)
-unfolding each attributesOf attribute
-placed-each [] = tt
-placed-each (element at t v ∷ es) = (omega arith, placed-each es)
-placed-each (cut at ∷ es) = placed-each es
+placed-each es = all-each Placed attributesOf es (λ e m. placed-one e)

@@ -4,3 +4,4 @@ pub mod Walks
 pub mod Headers
 pub mod Aslas
 pub mod Selects
+pub mod Places
