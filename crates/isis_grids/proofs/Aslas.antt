@@ -8,8 +8,8 @@ use native.Mathlib.Omega.{arith}
 use native.Mathlib.Nat.{zero-add}
 use borrow.Author.Tests.{eqb-true, eqb-false, eq-eqb, ne-eqb, ltb-false}
 use lib.Dec.{eqb, ltb}
-use lib.ListN.{length, take, drop, getD, replicate, length-drop, drop-of-length-le}
-use lib.Seq.{drop-length}
+use lib.ListN.{length, take, drop, getD, replicate, length-take}
+use lib.Seq.{drop-length, drop-at}
 use Rattle.linkstate.specs.Lists.{each, keep, any, numbers}
 use Rattle.linkstate.specs.Bytes.{bytesAt}
 use Rattle.linkstate.specs.Replies.{Verdict, accepted, runA, fault}
@@ -20,15 +20,14 @@ use Rattle.linkstate.specs.Sides.{Advertisement, Side, names, general, rsvpTeAl
 use Rattle.linkstate.proofs.ElementLaws.{none-left}
 use Rattle.linkstate.proofs.WalkLaws.{left, not-accepted, each-end}
 use Rattle.linkstate.proofs.Computing.{computing}
-use Rattle.octets.proofs.Laws.{part-is, length-bytesAt}
+use Rattle.octets.proofs.Laws.{part-is, length-bytesAt, bytesAt-add}
 use Rattle.masks.proofs.Laws.{in-number, number-same}
 use Rattle.isis.specs.MaskHeader.{lFlag, maskTooLong, lForNobody, headerLength, advertisement}
 use Rattle.isis.specs.RunA.{listElements, checkAttribute, checkAsla, checkA, attributesOf, liveAsla, aslaAdvertisements, sideA}
-use Rattle.isis_check_a.proofs.Laws.{rest-is}
 use Rattle.isis_grids.specs.declared.Which.{Which}
 use Rattle.isis_grids.specs.declared.Which.the-variants.{Naming, General, RsvpTeAlone, WithoutL}
 use Rattle.isis_grids.specs.Grid.{gridOf, filled, unchecked}
-use Rattle.isis_grids.specs.Selected.{selects, unflagged, listFrom, Headed, selected}
+use Rattle.isis_grids.specs.Selected.{selects, listFrom, listAt, Headed, selected}
 use Rattle.isis_grids.proofs.Grids.{All, all-each, Placed, placed-each, filled-empty}
 use Rattle.isis_grids.proofs.Walks.{framed, elementAt, inside, passed, turn, left-all}
 
@@ -61,7 +60,7 @@ selects-same General v ts us = refl
 selects-same RsvpTeAlone v ts us = refl
 selects-same WithoutL v ts us = refl
 
-append-nil : {A : Type 0} (xs : List A) → xs ++ [] ≡ xs
+pub append-nil : {A : Type 0} (xs : List A) → xs ++ [] ≡ xs
 append-nil [] = refl
 append-nil (x ∷ xs) = ap (λ (l : List _). x ∷ l) (append-nil xs)
 
@@ -148,6 +147,27 @@ module _ (w : Which) (v : List ℕ) where
       (λ e. ap (λ (k : ℕ). faults runA unchecked (elements 1 (at + 2 + k) (drop k v))) (e .0) ∙ framed checkAttribute (listElements at v) (list-ok at v ok (e .2) (e .1)))
       list-cases
 
+-- As the code has it, of the element at a position of the run.
+module _ (w : Which) (a : List ℕ) (at : ℕ) where
+  abbrev part : List ℕ
+  part = take (at + 2 + getD a (at + 1) 0 - (at + 2)) (drop (at + 2) a)
+
+  pub list-other : (getD a at 0 ≡ 16 → ⊥) → at + 2 + getD a (at + 1) 0 ≡ listAt w a at
+  unfolding listAt
+  list-other n = rw (ne-eqb (getD a at 0) 16 n)
+
+  module _ (asla : getD a at 0 ≡ 16) where
+    pub part-headed : (getD a at 0 ≡ 16 → Headed (bytesAt a (at + 2) (getD a (at + 1) 0))) → Headed part
+    part-headed h = subst Headed (sym (part-is a (at + 2) (getD a (at + 1) 0))) (h asla)
+
+    pub list-asla : (k : ℕ) → k ≡ listFrom w part → at + 2 + k ≡ listAt w a at
+    unfolding listAt
+    list-asla k e = rw (eq-eqb (getD a at 0) 16 asla, e, part-is a (at + 2) (getD a (at + 1) 0))
+
+    pub list-ends : at + 2 + getD a (at + 1) 0 ≤ length a → (getD a at 0 ≡ 16 → Headed (bytesAt a (at + 2) (getD a (at + 1) 0))) → (k : ℕ) → k ≡ listFrom w part → at + 2 + k ≤ length a
+    list-ends l h k e =
+        omega (arith, e, list-within w part (part-headed h), ap length (part-is a (at + 2) (getD a (at + 1) 0)), length-bytesAt a (at + 2) (getD a (at + 1) 0) l)
+
 -- What holds of the attributes of every list that is read holds of those that are selected.
 pub all-selected : (P : Attribute → Type 0) (w : Which) (at t : ℕ) (v : List ℕ) → (t ≡ 16 → lFlag v ≡ false → maskTooLong v ≡ false → All P (each attributesOf (listElements at v))) → All P (selected w (element at t v))
 unfolding listElements
@@ -199,79 +219,94 @@ live-all w a = selected-all w (elements 1 0 a)
 
 -- ---- a turn of a loop over run A that reads the selected lists
 
--- The value of the element at a position, as a part of the run, and what follows in it from a position on.
-abbrev pub valueAt : List ℕ → ℕ → List ℕ
-valueAt a at = take (at + 2 + getD a (at + 1) 0 - (at + 2)) (drop (at + 2) a)
+-- What follows a position inside a part, as a part of the run.
+bytes-of : (s : List ℕ) (p n : ℕ) → take n (drop p s) ≡ bytesAt s p n
+unfolding bytesAt
+bytes-of s p n = refl
 
-abbrev pub tailAt : List ℕ → ℕ → ℕ → List ℕ
-tailAt a at k = take (length (valueAt a at) - k) (drop k (valueAt a at))
+part-drop : (s : List ℕ) (p n k : ℕ) → k ≤ n → p + n ≤ length s → take (p + n - (p + k)) (drop (p + k) s) ≡ drop k (bytesAt s p n)
+part-drop s p n k h l =
+    let m = n - k in
+    let e : p + n - (p + k) ≡ m = omega arith in
+    let f : k + m ≡ n = omega arith in
+    ap (λ (i : ℕ). take i (drop (p + k) s)) e
+    ∙ bytes-of s (p + k) m
+    ∙ sym (drop-at (bytesAt s p k) (bytesAt s (p + k) m) k (length-bytesAt s p k (omega arith)))
+    ∙ ap (drop k) (sym (bytesAt-add s p k m) ∙ ap (bytesAt s p) f)
+
+-- The value of the element at a position, and the part of the run from a position to the element's end.
+abbrev pub valueAt : List ℕ → ℕ → List ℕ
+valueAt a at = bytesAt a (at + 2) (getD a (at + 1) 0)
+
+abbrev pub listPart : List ℕ → ℕ → ℕ → List ℕ
+listPart a at from = take (at + 2 + getD a (at + 1) 0 - from) (drop from a)
 
 module _ (w : Which) (a : List ℕ) (at : ℕ) (here : at < length a) (ok : faults runA checkA (left 1 0 a at) ≡ accepted) where
-  value-is : valueAt a at ≡ bytesAt a (at + 2) (getD a (at + 1) 0)
-  value-is = part-is a (at + 2) (getD a (at + 1) 0)
+  asla-ok : getD a at 0 ≡ 16 → checkAsla at (valueAt a at) ≡ accepted
+  unfolding checkA
+  asla-ok asla =
+      let p : checkA (0 + at) (getD a at 0) (valueAt a at) ≡ accepted = passed checkA 0 a at here ok in
+      ap (λ (i : ℕ). checkAsla i (valueAt a at)) (sym (zero-add at)) ∙ (rw asla at p)
 
-  pub value-length : length (valueAt a at) ≡ getD a (at + 1) 0
-  value-length = ap length value-is ∙ length-bytesAt a (at + 2) (getD a (at + 1) 0) (inside checkA 0 a at here ok)
+  pub asla-headed : getD a at 0 ≡ 16 → Headed (valueAt a at)
+  asla-headed asla = headed at (valueAt a at) (asla-ok asla)
 
-  tail-is : (k : ℕ) → k ≤ length (valueAt a at) → tailAt a at k ≡ drop k (valueAt a at)
-  tail-is k h = rest-is (valueAt a at) k h
+  -- The list at a position: framed, and with the attributes that are selected here.
+  abbrev Listed : ℕ → Type 0
+  Listed from = (faults runA unchecked (elements 1 from (listPart a at from)) ≡ accepted) × (selected w (elementAt 0 a at) ≡ each attributesOf (elements 1 from (listPart a at from)))
 
-  -- what follows a position of the value ends with the element
-  pub tail-room : (k : ℕ) → k < getD a (at + 1) 0 → at + 2 + k + length (tailAt a at k) ≤ length a
-  tail-room k h =
-      let l = value-length in
+  empty-list : (from : ℕ) → at + 2 + getD a (at + 1) 0 ≤ from → listPart a at from ≡ []
+  empty-list from h = let z : at + 2 + getD a (at + 1) 0 - from ≡ 0 = omega arith in ap (λ (n : ℕ). take n (drop from a)) z
+
+  listed-other : (getD a at 0 ≡ 16 → ⊥) → Listed (at + 2 + getD a (at + 1) 0)
+  unfolding faults each
+  listed-other n =
+      let i = at + 2 + getD a (at + 1) 0 in
+      let e : elements 1 i (listPart a at i) ≡ [] = ap (elements 1 i) (empty-list i (omega arith)) ∙ none-left 1 i in
+      (ap (faults runA unchecked) e, selected-other w (0 + at) (getD a at 0) (valueAt a at) n ∙ sym (ap (each attributesOf) e))
+
+  listed-asla : getD a at 0 ≡ 16 → Listed (at + 2 + listFrom w (valueAt a at))
+  listed-asla asla =
+      let n = getD a (at + 1) 0 in
+      let k = listFrom w (valueAt a at) in
       let i = inside checkA 0 a at here ok in
-      omega (arith, ap length (tail-is k (omega arith)), length-drop k (valueAt a at))
+      let h : k ≤ n = omega (arith, list-within w (valueAt a at) (asla-headed asla), length-bytesAt a (at + 2) n i) in
+      let e : listPart a at (at + 2 + k) ≡ drop k (valueAt a at) = part-drop a (at + 2) n k h i in (
+        ap (λ (l : List ℕ). faults runA unchecked (elements 1 (at + 2 + k) l)) e ∙ list-framed w (valueAt a at) at (asla-ok asla),
+        ap (λ (o : ℕ). selected w (element o (getD a at 0) (valueAt a at))) (zero-add at)
+            ∙ selected-asla w at (getD a at 0) (valueAt a at) asla ∙ ap (λ (l : List ℕ). each attributesOf (elements 1 (at + 2 + k) l)) (sym e),
+      )
 
-  module _ (asla : getD a at 0 ≡ 16) where
-    pub asla-ok : checkAsla at (valueAt a at) ≡ accepted
-    unfolding checkA
-    asla-ok =
-        let p : checkA (0 + at) (getD a at 0) (bytesAt a (at + 2) (getD a (at + 1) 0)) ≡ accepted = passed checkA 0 a at here ok in
-        ap₂ (λ (i : ℕ) (v : List ℕ). checkAsla i v) (sym (zero-add at)) value-is ∙ (rw asla at p)
+  listed : (from : ℕ) → from ≡ listAt w a at → Listed from
+  unfolding listAt
+  listed from e = subst Listed (sym e) (go (eqb (getD a at 0) 16) refl)
+    where
+      go : (b : Bool) → eqb (getD a at 0) 16 ≡ b → Listed (cond b (at + 2 + listFrom w (valueAt a at)) (at + 2 + getD a (at + 1) 0))
+      go true i = listed-asla (eqb-true (getD a at 0) 16 i)
+      go false i = listed-other (eqb-false (getD a at 0) 16 i)
 
-    pub asla-headed : Headed (valueAt a at)
-    asla-headed = headed at (valueAt a at) asla-ok
+  pub list-part-framed : (from : ℕ) → from ≡ listAt w a at → faults runA unchecked (elements 1 from (listPart a at from)) ≡ accepted
+  list-part-framed from e = listed from e .0
 
-    module _ (k : ℕ) (e : k ≡ listFrom w (valueAt a at)) where
-      tail-from : tailAt a at k ≡ drop k (valueAt a at)
-      tail-from = tail-is k (subst (λ (i : ℕ). i ≤ length (valueAt a at)) (sym e) (list-within w (valueAt a at) asla-headed))
-
-      -- The list of an ASLA is framed, and its attributes are those that are selected here.
-      pub asla-framed : faults runA unchecked (elements 1 (at + 2 + k) (tailAt a at k)) ≡ accepted
-      asla-framed =
-          ap (λ (l : List ℕ). faults runA unchecked (elements 1 (at + 2 + k) l)) tail-from
-          ∙ ap (λ (i : ℕ). faults runA unchecked (elements 1 (at + 2 + i) (drop i (valueAt a at)))) e ∙ list-framed w (valueAt a at) at asla-ok
-
-      asla-selected : selected w (elementAt 0 a at) ≡ each attributesOf (elements 1 (at + 2 + k) (tailAt a at k))
-      asla-selected =
-          ap₂ (λ (i : ℕ) (v : List ℕ). selected w (element i (getD a at 0) v)) (zero-add at) (sym value-is)
-          ∙ selected-asla w at (getD a at 0) (valueAt a at) asla
-          ∙ ap (λ (i : ℕ). each attributesOf (elements 1 (at + 2 + i) (drop i (valueAt a at)))) (sym e)
-          ∙ ap (λ (l : List ℕ). each attributesOf (elements 1 (at + 2 + k) l)) (sym tail-from)
+  pub list-part-room : (from : ℕ) → from < at + 2 + getD a (at + 1) 0 → from + length (listPart a at from) ≤ length a
+  list-part-room from h = omega (arith, inside checkA 0 a at here ok, length-take (at + 2 + getD a (at + 1) 0 - from) (drop from a))
 
   -- What gathers attributes list by list gathers those of the run element by element.
-  module _ {G : Type 0} (F : G → List Attribute → G) (none : (g : G) → F g [] ≡ g) (joins : (g : G) (ts us : List Attribute) → F g (ts ++ us) ≡ F (F g ts) us) (g : G) where
+  module _ {G : Type 0} (F : G → List Attribute → G) (none : (g : G) → F g [] ≡ g) (joins : (g : G) (ts us : List Attribute) → F g (ts ++ us) ≡ F (F g ts) us) (g : G) (from : ℕ) (e : from ≡ listAt w a at) where
     abbrev Rest : G → Type 0
     Rest h = F h (each (selected w) (left 1 0 a (at + 2 + getD a (at + 1) 0))) ≡ F g (each (selected w) (left 1 0 a at))
 
-    rest-of : (h : G) → h ≡ F g (selected w (elementAt 0 a at)) → Rest h
-    rest-of h e =
+    pub live-read : (h : G) → h ≡ F g (each attributesOf (elements 1 from (listPart a at from))) → Rest h
+    live-read h f =
         let rest = each (selected w) (left 1 0 a (at + 2 + getD a (at + 1) 0)) in
-        ap (λ (x : G). F x rest) e ∙ sym (joins g (selected w (elementAt 0 a at)) rest) ∙ ap (F g) (sym (turn checkA 0 a at here ok (selected w)))
+        ap (λ (x : G). F x rest) (f ∙ ap (F g) (sym (listed from e .1)))
+        ∙ sym (joins g (selected w (elementAt 0 a at)) rest) ∙ ap (F g) (sym (turn checkA 0 a at here ok (selected w)))
 
-    pub live-read : (k : ℕ) (h : G) → getD a at 0 ≡ 16 → k ≡ listFrom w (valueAt a at) → h ≡ F g (each attributesOf (elements 1 (at + 2 + k) (tailAt a at k))) → Rest h
-    live-read k h t e f = rest-of h (f ∙ ap (F g) (sym (asla-selected t k e)))
-
-    pub live-unread : (k : ℕ) → getD a at 0 ≡ 16 → k ≡ listFrom w (valueAt a at) → getD a (at + 1) 0 ≤ k → Rest g
+    pub live-unread : at + 2 + getD a (at + 1) 0 ≤ from → Rest g
     unfolding each
-    live-unread k t e l =
-        live-read k g t e
-        (sym (ap (λ (v : List ℕ). F g (each attributesOf (elements 1 (at + 2 + k) v))) (tail-from t k e ∙ drop-of-length-le (valueAt a at) {i = k} (omega (arith, value-length)))
-        ∙ ap (λ (es : List Element). F g (each attributesOf es)) (none-left 1 (at + 2 + k)) ∙ none g))
-
-    pub live-other : (getD a at 0 ≡ 16 → ⊥) → Rest g
-    live-other n = rest-of g (sym (ap (F g) (selected-other w (0 + at) (getD a at 0) (bytesAt a (at + 2) (getD a (at + 1) 0)) n) ∙ none g))
+    live-unread l =
+        live-read g
+        (sym (ap (λ (v : List ℕ). F g (each attributesOf (elements 1 from v))) (empty-list from l) ∙ ap (λ (es : List Element). F g (each attributesOf es)) (none-left 1 from) ∙ none g))
 
 -- The end of such a loop.
 module _ {G : Type 0} (F : G → List Attribute → G) (none : (g : G) → F g [] ≡ g) where

@@ -4,4 +4,5 @@ pub mod Walks
 pub mod Headers
 pub mod Aslas
 pub mod Selects
+pub mod Bandwidths
 pub mod Places

@@ -2,7 +2,7 @@
 use mathlib.Core.Path.{_≡_, refl, sym, ap, ap₂, _∙_, subst}
 use mathlib.Core.Bool.{Bool, true, false, cond, _&&_, not}
 use mathlib.Core.List.{List, [], _∷_, map}
-use Prim.Native.Nat.{ℕ}
+use Prim.Native.Nat.{ℕ, zero, suc, _+_, _-_, _≤_, _<_}
 use native.Mathlib.Omega.{arith}
 use borrow.Author.Tests.{eqb-true, eqb-false, eq-eqb, ne-eqb}
 use lib.Dec.{eqb}
@@ -127,7 +127,18 @@ module _ (k c : ℕ) where
       (every-type (λ t. keyed t ≡ true) (tested keyed kinds h)
       (λ x e. rw (ne-eqb x k (λ i. n (sym own ∙ ap codeOfType (sym i) ∙ e)), ne-eqb (codeOfType x) c (λ i. n (sym i ∙ e)))) t)
 
--- Only type 18 is a TE metric; of the link's bandwidths each has its own type.
+-- Only type 18 is a TE metric.
 pub metric-type : (t : ℕ) → eqb t 18 ≡ eqb (codeOfType t) 1092
 unfolding computing testOf keyed agree
 metric-type = only-type 18 1092 refl refl (λ z. omega arith)
+
+-- Each of the link's bandwidths has its own type, 9 to 11.
+pub bandwidth-type : (k : ℕ) → 9 ≤ k → k < 12 → (t : ℕ) → eqb t k ≡ eqb (codeOfType t) (k + 1080)
+unfolding computing testOf keyed agree
+bandwidth-type k h g = let e : 9 + (k - 9) ≡ k = omega arith in subst (λ (i : ℕ). (t : ℕ) → eqb t i ≡ eqb (codeOfType t) (i + 1080)) e (go (k - 9) (omega arith))
+  where
+    go : (d : ℕ) → d < 3 → (t : ℕ) → eqb t (9 + d) ≡ eqb (codeOfType t) (9 + d + 1080)
+    go zero l = only-type 9 1089 refl refl (λ z. omega arith)
+    go (suc zero) l = only-type 10 1090 refl refl (λ z. omega arith)
+    go (suc (suc zero)) l = only-type 11 1091 refl refl (λ z. omega arith)
+    go (suc (suc (suc d))) l = absurd (omega arith)

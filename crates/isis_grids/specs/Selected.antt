@@ -2,9 +2,11 @@
 use mathlib.Core.Path.{_≡_}
 use mathlib.Core.Bool.{Bool, true, false, cond, not}
 use mathlib.Core.List.{List, [], _∷_}
-use Prim.Native.Nat.{ℕ, _≤_}
-use lib.ListN.{length}
+use Prim.Native.Nat.{ℕ, _+_, _≤_}
+use lib.Dec.{eqb}
+use lib.ListN.{length, getD}
 use Rattle.linkstate.specs.Lists.{keep, each}
+use Rattle.linkstate.specs.Bytes.{bytesAt}
 use Rattle.linkstate.specs.Elements.{Element}
 use Rattle.linkstate.specs.Attributes.{Attribute}
 use Rattle.linkstate.specs.Sides.{Advertisement, names, general, rsvpTeAlone}
@@ -27,6 +29,11 @@ unflagged standard user = record { L = false; standardMask = standard; userMask 
 -- Where the attribute list of an ASLA with the value v begins; past the end where there is none to read, or the ASLA is not selected.
 unfoldable pub listFrom : Which → List ℕ → ℕ
 listFrom w v = cond (lFlag v) (length v) (cond (maskTooLong v) (length v) (cond (selects w (advertisement v [])) (headerLength v) (length v)))
+
+-- Where in run A the list of the element at a position begins: at the element's end where it is no ASLA, or none to read.
+unfoldable pub listAt : Which → List ℕ → ℕ → ℕ
+listAt w a at =
+    cond (eqb (getD a at 0) 16) (at + 2 + listFrom w (bytesAt a (at + 2) (getD a (at + 1) 0))) (at + 2 + getD a (at + 1) 0)
 
 -- The value of an ASLA whose checks have passed: it has its fixed bytes, and its masks unless they are too long to be read.
 abbrev pub Headed : List ℕ → Type 0

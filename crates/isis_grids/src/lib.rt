@@ -1,16 +1,17 @@
 // What run A holds, as grids: of its legacy attributes, and of the ASLA sub-TLVs that pass a test (document 01, "Who gets what").
 ghost use mathlib.Core.Path.{_≡_};
 ghost use Prim.Native.Nat.{_+_, _<_, _≤_};
-ghost use lib.ListN.{length};
+ghost use lib.ListN.{length, getD};
 ghost use Rattle.linkstate.specs.Replies.{accepted, runA};
 ghost use Rattle.linkstate.specs.Lists.{each};
+ghost use Rattle.linkstate.specs.Bytes.{bytesAt};
 ghost use Rattle.linkstate.specs.Elements.{elements, faults};
 ghost use Rattle.linkstate.specs.Kinds.{codeOfType};
 ghost use Rattle.kinds.specs.Rules.{gridCodes, rowIn};
 ghost use Rattle.linkstate.specs.Sides.{ofLive};
 ghost use Rattle.isis.specs.RunA.{attributesOf, checkA, sideA};
-ghost use Rattle.isis_grids.specs.Grid.{gridOf, filled, unchecked};
-ghost use Rattle.isis_grids.specs.Selected.{selects, unflagged, listFrom, Headed};
+ghost use Rattle.isis_grids.specs.Grid.{rowOf, gridOf, filled, unchecked};
+ghost use Rattle.isis_grids.specs.Selected.{selects, unflagged, listFrom, listAt, Headed};
 use kinds::Kind;
 
 // The row of a type; 10 where it has none.
@@ -90,7 +91,7 @@ fn passes(which: Which, standard: &[u8], user: &[u8]) -> bool
 }
 
 // Where the attribute list of an ASLA with the value v begins; past the end where there is none to read, or the ASLA is not selected.
-pub fn list_start(v: &[u8], which: Which) -> usize
+fn list_start(v: &[u8], which: Which) -> usize
     requires { ⌜ Headed (now v) ⌝ }
     ensures { λ r. ⌜ r ≡ listFrom which (now (v .entry)) ⌝ }
 {
@@ -109,6 +110,19 @@ pub fn list_start(v: &[u8], which: Which) -> usize
     v.len()
 }
 
+// Where in run A the list of the element at a position begins: at the element's end where it is no ASLA, or none to read.
+fn list_at(a: &[u8], at: usize, which: Which) -> usize
+    requires { ⌜ (at + 2 + getD (now a) (at + 1) 0 ≤ length (now a)) × (getD (now a) at 0 ≡ 16 → Headed (bytesAt (now a) (at + 2) (getD (now a) (at + 1) 0))) ⌝ }
+    ensures { λ r. ⌜ r ≡ listAt which (now (a .entry)) at ⌝ }
+{
+    let n = a[at + 1] as usize;
+    let v = at + 2;
+    if a[at] != 16 {
+        return v + n;
+    }
+    v + list_start(&a[v..v + n], which)
+}
+
 // The grid of the live ASLA sub-TLVs that are selected, together.
 pub fn live_grid(a: &[u8], which: Which) -> [[usize; 2]; 10]
     requires { ⌜ faults runA checkA (elements 1 0 (now a)) ≡ accepted ⌝ }
@@ -119,15 +133,52 @@ pub fn live_grid(a: &[u8], which: Which) -> [[usize; 2]; 10]
     while at < a.len() {
         let n = a[at + 1] as usize;
         let next = at + 2 + n;
-        if a[at] == 16 {
-            let v = &a[at + 2..next];
-            let k = list_start(v, which);
-            if k < n {
-                let h = fill(g, &v[k..], at + 2 + k);
-                g = h;
-            }
+        let from = list_at(a, at, which);
+        if from < next {
+            let h = fill(g, &a[from..next], from);
+            g = h;
         }
         at = next;
     }
     g
+}
+
+// The row of one of the link's bandwidths, by its type, in a list whose first byte is at an offset of run A.
+pub fn bandwidth_in(s: &[u8], base: usize, t: u8) -> [usize; 2]
+    requires { ⌜ (9 ≤ t) × (t < 12) × (base + length (now s) < 18446744073709551616) × (faults runA unchecked (elements 1 base (now s)) ≡ accepted) ⌝ }
+    ensures { λ r. ⌜ r ≡ rowOf (t + 1080) (each attributesOf (elements 1 base (now (s .entry)))) ⌝ }
+{
+    let mut at = 0;
+    while at < s.len() {
+        let n = s[at + 1] as usize;
+        if s[at] == t {
+            let row = [base + at + 2, n];
+            return row;
+        }
+        at = at + 2 + n;
+    }
+    let none = [0usize; 2];
+    none
+}
+
+// The row of one of the link's bandwidths, by its type, in the live ASLA sub-TLVs that are selected.
+pub fn live_bandwidth(a: &[u8], which: Which, t: u8) -> [usize; 2]
+    requires { ⌜ (9 ≤ t) × (t < 12) × (faults runA checkA (elements 1 0 (now a)) ≡ accepted) ⌝ }
+    ensures { λ r. ⌜ r ≡ rowOf (t + 1080) (ofLive (selects which) (sideA (now (a .entry)))) ⌝ }
+{
+    let mut at = 0;
+    while at < a.len() {
+        let n = a[at + 1] as usize;
+        let next = at + 2 + n;
+        let from = list_at(a, at, which);
+        if from < next {
+            let row = bandwidth_in(&a[from..next], from, t);
+            if row[0] != 0 {
+                return row;
+            }
+        }
+        at = next;
+    }
+    let none = [0usize; 2];
+    none
 }

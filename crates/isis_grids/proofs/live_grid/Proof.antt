@@ -1,6 +1,5 @@
--- A turn that meets a selected ASLA fills the grid from its list; every other turn leaves it.
-use Rattle.isis_grids.proofs.Aslas.{value-length, tail-room, asla-headed, asla-framed, live-read, live-unread, live-other, live-end, live-start, filled-nil}
-use Rattle.isis_grids.proofs.Aslas.{asla-headed, asla-framed, live-read, live-unread, live-other, live-end, live-start, filled-nil}
+-- A turn fills the grid from the element's list, if it has one that is selected.
+use Rattle.isis_grids.proofs.Aslas.{asla-headed, list-part-framed, list-part-room, live-read, live-unread, live-end, live-start, filled-nil}
 use Rattle.isis_grids.proofs.Walks.{left-all, inside, rest-ok}
 use Rattle.isis_grids.proofs.Grids.{filled-append}
 use Rattle.isis_grids.specs.Selected.{selects, selected}
@@ -8,13 +7,13 @@ use Rattle.isis_grids.specs.Grid.{gridOf, filled}
 use Rattle.isis.specs.RunA.{checkA, sideA}
 use Rattle.linkstate.proofs.WalkLaws.{left}
 use Rattle.linkstate.specs.Sides.{ofLive}
-use Rattle.linkstate.specs.Elements.{elements, faults}
+use Rattle.linkstate.specs.Elements.{faults}
 use Rattle.linkstate.specs.Replies.{accepted, runA}
 use Rattle.linkstate.specs.Lists.{each}
 use denote.Ref.{now}
-use lib.ListN.{length, length-drop}
+use lib.ListN.{length}
 use native.Mathlib.Omega.{arith}
-use mathlib.Core.Path.{_≡_, ap, sym, _∙_}
+use mathlib.Core.Path.{_≡_, ap, _∙_}
 use Prim.Native.Nat.{_+_, _≤_, _-_}
 use borrow.Author.Needs.{needs}
 use Rattle.isis_grids.proofs.live_grid.Statement.{statement}
@@ -44,81 +43,52 @@ add-next c = search needs
 add-next-2 : tie.Need-add-next-2 Inv-loop μ-loop
 add-next-2 c = let l = c .before .before .loop in omega (arith, inside checkA 0 (now (c .before .before .before .before .args .a)) (l .at) (c .before .loop-test .taken) (l .inv .1))
 
-shared-slice-read-if1 : tie.Need-shared-slice-read-if1 Inv-loop μ-loop
-shared-slice-read-if1 c = search needs
-
-add-v : tie.Need-add-v Inv-loop μ-loop
-add-v c = search needs
-
-sub-v : tie.Need-sub-v Inv-loop μ-loop
-sub-v c = search needs
-
-part-v-start : tie.Need-part-v-start Inv-loop μ-loop
-part-v-start c = search needs
-
-part-v-end : tie.Need-part-v-end Inv-loop μ-loop
-part-v-end c = let l = c .before .before .before .before .loop in inside checkA 0 (now (c .before .before .before .before .before .before .args .a)) (l .at) (c .before .before .before .loop-test .taken) (l .inv .1)
-
-list-start-requires : tie.Need-list-start-requires Inv-loop μ-loop
-list-start-requires c κs = let l = c .before .before .before .before .before .loop in asla-headed (c .before .before .before .before .before .before .before .args .which) (now (c .before .before .before .before .before .before .before .args .a)) (l .at) (c .before .before .before .before .loop-test .taken) (l .inv .1) (c .before .if1 .taken)
+list-at-requires : tie.Need-list-at-requires Inv-loop μ-loop
+list-at-requires c κs = let l = c .before .before .loop in
+    let x = c .before .before .before .before .args in
+    let here = c .before .loop-test .taken in
+    (inside checkA 0 (now (x .a)) (l .at) here (l .inv .1), asla-headed (x .which) (now (x .a)) (l .at) here (l .inv .1))
 
 sub-fill : tie.Need-sub-fill Inv-loop μ-loop
-sub-fill c = let l = c .before .before .before .before .before .before .before .loop in omega (arith, value-length (c .before .before .before .before .before .before .before .before .before .args .which) (now (c .before .before .before .before .before .before .before .before .before .args .a)) (l .at) (c .before .before .before .before .before .before .loop-test .taken) (l .inv .1))
+sub-fill c = search needs
 
 part-fill-start : tie.Need-part-fill-start Inv-loop μ-loop
-part-fill-start c = let l = c .before .before .before .before .before .before .before .loop in omega (arith, value-length (c .before .before .before .before .before .before .before .before .before .args .which) (now (c .before .before .before .before .before .before .before .before .before .args .a)) (l .at) (c .before .before .before .before .before .before .loop-test .taken) (l .inv .1))
+part-fill-start c = search needs
 
 part-fill-end : tie.Need-part-fill-end Inv-loop μ-loop
-part-fill-end c = search needs
-
-add-fill : tie.Need-add-fill Inv-loop μ-loop
-add-fill c = let l = c .before .before .before .before .before .before .before .before .loop in omega (arith, inside checkA 0 (now (c .before .before .before .before .before .before .before .before .before .before .args .a)) (l .at) (c .before .before .before .before .before .before .before .loop-test .taken) (l .inv .1))
-
-add-fill-2 : tie.Need-add-fill-2 Inv-loop μ-loop
-add-fill-2 c = let l = c .before .before .before .before .before .before .before .before .loop in omega (arith, inside checkA 0 (now (c .before .before .before .before .before .before .before .before .before .before .args .a)) (l .at) (c .before .before .before .before .before .before .before .loop-test .taken) (l .inv .1))
+part-fill-end c = let l = c .before .before .before .before .loop in inside checkA 0 (now (c .before .before .before .before .before .before .args .a)) (l .at) (c .before .before .before .loop-test .taken) (l .inv .1)
 
 fill-requires : tie.Need-fill-requires Inv-loop μ-loop
-fill-requires c κs = let l = c .before .before .before .before .before .before .before .before .loop in
-    let x = c .before .before .before .before .before .before .before .before .before .before .args in
-    let here = c .before .before .before .before .before .before .before .loop-test .taken in (
-      omega (arith, tail-room (x .which) (now (x .a)) (l .at) here (l .inv .1) (c .before .before .list-start .result) (c .before .if2 .taken)),
-      asla-framed (x .which) (now (x .a)) (l .at) here (l .inv .1) (c .before .before .before .before .if1 .taken) (c .before .before .list-start .result) (c .before .before .list-start .ensures),
+fill-requires c κs = let l = c .before .before .before .before .before .loop in
+    let x = c .before .before .before .before .before .before .before .args in
+    let here = c .before .before .before .before .loop-test .taken in
+    let from = c .before .before .list-at .result in (
+      omega (arith, list-part-room (x .which) (now (x .a)) (l .at) here (l .inv .1) from (c .before .if1 .taken)),
+      list-part-framed (x .which) (now (x .a)) (l .at) here (l .inv .1) from (c .before .before .list-at .ensures),
     )
 
 loop-less : tie.Need-loop-less Inv-loop μ-loop
 loop-less c = omega arith
 
 loop-again : tie.Need-loop-again Inv-loop μ-loop
-loop-again c = let l = c .before .before .before .before .before .before .before .before .before .loop in
-    let x = c .before .before .before .before .before .before .before .before .before .before .before .args in
-    let here = c .before .before .before .before .before .before .before .before .loop-test .taken in (
+loop-again c = let l = c .before .before .before .before .before .before .loop in
+    let x = c .before .before .before .before .before .before .before .before .args in
+    let here = c .before .before .before .before .before .loop-test .taken in (
       inside checkA 0 (now (x .a)) (l .at) here (l .inv .1),
       rest-ok checkA 0 (now (x .a)) (l .at) here (l .inv .1),
-      live-read (x .which) (now (x .a)) (l .at) here (l .inv .1) filled filled-nil filled-append (l .g) (c .before .before .before .list-start .result) (c .fill .result) (c .before .before .before .before .before .if1 .taken) (c .before .before .before .list-start .ensures) (c .fill .ensures) ∙ l .inv .2,
+      live-read (x .which) (now (x .a)) (l .at) here (l .inv .1) filled filled-nil filled-append (l .g) (c .before .before .before .list-at .result) (c .before .before .before .list-at .ensures) (c .fill .result) (c .fill .ensures) ∙ l .inv .2,
     )
 
 loop-less-2 : tie.Need-loop-less-2 Inv-loop μ-loop
 loop-less-2 c = omega arith
 
 loop-again-2 : tie.Need-loop-again-2 Inv-loop μ-loop
-loop-again-2 c = let l = c .before .before .before .before .before .before .before .loop in
-    let x = c .before .before .before .before .before .before .before .before .before .args in
-    let here = c .before .before .before .before .before .before .loop-test .taken in (
-      inside checkA 0 (now (x .a)) (l .at) here (l .inv .1),
-      rest-ok checkA 0 (now (x .a)) (l .at) here (l .inv .1),
-      live-unread (x .which) (now (x .a)) (l .at) here (l .inv .1) filled filled-nil filled-append (l .g) (c .before .list-start .result) (c .before .before .before .if1 .taken) (c .before .list-start .ensures) (c .if2 .left) ∙ l .inv .2,
-    )
-
-loop-less-3 : tie.Need-loop-less-3 Inv-loop μ-loop
-loop-less-3 c = omega arith
-
-loop-again-3 : tie.Need-loop-again-3 Inv-loop μ-loop
-loop-again-3 c = let l = c .before .before .before .before .loop in
+loop-again-2 c = let l = c .before .before .before .before .loop in
     let x = c .before .before .before .before .before .before .args in
     let here = c .before .before .before .loop-test .taken in (
       inside checkA 0 (now (x .a)) (l .at) here (l .inv .1),
       rest-ok checkA 0 (now (x .a)) (l .at) here (l .inv .1),
-      live-other (x .which) (now (x .a)) (l .at) here (l .inv .1) filled filled-nil filled-append (l .g) (c .if1 .left) ∙ l .inv .2,
+      live-unread (x .which) (now (x .a)) (l .at) here (l .inv .1) filled filled-nil filled-append (l .g) (c .before .list-at .result) (c .before .list-at .ensures) (c .if1 .left) ∙ l .inv .2,
     )
 
 returns : tie.Need-returns Inv-loop μ-loop
@@ -136,22 +106,13 @@ live-grid-spec =
     cast-n
     add-next
     add-next-2
-    shared-slice-read-if1
-    add-v
-    sub-v
-    part-v-start
-    part-v-end
-    list-start-requires
+    list-at-requires
     sub-fill
     part-fill-start
     part-fill-end
-    add-fill
-    add-fill-2
     fill-requires
     loop-less
     loop-again
     loop-less-2
     loop-again-2
-    loop-less-3
-    loop-again-3
     returns)
