@@ -1,0 +1,28 @@
+-- The reply of the row that was found.
+use Rattle.isis_values.proofs.Laws.{row-readable, row-answers}
+use Rattle.replies.specs.Told.{subjectOf}
+use mathlib.Core.List.{[]}
+use mathlib.Core.Path.{sym, _∙_}
+use borrow.Author.Needs.{needs}
+use Rattle.isis_values.proofs.answer_value.Statement.{statement}
+use Rattle.isis_values.proofs.answer_value.Tie as tie
+
+find-row-requires : tie.Need-find-row-requires
+find-row-requires c κs = search needs
+
+array-read-place : tie.Need-array-read-place
+array-read-place c = search needs
+
+array-read-len : tie.Need-array-read-len
+array-read-len c = search needs
+
+answer-row-requires : tie.Need-answer-row-requires
+answer-row-requires c κs = let q = c .before .before in let p = q .pre in row-readable _ (p .0) [] [] (subjectOf (q .args .whom)) _ (p .2) (p .3) _ (c .find-row .ensures [] [])
+
+returns : tie.Need-returns
+returns c = let q = c .before .before .before in let p = q .pre in λ b d. c .answer-row .ensures ∙ sym (row-answers _ (p .0) b d (subjectOf (q .args .whom)) _ (p .2) (p .3) _ (c .before .find-row .ensures b d))
+
+pub answer-value-spec : {M : Type 1} → statement M
+answer-value-spec =
+    tie.close
+    (tie.spec find-row-requires array-read-place array-read-len answer-row-requires returns)
