@@ -78,12 +78,18 @@ sound at t v h e = record { fixed = go (ltb (length v) 4) refl checked; masks = 
 -- ---- the masks of a 1122 that has room for them
 
 module _ (v : List ℕ) (s u : ℕ) (e : s ≡ sabmLength v) (f : u ≡ udabmLength v) where
-  -- Whether the code's parts name an application.
+  -- They are the code's parts.
+  pub standard-part : take (4 + s - 4) (drop 4 v) ≡ standardMask v
+  unfolding standardMask
+  standard-part = rw (add-sub-cancel-left 4 s) (ap (λ (x : ℕ). take x (drop 4 v)) e)
+
+  pub user-part : take (4 + s + u - (4 + s)) (drop (4 + s) v) ≡ userMask v
+  unfolding userMask
+  user-part = rw (add-sub-cancel-left (4 + s) u) (ap₂ (λ (x y : ℕ). take y (drop (4 + x) v)) e f)
+
   pub names-part : (a : ℕ) → inMasks (take (4 + s - 4) (drop 4 v)) (take (4 + s + u - (4 + s)) (drop (4 + s) v)) a ≡ chosenBy (Naming a) (standardMask v) (userMask v)
-  unfolding chosenBy standardMask userMask
-  names-part a =
-      rw (add-sub-cancel-left 4 s, add-sub-cancel-left (4 + s) u)
-      (ap₂ (λ (x y : ℕ). inMasks (take x (drop 4 v)) (take y (drop (4 + x) v)) a) e f)
+  unfolding chosenBy
+  names-part a = ap₂ (λ (x y : List ℕ). inMasks x y a) standard-part user-part
 
   pub general-lengths : 4 + s + u ≤ length v → (eqb s 0 && eqb u 0) ≡ chosenBy General (standardMask v) (userMask v)
   unfolding chosenBy standardMask userMask
