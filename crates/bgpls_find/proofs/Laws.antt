@@ -7,19 +7,19 @@ use native.Mathlib.Omega.{arith}
 use native.Mathlib.Nat.{add-sub-cancel-left}
 use borrow.Author.Tests.{ltb-false, eq-eqb, ne-eqb, eqb-true}
 use lib.Dec.{eqb, ltb}
-use lib.ListN.{length, take, drop, length-drop, drop-of-length-le}
-use lib.Seq.{length-take-le, take-length}
+use lib.ListN.{length, take, drop, length-drop}
+use lib.Seq.{length-take-le}
 use Rattle.linkstate.specs.Lists.{keep, each}
 use Rattle.linkstate.specs.Bytes.{bytesAt}
 use Rattle.linkstate.specs.Masks.{inMasks}
-use Rattle.linkstate.specs.Replies.{Verdict, accepted, fault, runBgpLs, _then_}
+use Rattle.linkstate.specs.Replies.{accepted, fault, runBgpLs, _then_}
 use Rattle.linkstate.specs.Elements.{Element, element, cut, elements, faults}
 use Rattle.linkstate.specs.Attributes.{Attribute, attribute, ofKind}
 use Rattle.linkstate.specs.Sides.{Advertisement}
-use Rattle.linkstate.specs.BgpLs.{sabmLength, udabmLength, aslaHeader, notIgnored, checkAsla, checkTop, runVerdict, attributesOf, advertisement, advertisementsOf, innerElements}
-use Rattle.linkstate.proofs.WalkLaws.{left, typeAt, lengthAt, left-end, left-cut, left-whole, then-first, then-second, not-accepted}
+use Rattle.linkstate.specs.BgpLs.{sabmLength, udabmLength, aslaHeader, notIgnored, checkAsla, checkTop, attributesOf, advertisement, advertisementsOf, innerElements}
+use Rattle.linkstate.proofs.WalkLaws.{left, left-end, left-cut, left-whole, then-first, then-second, not-accepted}
 use Rattle.octets.proofs.Laws.{length-bytesAt, part-is}
-use Rattle.bgpls_check.specs.declared.Frame.the-variants.{Cut, Whole}
+use Rattle.bgpls_check.specs.declared.Frame.the-variants.{Cut}
 use Rattle.bgpls_check.specs.Framing.{frameAt}
 use Rattle.bgpls_check.proofs.Laws.{IsWhole, is-cut, top-asla}
 use Rattle.rivals.proofs.RunLaws.{asla-checked}
@@ -29,7 +29,7 @@ use Rattle.bgpls_find.specs.declared.Set.the-variants.{General, Naming}
 use Rattle.bgpls_find.specs.declared.Found.{Found}
 use Rattle.bgpls_find.specs.declared.Found.the-variants.{At, Absent}
 use Rattle.bgpls_find.specs.Sets.{chosenBy, chosen, foundIn}
-use Rattle.bgpls_find.specs.Walks.{rest, Passes, aslasFrom, attributesFrom, standardMask, userMask, Sound, IsAsla}
+use Rattle.bgpls_find.specs.Walks.{rest, Passes, aslasFrom, standardMask, userMask, Sound, IsAsla}
 
 -- ---- the elements that are left
 

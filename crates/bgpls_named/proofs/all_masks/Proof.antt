@@ -10,10 +10,8 @@ use Rattle.linkstate.specs.BgpLs.{notIgnored, aslaHeader}
 use lib.ListN.{length}
 use borrow.Author.Needs.{needs}
 use native.Mathlib.Omega.{arith}
-use mathlib.Core.Path.{_≡_}
-use mathlib.Core.Bool.{true}
 use mathlib.Core.List.{List}
-use mathlib.Core.Path.{refl, subst, sym, _∙_, ap}
+use mathlib.Core.Path.{refl, subst, _∙_, ap}
 use Prim.Native.Nat.{ℕ, _+_, _-_, _≤_}
 use Rattle.bgpls_named.proofs.all_masks.Statement.{statement}
 use Rattle.bgpls_named.proofs.all_masks.Tie as tie
