@@ -25,7 +25,6 @@ use Rattle.kinds.specs.declared.Rule.{Rule}
 use Rattle.kinds.proofs.Kind.{the-type}
 use Rattle.kinds.specs.Rules.{ruleOfCode, fitsIn, wrongInsideBy}
 use Rattle.kinds.proofs.Laws.{wrong-inside, wrong-at-top}
-use Rattle.bgpls_check.specs.declared.Frame.{Frame}
 use Rattle.bgpls_check.specs.declared.Frame.the-variants.{Cut, Whole}
 use Rattle.bgpls_check.specs.Framing.{frameAt}
 

@@ -7,19 +7,19 @@ use native.Mathlib.Omega.{arith}
 use native.Mathlib.Nat.{add-sub-cancel-left}
 use borrow.Author.Tests.{ltb-false, eq-eqb, ne-eqb, eqb-true}
 use lib.Dec.{eqb, ltb}
-use lib.ListN.{length, take, drop, length-drop, drop-of-length-le}
-use lib.Seq.{length-take-le, take-length}
+use lib.ListN.{length, take, drop, length-drop}
+use lib.Seq.{length-take-le}
 use Rattle.linkstate.specs.Lists.{keep, each}
 use Rattle.linkstate.specs.Bytes.{bytesAt}
 use Rattle.linkstate.specs.Masks.{inMasks}
-use Rattle.linkstate.specs.Replies.{Verdict, accepted, fault, runBgpLs, _then_}
+use Rattle.linkstate.specs.Replies.{accepted, fault, runBgpLs, _then_}
 use Rattle.linkstate.specs.Elements.{Element, element, cut, elements, faults}
 use Rattle.linkstate.specs.Attributes.{Attribute, attribute, ofKind}
 use Rattle.linkstate.specs.Sides.{Advertisement}
-use Rattle.linkstate.specs.BgpLs.{sabmLength, udabmLength, aslaHeader, notIgnored, checkAsla, checkTop, runVerdict, attributesOf, advertisement, advertisementsOf, innerElements}
-use Rattle.linkstate.proofs.WalkLaws.{left, typeAt, lengthAt, left-end, left-cut, left-whole, then-first, then-second, not-accepted}
+use Rattle.linkstate.specs.BgpLs.{sabmLength, udabmLength, aslaHeader, notIgnored, checkAsla, checkTop, attributesOf, advertisement, advertisementsOf, innerElements}
+use Rattle.linkstate.proofs.WalkLaws.{left, left-end, left-cut, left-whole, then-first, then-second, not-accepted}
 use Rattle.octets.proofs.Laws.{length-bytesAt, part-is}
-use Rattle.bgpls_check.specs.declared.Frame.the-variants.{Cut, Whole}
+use Rattle.bgpls_check.specs.declared.Frame.the-variants.{Cut}
 use Rattle.bgpls_check.specs.Framing.{frameAt}
 use Rattle.bgpls_check.proofs.Laws.{IsWhole, is-cut, top-asla}
 use Rattle.rivals.proofs.RunLaws.{asla-checked}
@@ -29,7 +29,7 @@ use Rattle.bgpls_find.specs.declared.Set.the-variants.{General, Naming}
 use Rattle.bgpls_find.specs.declared.Found.{Found}
 use Rattle.bgpls_find.specs.declared.Found.the-variants.{At, Absent}
 use Rattle.bgpls_find.specs.Sets.{chosenBy, chosen, foundIn}
-use Rattle.bgpls_find.specs.Walks.{rest, Passes, aslasFrom, attributesFrom, standardMask, userMask, Sound, IsAsla}
+use Rattle.bgpls_find.specs.Walks.{rest, Passes, aslasFrom, standardMask, userMask, Sound, IsAsla}
 
 -- ---- the elements that are left
 
@@ -78,12 +78,18 @@ sound at t v h e = record { fixed = go (ltb (length v) 4) refl checked; masks = 
 -- ---- the masks of a 1122 that has room for them
 
 module _ (v : List ℕ) (s u : ℕ) (e : s ≡ sabmLength v) (f : u ≡ udabmLength v) where
-  -- Whether the code's parts name an application.
+  -- They are the code's parts.
+  pub standard-part : take (4 + s - 4) (drop 4 v) ≡ standardMask v
+  unfolding standardMask
+  standard-part = rw (add-sub-cancel-left 4 s) (ap (λ (x : ℕ). take x (drop 4 v)) e)
+
+  pub user-part : take (4 + s + u - (4 + s)) (drop (4 + s) v) ≡ userMask v
+  unfolding userMask
+  user-part = rw (add-sub-cancel-left (4 + s) u) (ap₂ (λ (x y : ℕ). take y (drop (4 + x) v)) e f)
+
   pub names-part : (a : ℕ) → inMasks (take (4 + s - 4) (drop 4 v)) (take (4 + s + u - (4 + s)) (drop (4 + s) v)) a ≡ chosenBy (Naming a) (standardMask v) (userMask v)
-  unfolding chosenBy standardMask userMask
-  names-part a =
-      rw (add-sub-cancel-left 4 s, add-sub-cancel-left (4 + s) u)
-      (ap₂ (λ (x y : ℕ). inMasks (take x (drop 4 v)) (take y (drop (4 + x) v)) a) e f)
+  unfolding chosenBy
+  names-part a = ap₂ (λ (x y : List ℕ). inMasks x y a) standard-part user-part
 
   pub general-lengths : 4 + s + u ≤ length v → (eqb s 0 && eqb u 0) ≡ chosenBy General (standardMask v) (userMask v)
   unfolding chosenBy standardMask userMask

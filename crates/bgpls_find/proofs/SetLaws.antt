@@ -1,5 +1,5 @@
 -- The attributes of a set, list by list, and what a run that passed its checks has.
-use mathlib.Core.Path.{_≡_, refl, sym, ap, ap₂, _∙_, subst}
+use mathlib.Core.Path.{_≡_, refl, sym, ap, ap₂, _∙_}
 use mathlib.Core.Logic.{⊎-elim}
 use mathlib.Core.Bool.{Bool, true, false, cond, not}
 use mathlib.Core.List.{List, [], _∷_, _++_, append-nil}
@@ -11,7 +11,7 @@ use denote.Enum.Declared.{tagOf}
 use lib.Dec.{ltb, eqb}
 use lib.ListN.{length, take, drop, length-drop}
 use lib.Seq.{take-length, length-take-le}
-use Rattle.linkstate.specs.Lists.{keep, each, any, empty}
+use Rattle.linkstate.specs.Lists.{keep, each, empty}
 use Rattle.linkstate.specs.Bytes.{bytesAt}
 use Rattle.linkstate.specs.Replies.{accepted, refusedIf, faultOfCall, fault, runA, runBgpLs, _then_}
 use Rattle.linkstate.specs.Elements.{Element, elements, faults}
@@ -25,7 +25,6 @@ use Rattle.rivals.proofs.ListLaws.{any-keep, keep-append}
 use Rattle.rivals.proofs.RunLaws.{no-L, named-set}
 use Rattle.bgpls_find.specs.declared.Set.{Set}
 use Rattle.bgpls_find.specs.declared.Set.the-variants.{Top, Every, General, Naming}
-use Rattle.bgpls_find.specs.declared.Found.{Found}
 use Rattle.bgpls_find.specs.declared.Found.the-variants.{At, Absent}
 use Rattle.bgpls_find.specs.Sets.{isTop, chosenBy, chosen, attributesIn, foundIn}
 use Rattle.bgpls_find.specs.Walks.{rest, Passes, aslasFrom, attributesFrom, IsAsla, IsPart}
@@ -46,9 +45,12 @@ run-within r = go (ltb 524288 (length r)) refl
     go true e h = absurd (not-accepted 1 runA 0 h)
     go false e h = ltb-false 524288 (length r) e
 
--- A part of it stands within its first 524,288 bytes.
+-- A part of it, by the code's slice.
+pub part-size : (r : List ℕ) (first next : ℕ) → first ≤ next → next ≤ length r → length (take (next - first) (drop first r)) ≡ next - first
+part-size r first next h g = length-take-le (next - first) (drop first r) (omega (arith, length-drop first r))
+
 pub part-within : (r : List ℕ) (first next : ℕ) → first ≤ next → next ≤ length r → runVerdict r ≡ accepted → first + length (take (next - first) (drop first r)) ≤ 524288
-part-within r first next h g p = omega (arith, run-within r p, length-take-le (next - first) (drop first r) (omega (arith, length-drop first r)))
+part-within r first next h g p = omega (arith, run-within r p, part-size r first next h g)
 
 -- ---- the lists of elements of a set
 

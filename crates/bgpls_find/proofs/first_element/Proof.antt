@@ -12,7 +12,7 @@ use borrow.Author.Needs.{needs}
 use native.Mathlib.Omega.{arith}
 use mathlib.Core.List.{List}
 use mathlib.Core.Path.{_≡_, sym, ap, _∙_}
-use Prim.Native.Nat.{ℕ, _+_, _-_, _≤_}
+use Prim.Native.Nat.{ℕ, _-_, _≤_}
 use Rattle.bgpls_find.proofs.first_element.Statement.{statement}
 use Rattle.bgpls_find.proofs.first_element.Tie as tie
 use Rattle.bgpls_find.proofs.first_element.Reads as reads

@@ -1,15 +1,15 @@
 -- `bgpls_find::first_in` meets its contract: no list that was passed has the kind.
-use Rattle.bgpls_find.proofs.SetLaws.{run-passes, run-within, from-run, attributes-end, found-first, found-later, found-none, part-within}
+use Rattle.bgpls_find.proofs.SetLaws.{run-passes, from-run, attributes-end, found-first, found-later, found-none, part-within}
 use Rattle.bgpls_find.specs.Walks.{Passes, attributesFrom, IsPart, NextPart}
 use Rattle.bgpls_find.specs.Sets.{attributesIn, foundIn}
 use Rattle.bgpls_find.specs.declared.Set.{Set}
 use Rattle.linkstate.specs.Attributes.{Attribute, ofKind}
-use lib.ListN.{length, length-take, length-drop}
+use lib.ListN.{length}
 use borrow.Author.Needs.{needs}
 use native.Mathlib.Omega.{arith}
 use mathlib.Core.List.{List}
 use mathlib.Core.Path.{_≡_, sym, ap, _∙_, subst}
-use Prim.Native.Nat.{ℕ, _+_, _-_, _≤_}
+use Prim.Native.Nat.{ℕ, _-_, _≤_}
 use Rattle.bgpls_find.proofs.first_in.Statement.{statement}
 use Rattle.bgpls_find.proofs.first_in.Tie as tie
 use Rattle.bgpls_find.proofs.first_in.Reads as reads

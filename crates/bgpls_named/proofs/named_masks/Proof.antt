@@ -1,0 +1,21 @@
+-- `bgpls_named::named_masks` meets its contract: what all 1122s name, without standard 0.
+use Rattle.bgpls_named.proofs.Laws.{names-standard, names-user}
+use native.Mathlib.Omega.{arith}
+use borrow.Author.Needs.{needs}
+use Rattle.bgpls_named.proofs.named_masks.Statement.{statement}
+use Rattle.bgpls_named.proofs.named_masks.Tie as tie
+
+all-masks-requires : tie.Need-all-masks-requires
+all-masks-requires c κs = search needs
+
+without-requires : tie.Need-without-requires
+without-requires c κs = search needs
+
+returns : tie.Need-returns
+returns c =
+    let r = c .before .before .before .args .r .now in
+    let a = c .before .all-masks in
+    (names-standard r (a .result) (a .ensures) (c .without .result) (omega arith) (c .without .ensures), names-user r (a .result) (a .ensures) (omega arith))
+
+pub named-masks-spec : {M : Type 1} → statement M
+named-masks-spec = tie.close (tie.spec all-masks-requires without-requires returns)

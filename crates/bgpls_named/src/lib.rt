@@ -1,0 +1,71 @@
+// The applications that a BGP-LS run names.
+ghost use mathlib.Core.Path.{_≡_};
+ghost use mathlib.Core.Bool.{true};
+ghost use Prim.Native.Nat.{_≤_};
+ghost use lib.ListN.{length};
+ghost use Rattle.linkstate.specs.Masks.{user, asNumber};
+ghost use Rattle.linkstate.specs.Replies.{accepted};
+ghost use Rattle.linkstate.specs.BgpLs.{notIgnored, aslaHeader, aslas, runVerdict, runSource};
+ghost use Rattle.bgpls_named.specs.Joined.{HoldNames, HoldBoth};
+use bgpls_check::read_asla_header;
+use bgpls_find::Asla;
+use bgpls_find::Set;
+use bgpls_find::next_asla;
+use masks::joined;
+use masks::mask_number;
+use masks::without;
+
+// Standard and user applications, application n as 2 to the n.
+pub struct NamedMasks {
+    pub standard: u64,
+    pub user: u64,
+}
+
+// With the masks of a 1122.
+fn join_masks(v: &[u8], m: NamedMasks) -> NamedMasks
+    requires { ⌜ (4 ≤ length (now v)) × (notIgnored (now v) ≡ true) × (aslaHeader (now v) ≤ length (now v)) ⌝ }
+    ensures { λ j. ⌜ HoldBoth j m (now (v .entry)) ⌝ }
+{
+    let h = read_asla_header(v);
+    let end = 4 + h.standard;
+    let next = end + h.user;
+    let standard = joined(m.standard, mask_number(&v[4..end]));
+    let user = joined(m.user, mask_number(&v[end..next]));
+    NamedMasks { standard, user }
+}
+
+// The masks of all 1122s that are not ignored, joined.
+fn all_masks(r: &[u8]) -> NamedMasks
+    requires { ⌜ runVerdict (now r) ≡ accepted ⌝ }
+    ensures { λ m. ⌜ HoldNames m (aslas (now (r .entry))) ⌝ }
+{
+    let mut m = NamedMasks {
+        standard: 0,
+        user: 0,
+    };
+    let mut from = 0;
+    while from < r.len() {
+        let Asla::At { at, len } = next_asla(r, from, Set::Every) else {
+            return m;
+        };
+        let value = at + 4;
+        let next = value + len;
+        let j = join_masks(&r[value..next], m);
+        m = j;
+        from = next;
+    }
+    m
+}
+
+// The named applications other than RSVP-TE, which is standard 0.
+pub fn named_masks(r: &[u8]) -> NamedMasks
+    requires { ⌜ runVerdict (now r) ≡ accepted ⌝ }
+    ensures { λ m. ⌜ (m .standard ≡ asNumber (runSource (now (r .entry)) .names)) × (m .user ≡ asNumber (λ n. runSource (now (r .entry)) .names (user n))) ⌝ }
+{
+    let m = all_masks(r);
+    let standard = without(m.standard, 1);
+    NamedMasks {
+        standard,
+        user: m.user,
+    }
+}
