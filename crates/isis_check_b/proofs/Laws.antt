@@ -1,12 +1,12 @@
 -- Link identifiers: the code's classification against the definitions, the tally of types, and what a turn of the walk does to both.
-use mathlib.Core.Path.{_≡_, refl, sym, ap, ap₂, _∙_, subst}
+use mathlib.Core.Path.{_≡_, refl, sym, ap, _∙_, subst}
 use mathlib.Core.Bool.{Bool, true, false, cond, _&&_, _||_, not}
 use mathlib.Core.List.{List, [], _∷_, map}
-use Prim.Native.Nat.{ℕ, zero, suc, pred, _+_, _-_, _*_, _/_, _%_, _≤_, _<_}
+use Prim.Native.Nat.{ℕ, zero, suc, pred, _+_, _*_, _/_, _%_, _≤_, _<_}
 use native.Mathlib.Omega.{arith}
 use borrow.Author.Tests.{eqb-true, ne-eqb, eq-eqb, lt-ltb, le-ltb}
 use lib.Dec.{eqb, ltb, leb}
-use lib.ListN.{length, take, drop, getD}
+use lib.ListN.{length, getD}
 use Rattle.linkstate.specs.Lists.{any, count}
 use Rattle.linkstate.specs.Bytes.{bytesAt}
 use Rattle.linkstate.specs.Replies.{accepted, fault, runB}
@@ -14,7 +14,7 @@ use Rattle.linkstate.specs.Elements.{Element, element, cut, sizeOf, elementsAft
 use Rattle.linkstate.proofs.ElementLaws.{moved, elements-moved}
 use Rattle.linkstate.proofs.WalkLaws.{left, left-end, left-cut, left-whole, type-one, length-one}
 use Rattle.octets.proofs.Laws.{length-bytesAt}
-use Rattle.isis.specs.RunB.{Identifier, identifier, knownIdentifiers, checkIdentifier, isOfType, times, repeats, identifies}
+use Rattle.isis.specs.RunB.{identifier, knownIdentifiers, checkIdentifier, isOfType, times, repeats, identifies}
 use Rattle.isis_check_a.specs.declared.Frame.the-variants.{End, Cut, Whole}
 use Rattle.isis_check_a.specs.Frames.{frameAt}
 use Rattle.isis_check_a.proofs.Laws.{frame-says, turn-passed, turn-refused}

@@ -6,15 +6,15 @@ use mathlib.Core.Logic.{_⊎_, inl, inr}
 use Prim.Native.Nat.{ℕ, _+_, _-_, _%_, _≤_, _<_}
 use native.Mathlib.Omega.{arith}
 use borrow.Author.Tests.{lt-ltb, le-ltb, eq-eqb, ne-eqb}
-use lib.Dec.{eqb, ltb}
+use lib.Dec.{eqb}
 use lib.ListN.{length, take, drop, getD, length-drop, drop-of-length-le}
 use lib.Seq.{length-take-le, take-all, take-nil}
 use Rattle.linkstate.specs.Lists.{any, count}
 use Rattle.linkstate.specs.Replies.{Verdict, accepted, refused, Refusal, fault, _then_, runB}
 use Rattle.linkstate.specs.Elements.{Element, elements, faults}
 use Rattle.linkstate.proofs.ElementLaws.{none-left}
-use Rattle.isis.specs.MaskHeader.{lFlag, headerLength, maskTooLong, lForNobody}
-use Rattle.isis.specs.RunB.{identifierBytes, identifiers, srlgValues, checkIdentifier, Identifier, identifier, knownIdentifiers, times, repeats, identifies, ignored, liveSrlg, checkSrlg, checkB, afterNeighbour}
+use Rattle.isis.specs.MaskHeader.{headerLength, maskTooLong, lForNobody}
+use Rattle.isis.specs.RunB.{identifierBytes, identifiers, srlgValues, checkIdentifier, identifier, knownIdentifiers, times, repeats, identifies, ignored, liveSrlg, checkSrlg, checkB, afterNeighbour}
 use Rattle.isis_check_a.specs.declared.Header.{Header}
 use Rattle.isis_check_a.proofs.Laws.{header-l, rest-is}
 use Rattle.isis_check_b.specs.Identifiers.{tallyOf, identifiedIn}

@@ -1,7 +1,7 @@
 // The checks of run B: TLVs 238, Application-Specific SRLG (document 01, "Advertisements in B").
 ghost use mathlib.Core.Path.{_≡_};
 ghost use mathlib.Core.Logic.{_⊎_};
-ghost use Prim.Native.Nat.{ℕ, _+_, _/_, _%_, _≤_, _<_};
+ghost use Prim.Native.Nat.{ℕ, _+_, _^_, _≤_, _<_};
 ghost use lib.ListN.{length};
 ghost use Rattle.linkstate.specs.Replies.{runB};
 ghost use Rattle.linkstate.specs.Elements.{elements, faults};
@@ -65,7 +65,7 @@ fn wrong_identifier(t: u8, n: usize) -> bool
 
 // An identifier list whose first byte is at an offset of run B.
 pub fn check_identifiers(s: &[u8], base: usize) -> Checked
-    requires { ⌜ base + length (now s) < 18446744073709551616 ⌝ }
+    requires { ⌜ base + length (now s) < 2 ^ 64 ⌝ }
     ensures { λ r. ⌜ toldChecked r ≡ faults runB checkIdentifier (elements 1 base (now (s .entry))) ⌝ }
 {
     let mut at = 0;
@@ -147,7 +147,7 @@ pub fn identified(tally: u64) -> bool
 // The identifiers, then the SRLG values, of a TLV 238 whose first byte is at an offset of run B. v follows its neighbour bytes and has the header h;
 // the identifiers stand in it from `list` to `values`. An odd rest is a fault only without L, and where the identifiers identify the link.
 fn check_parts(v: &[u8], h: Header, list: usize, values: usize, at: usize) -> Checked
-    requires { ⌜ Within (now v) h list values × (at + 9 + length (now v) < 18446744073709551616) ⌝ }
+    requires { ⌜ Within (now v) h list values × (at + 9 + length (now v) < 2 ^ 64) ⌝ }
     ensures { λ r. ⌜ toldChecked r ≡ partsVerdict at (now (v .entry)) ⌝ }
 {
     if let Checked::Refused(r) = check_identifiers(&v[list..values], at + 9 + list) {
@@ -168,7 +168,7 @@ fn check_parts(v: &[u8], h: Header, list: usize, values: usize, at: usize) -> Ch
 
 // A TLV 238 by its value; its first byte is at an offset of run B.
 pub fn check_srlg(value: &[u8], at: usize) -> Checked
-    requires { ⌜ at + 2 + length (now value) < 18446744073709551616 ⌝ }
+    requires { ⌜ at + 2 + length (now value) < 2 ^ 64 ⌝ }
     ensures { λ r. ⌜ toldChecked r ≡ checkSrlg at (now (value .entry)) (afterNeighbour (now (value .entry))) ⌝ }
 {
     if value.len() < 9 {
@@ -192,7 +192,7 @@ pub fn check_srlg(value: &[u8], at: usize) -> Checked
 
 // A TLV of run B by its type and value.
 fn check_element(t: u8, value: &[u8], at: usize) -> Checked
-    requires { ⌜ at + 2 + length (now value) < 18446744073709551616 ⌝ }
+    requires { ⌜ at + 2 + length (now value) < 2 ^ 64 ⌝ }
     ensures { λ r. ⌜ toldChecked r ≡ checkB at t (now (value .entry)) ⌝ }
 {
     if t != 238 {

@@ -1,18 +1,18 @@
 -- The identifiers' refusal, then what the rest, L and the identifiers decide.
-use Rattle.isis_check_b.proofs.SrlgLaws.{lent-length, parts-refused, parts-fours, parts-l, parts-ignored, parts-odd}
-use Rattle.isis_check_b.specs.Identifiers.{identifiedIn}
-use Rattle.isis_check_b.specs.Parts.{Within}
-use Rattle.isis.specs.RunB.{checkIdentifier}
-use Rattle.replies.specs.Told.{toldChecked}
+use mathlib.Core.Path.{_≡_, sym, ap, _∙_}
+use Prim.Native.Nat.{_+_, _-_}
+use native.Mathlib.Omega.{arith}
+use borrow.Author.Tests.{not-true, not-false}
+use borrow.Author.Needs.{needs}
+use lib.ListN.{take, drop}
+use denote.Ref.{now}
 use Rattle.linkstate.specs.Elements.{elements, faults}
 use Rattle.linkstate.specs.Replies.{accepted, runB}
-use borrow.Author.Tests.{not-true, not-false}
-use native.Mathlib.Omega.{arith}
-use denote.Ref.{now}
-use lib.ListN.{take, drop}
-use Prim.Native.Nat.{_+_, _-_}
-use mathlib.Core.Path.{_≡_, sym, ap, _∙_}
-use borrow.Author.Needs.{needs}
+use Rattle.replies.specs.Told.{toldChecked}
+use Rattle.isis.specs.RunB.{checkIdentifier}
+use Rattle.isis_check_b.specs.Identifiers.{identifiedIn}
+use Rattle.isis_check_b.specs.Parts.{Within}
+use Rattle.isis_check_b.proofs.SrlgLaws.{lent-length, parts-refused, parts-fours, parts-l, parts-ignored, parts-odd}
 use Rattle.isis_check_b.proofs.check_parts.Statement.{statement}
 use Rattle.isis_check_b.proofs.check_parts.Tie as tie
 

@@ -1,6 +1,6 @@
 -- The counts are the digits of the tally.
-use Rattle.isis_check_b.specs.Identifiers.{identifiedIn}
 use borrow.Author.Needs.{needs}
+use Rattle.isis_check_b.specs.Identifiers.{identifiedIn}
 use Rattle.isis_check_b.proofs.identified.Statement.{statement}
 use Rattle.isis_check_b.proofs.identified.Tie as tie
 

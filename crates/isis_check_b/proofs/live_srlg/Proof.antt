@@ -1,17 +1,17 @@
 -- Each way out is one reason to be ignored; else the tally says.
-use Rattle.isis_check_b.proofs.SrlgLaws.{part-within, part-short, length-byte, live-short, live-too-long, live-nobody, live-says}
-use Rattle.isis_check_b.specs.Identifiers.{identifiedIn}
-use Rattle.isis_check_a.proofs.Laws.{header-nobody, masks-say}
-use Rattle.isis.specs.RunB.{identifierBytes}
-use Rattle.isis.specs.MaskHeader.{maskTooLong, headerLength}
-use native.Mathlib.Omega.{arith}
-use denote.Ref.{now}
-use lib.ListN.{length, take, drop, getD}
-use Prim.Native.Nat.{ℕ, _+_, _-_, _≤_, _<_}
 use mathlib.Core.Logic.{⊎-elim}
 use mathlib.Core.Bool.{false}
 use mathlib.Core.Path.{_≡_, sym, ap, _∙_}
+use Prim.Native.Nat.{ℕ, _+_, _-_, _≤_, _<_}
+use native.Mathlib.Omega.{arith}
 use borrow.Author.Needs.{needs}
+use lib.ListN.{length, take, drop, getD}
+use denote.Ref.{now}
+use Rattle.isis.specs.RunB.{identifierBytes}
+use Rattle.isis.specs.MaskHeader.{maskTooLong, headerLength}
+use Rattle.isis_check_a.proofs.Laws.{header-nobody, masks-say}
+use Rattle.isis_check_b.specs.Identifiers.{identifiedIn}
+use Rattle.isis_check_b.proofs.SrlgLaws.{part-within, part-short, length-byte, live-short, live-too-long, live-nobody, live-says}
 use Rattle.isis_check_b.proofs.live_srlg.Statement.{statement}
 use Rattle.isis_check_b.proofs.live_srlg.Tie as tie
 
