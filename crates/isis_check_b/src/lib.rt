@@ -7,7 +7,7 @@ ghost use Rattle.linkstate.specs.Replies.{runB};
 ghost use Rattle.linkstate.specs.Elements.{elements, faults};
 ghost use Rattle.replies.specs.Told.{toldChecked};
 ghost use Rattle.isis.specs.RunB.{checkIdentifier, afterNeighbour, checkSrlg, checkB, liveSrlg};
-ghost use Rattle.isis_check_b.specs.Identifiers.{knownOf, wrongIdentifier, tallyOf, identifiedBy, identifiedIn};
+ghost use Rattle.isis_check_b.specs.Identifiers.{knownOf, wrongIdentifier, tallyOf, identifiedBy, onceAndPaired};
 ghost use Rattle.isis_check_b.specs.Parts.{partsVerdict, Within};
 use isis_check_a::Frame;
 use isis_check_a::Header;
@@ -84,7 +84,7 @@ pub fn check_identifiers(s: &[u8], base: usize) -> Checked
 }
 
 // How often each known type stands in an identifier list: a byte of the tally for each.
-pub fn tally_identifiers(s: &[u8]) -> u64
+fn tally_identifiers(s: &[u8]) -> u64
     requires { ⌜ length (now s) < 256 ⌝ }
     ensures { λ r. ⌜ r ≡ tallyOf (elements 1 0 (now (s .entry))) ⌝ }
 {
@@ -131,10 +131,12 @@ fn identifies(a: u64, b: u64, c: u64, d: u64, e: u64) -> bool
     d + e == 2
 }
 
-// Whether the types of a tally identify the link.
-pub fn identified(tally: u64) -> bool
-    ensures { λ r. ⌜ r ≡ identifiedIn tally ⌝ }
+// Whether an identifier list identifies the link: no known type repeats, and a 4, both 6 and 8, or both 12 and 13 are there.
+pub fn identifies_link(s: &[u8]) -> bool
+    requires { ⌜ length (now s) < 256 ⌝ }
+    ensures { λ r. ⌜ ((base : ℕ) → r ≡ onceAndPaired (elements 1 base (now (s .entry)))) ⌝ }
 {
+    let tally = tally_identifiers(s);
     identifies(
         tally % 256,
         tally / 256 % 256,
@@ -160,7 +162,7 @@ fn check_parts(v: &[u8], h: Header, list: usize, values: usize, at: usize) -> Ch
     if l {
         return Checked::Accepted;
     }
-    if !identified(tally_identifiers(&v[list..values])) {
+    if !identifies_link(&v[list..values]) {
         return Checked::Accepted;
     }
     isis_check_a::refused(4, Run::B, at)
@@ -248,7 +250,7 @@ pub fn live_srlg(v: &[u8]) -> bool
         Masks::End(length_byte) => {
             let list = length_byte + 1;
             let end = least(list + (v[length_byte] as usize), v.len());
-            return identified(tally_identifiers(&v[list..end]));
+            return identifies_link(&v[list..end]);
         }
     }
 }
