@@ -4,7 +4,7 @@ use mathlib.Core.Bool.{Bool, true, false, _||_}
 use mathlib.Core.List.{List}
 use Prim.Native.Nat.{ℕ, _%_}
 use borrow.Author.Tests.{ne-eqb, eq-eqb}
-use lib.Dec.{eqb, ltb}
+use lib.Dec.{ltb}
 use lib.ListN.{length}
 use Rattle.linkstate.specs.Replies.{refused, refusalAt, fault, faultOfCall, refusedIf, _then_, runA, runB}
 use Rattle.linkstate.specs.Elements.{elements, faults}

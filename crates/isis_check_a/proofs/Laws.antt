@@ -2,7 +2,7 @@
 use mathlib.Core.Path.{_≡_, refl, sym, ap, ap₂, _∙_, subst}
 use mathlib.Core.Logic.{_⊎_, inl, inr}
 use mathlib.Core.Bool.{Bool, true, false, cond, _&&_}
-use mathlib.Core.List.{List, [], _∷_}
+use mathlib.Core.List.{List}
 use Prim.Native.Nat.{ℕ, _+_, _-_, _≤_, _<_}
 use native.Mathlib.Omega.{arith}
 use borrow.Author.Tests.{le-leb, lt-leb, leb-true, leb-false, lt-ltb, le-ltb, ltb-true, ltb-false, ne-eqb}
@@ -11,23 +11,23 @@ use lib.ListN.{length, take, drop, getD, length-drop}
 use lib.Seq.{take-all}
 use Rattle.linkstate.specs.Bytes.{bytesAt}
 use Rattle.linkstate.specs.Kinds.{wrongInA}
-use Rattle.linkstate.specs.Replies.{Run, runA, Verdict, accepted, refused, Refusal, fault, _then_}
+use Rattle.linkstate.specs.Replies.{Run, runA, Verdict, accepted, refused, Refusal, fault}
 use Rattle.linkstate.specs.Elements.{elements, faults}
-use Rattle.linkstate.proofs.WalkLaws.{left, typeAt, lengthAt, type-one, length-one, faults-end, faults-cut, faults-turn, faults-pass, faults-stop}
+use Rattle.linkstate.proofs.WalkLaws.{left, typeAt, type-one, length-one, faults-end, faults-cut, faults-pass, faults-stop}
 use Rattle.octets.proofs.Laws.{length-bytesAt, part-is}
 use Rattle.replies.specs.declared.Refusal.{Refusal as Told}
 use Rattle.replies.specs.declared.Checked.{Checked}
-use Rattle.replies.specs.declared.Checked.the-variants as Checks
 use Rattle.replies.specs.Told.{toldChecked, toldRefusal}
+use Rattle.replies.specs.declared.Checked.the-variants as Checks
 use Rattle.isis.specs.MaskHeader.{lFlag, headerLength, maskTooLong, lForNobody}
 use Rattle.isis.specs.RunA.{listElements, checkAttribute, checkAsla, checkA}
 use Rattle.isis_check_a.specs.declared.Frame.{Frame}
 use Rattle.isis_check_a.specs.declared.Frame.the-variants.{End, Cut, Whole}
 use Rattle.isis_check_a.specs.declared.Header.{Header}
 use Rattle.isis_check_a.specs.declared.Masks.{Masks}
-use Rattle.isis_check_a.specs.declared.Masks.the-variants as Masks
 use Rattle.isis_check_a.specs.Frames.{frameAt}
 use Rattle.isis_check_a.specs.Headers.{headerOf, tooLong, forNobody, bytesBefore, masksIn}
+use Rattle.isis_check_a.specs.declared.Masks.the-variants as Masks
 
 -- ---- framing
 
@@ -84,11 +84,6 @@ module _ (run : Run) (check : ℕ → ℕ → List ℕ → Verdict) (base : ℕ)
 
       pub turn-refused : (r : Refusal) → check o (getD s at 0) (bytesAt s (at + 2) n) ≡ refused r → refused r ≡ faults run check (left 1 base s at)
       turn-refused r a = faults-stop run check 1 (omega arith) base s at n r (length-one s at ∙ frame-says s at (Whole n) e .0) (frame-says s at (Whole n) e .1) (here (refused r) a)
-
-      pub turn-then : faults run check (left 1 base s at) ≡ check o (getD s at 0) (bytesAt s (at + 2) n) then faults run check (left 1 base s (at + 2 + n))
-      turn-then =
-          faults-turn run check 1 (omega arith) base s at n (length-one s at ∙ frame-says s at (Whole n) e .0) (frame-says s at (Whole n) e .1)
-          ∙ ap (λ (v : Verdict). v then faults run check (left 1 base s (at + 2 + n))) (here (check o (getD s at 0) (bytesAt s (at + 2) n)) refl)
 
       -- with the answer of a function that checks the element by its value, a part of the list
       module _ (c : Checked) (told : toldChecked c ≡ check o (getD s at 0) (take (at + 2 + n - (at + 2)) (drop (at + 2) s))) where

@@ -1,6 +1,6 @@
 // The checks of run A: framing, the mask header of an ASLA sub-TLV, and the lengths of attributes (document 01, "Advertisements in A").
 ghost use mathlib.Core.Path.{_≡_};
-ghost use Prim.Native.Nat.{_+_, _≤_, _<_};
+ghost use Prim.Native.Nat.{_+_, _^_, _≤_, _<_};
 ghost use lib.ListN.{length};
 ghost use Rattle.linkstate.specs.Replies.{runA, fault};
 ghost use Rattle.linkstate.specs.Elements.{elements, faults};
@@ -121,7 +121,7 @@ fn wrong_length(t: u8, n: usize) -> bool
 
 // An attribute list whose first byte is at an offset of run A.
 pub fn check_attributes(s: &[u8], base: usize) -> Checked
-    requires { ⌜ base + length (now s) < 18446744073709551616 ⌝ }
+    requires { ⌜ base + length (now s) < 2 ^ 64 ⌝ }
     ensures { λ r. ⌜ toldChecked r ≡ faults runA checkAttribute (elements 1 base (now (s .entry))) ⌝ }
 {
     let mut at = 0;
@@ -141,7 +141,7 @@ pub fn check_attributes(s: &[u8], base: usize) -> Checked
 
 // An ASLA sub-TLV by its value; its first byte is at an offset of run A. With L its list is not read, whoever it names.
 pub fn check_asla(v: &[u8], at: usize) -> Checked
-    requires { ⌜ at + 2 + length (now v) < 18446744073709551616 ⌝ }
+    requires { ⌜ at + 2 + length (now v) < 2 ^ 64 ⌝ }
     ensures { λ r. ⌜ toldChecked r ≡ checkAsla at (now (v .entry)) ⌝ }
 {
     if v.len() < 2 {
@@ -163,7 +163,7 @@ pub fn check_asla(v: &[u8], at: usize) -> Checked
 
 // A sub-TLV of run A by its type and value.
 fn check_element(t: u8, v: &[u8], at: usize) -> Checked
-    requires { ⌜ at + 2 + length (now v) < 18446744073709551616 ⌝ }
+    requires { ⌜ at + 2 + length (now v) < 2 ^ 64 ⌝ }
     ensures { λ r. ⌜ toldChecked r ≡ checkA at t (now (v .entry)) ⌝ }
 {
     if t == 16 {

@@ -1,12 +1,12 @@
 -- Link identifiers: the code's classification against the definitions, the tally of types, and what a turn of the walk does to both.
-use mathlib.Core.Path.{_≡_, refl, sym, ap, ap₂, _∙_, subst}
+use mathlib.Core.Path.{_≡_, refl, sym, ap, _∙_, subst}
 use mathlib.Core.Bool.{Bool, true, false, cond, _&&_, _||_, not}
 use mathlib.Core.List.{List, [], _∷_, map}
-use Prim.Native.Nat.{ℕ, zero, suc, pred, _+_, _-_, _*_, _/_, _%_, _≤_, _<_}
+use Prim.Native.Nat.{ℕ, zero, suc, pred, _+_, _*_, _/_, _%_, _≤_, _<_}
 use native.Mathlib.Omega.{arith}
 use borrow.Author.Tests.{eqb-true, ne-eqb, eq-eqb, lt-ltb, le-ltb}
 use lib.Dec.{eqb, ltb, leb}
-use lib.ListN.{length, take, drop, getD}
+use lib.ListN.{length, getD}
 use Rattle.linkstate.specs.Lists.{any, count}
 use Rattle.linkstate.specs.Bytes.{bytesAt}
 use Rattle.linkstate.specs.Replies.{accepted, fault, runB}
@@ -14,12 +14,12 @@ use Rattle.linkstate.specs.Elements.{Element, element, cut, sizeOf, elementsAft
 use Rattle.linkstate.proofs.ElementLaws.{moved, elements-moved}
 use Rattle.linkstate.proofs.WalkLaws.{left, left-end, left-cut, left-whole, type-one, length-one}
 use Rattle.octets.proofs.Laws.{length-bytesAt}
-use Rattle.isis.specs.RunB.{Identifier, identifier, knownIdentifiers, checkIdentifier, isOfType, times, repeats, identifies}
+use Rattle.isis.specs.RunB.{identifier, knownIdentifiers, checkIdentifier, isOfType, times, repeats, identifies}
 use Rattle.isis_check_a.specs.declared.Frame.the-variants.{End, Cut, Whole}
 use Rattle.isis_check_a.specs.Frames.{frameAt}
 use Rattle.isis_check_a.proofs.Laws.{frame-says, turn-passed, turn-refused}
 use Rattle.isis_check_b.specs.declared.Known.{Known}
-use Rattle.isis_check_b.specs.Identifiers.{knownOf, wrongIdentifier, tallyOf, identifiedBy, identifiedIn}
+use Rattle.isis_check_b.specs.Identifiers.{knownOf, wrongIdentifier, tallyOf, identifiedBy, onceAndPaired}
 
 -- ---- the five types
 
@@ -97,7 +97,7 @@ count-moved k d [] = refl
 count-moved k d (element at t v ∷ es) = ap (λ (n : ℕ). cond (eqb t k) (suc n) n) (count-moved k d es)
 count-moved k d (cut at ∷ es) = count-moved k d es
 
-pub tally-anywhere : (at : ℕ) (s : List ℕ) → tallyOf (elements 1 at s) ≡ tallyOf (elements 1 0 s)
+tally-anywhere : (at : ℕ) (s : List ℕ) → tallyOf (elements 1 at s) ≡ tallyOf (elements 1 0 s)
 unfolding tallyOf times
 tally-anywhere at s =
     let z : at ≡ at + 0 = omega arith in
@@ -128,10 +128,13 @@ tally-small at s h = omega (arith, times-le 4 at s, times-le 6 at s, times-le 8 
 
 -- ---- what a tally says
 
+-- Whether the counts that are a tally's digits are those of a list that identifies the link.
+abbrev identifiedIn : ℕ → Bool
+identifiedIn n = identifiedBy (n % 256) (n / 256 % 256) (n / 65536 % 256) (n / 16777216 % 256) (n / 4294967296 % 256)
+
 -- The digits of a tally are the counts.
 module _ (a b c d e n : ℕ) (is : n ≡ a + 256 * b + 65536 * c + 16777216 * d + 4294967296 * e) (small : (a < 256) × (b < 256) × (c < 256) × (d < 256) × (e < 256)) where
   digits : identifiedIn n ≡ identifiedBy a b c d e
-  unfolding identifiedIn
   digits =
       let qb : n / 256 ≡ b + 256 * c + 65536 * d + 16777216 * e = omega arith in
       let qc : n / 65536 ≡ c + 256 * d + 65536 * e = omega arith in
@@ -150,13 +153,13 @@ unfolding identifiedBy repeats identifies times knownIdentifiers identifier any
 counts-say es =
     rw (any-count (isOfType 4) es, any-count (isOfType 6) es, any-count (isOfType 8) es, any-count (isOfType 12) es, any-count (isOfType 13) es, ← or-false (ltb 1 (count (isOfType 13) es)))
 
--- A short list's tally says whether its identifiers repeat, and whether they identify.
-pub tally-says : (at : ℕ) (s : List ℕ) → length s < 256 → identifiedIn (tallyOf (elements 1 at s)) ≡ not (repeats (elements 1 at s)) && identifies (elements 1 at s)
+-- A short list's tally says whether it identifies the link, wherever it begins.
+pub tally-says : (s : List ℕ) (n : ℕ) → length s < 256 → n ≡ tallyOf (elements 1 0 s) → (base : ℕ) → identifiedIn n ≡ onceAndPaired (elements 1 base s)
 unfolding tallyOf
-tally-says at s h =
-    digits (times 4 (elements 1 at s)) (times 6 (elements 1 at s)) (times 8 (elements 1 at s)) (times 12 (elements 1 at s)) (times 13 (elements 1 at s)) (tallyOf (elements 1 at s)) refl
-    (omega (arith, times-le 4 at s), omega (arith, times-le 6 at s), omega (arith, times-le 8 at s), omega (arith, times-le 12 at s), omega (arith, times-le 13 at s))
-    ∙ counts-say (elements 1 at s)
+tally-says s n h e base =
+    digits (times 4 (elements 1 base s)) (times 6 (elements 1 base s)) (times 8 (elements 1 base s)) (times 12 (elements 1 base s)) (times 13 (elements 1 base s)) n (e ∙ sym (tally-anywhere base s))
+    (omega (arith, times-le 4 base s), omega (arith, times-le 6 base s), omega (arith, times-le 8 base s), omega (arith, times-le 12 base s), omega (arith, times-le 13 base s))
+    ∙ counts-say (elements 1 base s)
 
 -- Where no type is there twice, sums tell the pairs.
 both : (b c : ℕ) → b ≤ 1 → c ≤ 1 → (ltb 0 b && ltb 0 c) ≡ eqb (b + c) 2

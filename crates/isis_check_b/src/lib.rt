@@ -1,13 +1,13 @@
 // The checks of run B: TLVs 238, Application-Specific SRLG (document 01, "Advertisements in B").
 ghost use mathlib.Core.Path.{_≡_};
 ghost use mathlib.Core.Logic.{_⊎_};
-ghost use Prim.Native.Nat.{ℕ, _+_, _/_, _%_, _≤_, _<_};
+ghost use Prim.Native.Nat.{ℕ, _+_, _^_, _≤_, _<_};
 ghost use lib.ListN.{length};
 ghost use Rattle.linkstate.specs.Replies.{runB};
 ghost use Rattle.linkstate.specs.Elements.{elements, faults};
 ghost use Rattle.replies.specs.Told.{toldChecked};
 ghost use Rattle.isis.specs.RunB.{checkIdentifier, afterNeighbour, checkSrlg, checkB, liveSrlg};
-ghost use Rattle.isis_check_b.specs.Identifiers.{knownOf, wrongIdentifier, tallyOf, identifiedBy, identifiedIn};
+ghost use Rattle.isis_check_b.specs.Identifiers.{knownOf, wrongIdentifier, tallyOf, identifiedBy, onceAndPaired};
 ghost use Rattle.isis_check_b.specs.Parts.{partsVerdict, Within};
 use isis_check_a::Frame;
 use isis_check_a::Header;
@@ -65,7 +65,7 @@ fn wrong_identifier(t: u8, n: usize) -> bool
 
 // An identifier list whose first byte is at an offset of run B.
 pub fn check_identifiers(s: &[u8], base: usize) -> Checked
-    requires { ⌜ base + length (now s) < 18446744073709551616 ⌝ }
+    requires { ⌜ base + length (now s) < 2 ^ 64 ⌝ }
     ensures { λ r. ⌜ toldChecked r ≡ faults runB checkIdentifier (elements 1 base (now (s .entry))) ⌝ }
 {
     let mut at = 0;
@@ -84,7 +84,7 @@ pub fn check_identifiers(s: &[u8], base: usize) -> Checked
 }
 
 // How often each known type stands in an identifier list: a byte of the tally for each.
-pub fn tally_identifiers(s: &[u8]) -> u64
+fn tally_identifiers(s: &[u8]) -> u64
     requires { ⌜ length (now s) < 256 ⌝ }
     ensures { λ r. ⌜ r ≡ tallyOf (elements 1 0 (now (s .entry))) ⌝ }
 {
@@ -131,10 +131,12 @@ fn identifies(a: u64, b: u64, c: u64, d: u64, e: u64) -> bool
     d + e == 2
 }
 
-// Whether the types of a tally identify the link.
-pub fn identified(tally: u64) -> bool
-    ensures { λ r. ⌜ r ≡ identifiedIn tally ⌝ }
+// Whether an identifier list identifies the link: no known type repeats, and a 4, both 6 and 8, or both 12 and 13 are there.
+pub fn identifies_link(s: &[u8]) -> bool
+    requires { ⌜ length (now s) < 256 ⌝ }
+    ensures { λ r. ⌜ ((base : ℕ) → r ≡ onceAndPaired (elements 1 base (now (s .entry)))) ⌝ }
 {
+    let tally = tally_identifiers(s);
     identifies(
         tally % 256,
         tally / 256 % 256,
@@ -147,7 +149,7 @@ pub fn identified(tally: u64) -> bool
 // The identifiers, then the SRLG values, of a TLV 238 whose first byte is at an offset of run B. v follows its neighbour bytes and has the header h;
 // the identifiers stand in it from `list` to `values`. An odd rest is a fault only without L, and where the identifiers identify the link.
 fn check_parts(v: &[u8], h: Header, list: usize, values: usize, at: usize) -> Checked
-    requires { ⌜ Within (now v) h list values × (at + 9 + length (now v) < 18446744073709551616) ⌝ }
+    requires { ⌜ Within (now v) h list values × (at + 9 + length (now v) < 2 ^ 64) ⌝ }
     ensures { λ r. ⌜ toldChecked r ≡ partsVerdict at (now (v .entry)) ⌝ }
 {
     if let Checked::Refused(r) = check_identifiers(&v[list..values], at + 9 + list) {
@@ -160,7 +162,7 @@ fn check_parts(v: &[u8], h: Header, list: usize, values: usize, at: usize) -> Ch
     if l {
         return Checked::Accepted;
     }
-    if !identified(tally_identifiers(&v[list..values])) {
+    if !identifies_link(&v[list..values]) {
         return Checked::Accepted;
     }
     isis_check_a::refused(4, Run::B, at)
@@ -168,7 +170,7 @@ fn check_parts(v: &[u8], h: Header, list: usize, values: usize, at: usize) -> Ch
 
 // A TLV 238 by its value; its first byte is at an offset of run B.
 pub fn check_srlg(value: &[u8], at: usize) -> Checked
-    requires { ⌜ at + 2 + length (now value) < 18446744073709551616 ⌝ }
+    requires { ⌜ at + 2 + length (now value) < 2 ^ 64 ⌝ }
     ensures { λ r. ⌜ toldChecked r ≡ checkSrlg at (now (value .entry)) (afterNeighbour (now (value .entry))) ⌝ }
 {
     if value.len() < 9 {
@@ -192,7 +194,7 @@ pub fn check_srlg(value: &[u8], at: usize) -> Checked
 
 // A TLV of run B by its type and value.
 fn check_element(t: u8, value: &[u8], at: usize) -> Checked
-    requires { ⌜ at + 2 + length (now value) < 18446744073709551616 ⌝ }
+    requires { ⌜ at + 2 + length (now value) < 2 ^ 64 ⌝ }
     ensures { λ r. ⌜ toldChecked r ≡ checkB at t (now (value .entry)) ⌝ }
 {
     if t != 238 {
@@ -248,7 +250,7 @@ pub fn live_srlg(v: &[u8]) -> bool
         Masks::End(length_byte) => {
             let list = length_byte + 1;
             let end = least(list + (v[length_byte] as usize), v.len());
-            return identified(tally_identifiers(&v[list..end]));
+            return identifies_link(&v[list..end]);
         }
     }
 }

@@ -1,9 +1,9 @@
 -- Each way out is the first refusal of the definition's checks.
-use Rattle.isis_check.proofs.Laws.{link-long, link-odd, link-runs}
-use Rattle.linkstate.specs.Replies.{Verdict, refused, _then_}
-use native.Mathlib.Omega.{arith}
 use mathlib.Core.Path.{sym, ap, ap₂, _∙_}
+use native.Mathlib.Omega.{arith}
 use borrow.Author.Needs.{needs}
+use Rattle.linkstate.specs.Replies.{Verdict, refused, _then_}
+use Rattle.isis_check.proofs.Laws.{link-long, link-odd, link-runs}
 use Rattle.isis_check.proofs.check_link.Statement.{statement}
 use Rattle.isis_check.proofs.check_link.Tie as tie
 

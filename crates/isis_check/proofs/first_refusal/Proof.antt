@@ -1,6 +1,6 @@
 -- By cases of the first check.
-use Rattle.linkstate.specs.Replies.{_then_}
 use borrow.Author.Needs.{needs}
+use Rattle.linkstate.specs.Replies.{_then_}
 use Rattle.isis_check.proofs.first_refusal.Statement.{statement}
 use Rattle.isis_check.proofs.first_refusal.Tie as tie
 

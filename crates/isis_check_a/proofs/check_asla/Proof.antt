@@ -1,13 +1,13 @@
 -- Each way out is one of the definition's checks, in its order.
-use Rattle.isis_check_a.proofs.Laws.{header-l, masks-say, asla-short, asla-ignored, asla-past, asla-l, asla-list, rest-length}
-use Rattle.isis.specs.MaskHeader.{maskTooLong, headerLength}
-use native.Mathlib.Omega.{arith}
-use denote.Ref.{now}
-use lib.ListN.{length}
-use Prim.Native.Nat.{_≤_}
 use mathlib.Core.Bool.{false}
 use mathlib.Core.Path.{_≡_, sym, _∙_}
+use Prim.Native.Nat.{_≤_}
+use native.Mathlib.Omega.{arith}
 use borrow.Author.Needs.{needs}
+use lib.ListN.{length}
+use denote.Ref.{now}
+use Rattle.isis.specs.MaskHeader.{maskTooLong, headerLength}
+use Rattle.isis_check_a.proofs.Laws.{header-l, masks-say, asla-short, asla-ignored, asla-past, asla-l, asla-list, rest-length}
 use Rattle.isis_check_a.proofs.check_asla.Statement.{statement}
 use Rattle.isis_check_a.proofs.check_asla.Tie as tie
 

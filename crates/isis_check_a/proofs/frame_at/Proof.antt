@@ -1,8 +1,8 @@
 -- The end, cut or whole, by the bytes that are left and the length byte.
-use Rattle.isis_check_a.proofs.Laws.{frame-end, frame-cut, frame-whole}
 use Prim.Native.Nat.{_+_}
 use native.Mathlib.Omega.{arith}
 use borrow.Author.Needs.{needs}
+use Rattle.isis_check_a.proofs.Laws.{frame-end, frame-cut, frame-whole}
 use Rattle.isis_check_a.proofs.frame_at.Statement.{statement}
 use Rattle.isis_check_a.proofs.frame_at.Tie as tie
 

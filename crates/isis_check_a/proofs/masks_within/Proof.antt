@@ -1,10 +1,10 @@
 -- Ignored before past the end.
-use Rattle.isis_check_a.proofs.Laws.{masks-ignored, masks-past, masks-end}
-use Rattle.isis_check_a.specs.declared.Masks.the-variants.{End}
-use borrow.Author.Tests.{ltb-true, ltb-false}
+use mathlib.Core.Path.{sym, ap, _∙_}
 use native.Mathlib.Omega.{arith}
-use mathlib.Core.Path.{_≡_, sym, ap, _∙_}
+use borrow.Author.Tests.{ltb-true, ltb-false}
 use borrow.Author.Needs.{needs}
+use Rattle.isis_check_a.specs.declared.Masks.the-variants.{End}
+use Rattle.isis_check_a.proofs.Laws.{masks-ignored, masks-past, masks-end}
 use Rattle.isis_check_a.proofs.masks_within.Statement.{statement}
 use Rattle.isis_check_a.proofs.masks_within.Tie as tie
 

@@ -1,17 +1,17 @@
 -- The invariant: what is left decides.
-use Rattle.isis_check_a.proofs.Laws.{frame-says, part-length, turn-end, turn-cut, turn-told-passed, turn-told-refused}
-use Rattle.isis_check_a.specs.declared.Frame.the-variants.{Whole}
-use Rattle.isis_check_a.specs.Frames.{frameAt}
-use Rattle.isis.specs.RunB.{checkB}
-use Rattle.linkstate.proofs.WalkLaws.{left}
-use Rattle.linkstate.specs.Elements.{elements, faults}
-use Rattle.linkstate.specs.Replies.{runB}
-use denote.Ref.{now}
-use borrow.Author.Needs.{needs}
-use native.Mathlib.Omega.{arith}
-use lib.ListN.{length}
 use mathlib.Core.Path.{_≡_, refl, sym, _∙_}
 use Prim.Native.Nat.{_≤_, _+_, _-_}
+use native.Mathlib.Omega.{arith}
+use borrow.Author.Needs.{needs}
+use lib.ListN.{length}
+use denote.Ref.{now}
+use Rattle.linkstate.specs.Elements.{elements, faults}
+use Rattle.linkstate.specs.Replies.{runB}
+use Rattle.linkstate.proofs.WalkLaws.{left}
+use Rattle.isis.specs.RunB.{checkB}
+use Rattle.isis_check_a.specs.declared.Frame.the-variants.{Whole}
+use Rattle.isis_check_a.specs.Frames.{frameAt}
+use Rattle.isis_check_a.proofs.Laws.{frame-says, part-length, turn-end, turn-cut, turn-told-passed, turn-told-refused}
 use Rattle.isis_check_b.proofs.check_b.Statement.{statement}
 use Rattle.isis_check_b.proofs.check_b.Tie as tie
 

@@ -1,19 +1,19 @@
 -- The invariant: what is left decides.
-use Rattle.isis_check_a.proofs.Laws.{frame-says, turn-end, turn-cut}
-use Rattle.isis_check_b.proofs.Laws.{list-passed, list-refused}
-use Rattle.isis_check_a.specs.declared.Frame.the-variants.{Whole}
-use Rattle.isis_check_a.specs.Frames.{frameAt}
-use Rattle.isis.specs.RunB.{checkIdentifier}
-use Rattle.linkstate.proofs.WalkLaws.{left}
-use Rattle.linkstate.specs.Elements.{elements, faults}
-use Rattle.linkstate.specs.Replies.{runB}
-use denote.Ref.{now}
-use borrow.Author.Needs.{needs}
-use native.Mathlib.Nat.{add-zero}
-use native.Mathlib.Omega.{arith}
-use lib.ListN.{length}
 use mathlib.Core.Path.{_≡_, refl, sym, _∙_}
 use Prim.Native.Nat.{_≤_, _+_, _-_}
+use native.Mathlib.Nat.{add-zero}
+use native.Mathlib.Omega.{arith}
+use borrow.Author.Needs.{needs}
+use lib.ListN.{length}
+use denote.Ref.{now}
+use Rattle.linkstate.specs.Elements.{elements, faults}
+use Rattle.linkstate.specs.Replies.{runB}
+use Rattle.linkstate.proofs.WalkLaws.{left}
+use Rattle.isis.specs.RunB.{checkIdentifier}
+use Rattle.isis_check_a.specs.declared.Frame.the-variants.{Whole}
+use Rattle.isis_check_a.specs.Frames.{frameAt}
+use Rattle.isis_check_a.proofs.Laws.{frame-says, turn-end, turn-cut}
+use Rattle.isis_check_b.proofs.Laws.{list-passed, list-refused}
 use Rattle.isis_check_b.proofs.check_identifiers.Statement.{statement}
 use Rattle.isis_check_b.proofs.check_identifiers.Tie as tie
 

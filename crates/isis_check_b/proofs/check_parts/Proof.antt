@@ -1,18 +1,17 @@
 -- The identifiers' refusal, then what the rest, L and the identifiers decide.
-use Rattle.isis_check_b.proofs.SrlgLaws.{lent-length, parts-refused, parts-fours, parts-l, parts-ignored, parts-odd}
-use Rattle.isis_check_b.specs.Identifiers.{identifiedIn}
-use Rattle.isis_check_b.specs.Parts.{Within}
-use Rattle.isis.specs.RunB.{checkIdentifier}
-use Rattle.replies.specs.Told.{toldChecked}
+use mathlib.Core.Path.{_≡_, sym, ap, _∙_}
+use Prim.Native.Nat.{_+_, _-_}
+use native.Mathlib.Omega.{arith}
+use borrow.Author.Tests.{not-true, not-false}
+use borrow.Author.Needs.{needs}
+use lib.ListN.{take, drop}
+use denote.Ref.{now}
 use Rattle.linkstate.specs.Elements.{elements, faults}
 use Rattle.linkstate.specs.Replies.{accepted, runB}
-use borrow.Author.Tests.{not-true, not-false}
-use native.Mathlib.Omega.{arith}
-use denote.Ref.{now}
-use lib.ListN.{take, drop}
-use Prim.Native.Nat.{_+_, _-_}
-use mathlib.Core.Path.{_≡_, sym, ap, _∙_}
-use borrow.Author.Needs.{needs}
+use Rattle.replies.specs.Told.{toldChecked}
+use Rattle.isis.specs.RunB.{checkIdentifier}
+use Rattle.isis_check_b.specs.Parts.{Within}
+use Rattle.isis_check_b.proofs.SrlgLaws.{lent-length, parts-refused, parts-fours, parts-l, parts-ignored, parts-odd}
 use Rattle.isis_check_b.proofs.check_parts.Statement.{statement}
 use Rattle.isis_check_b.proofs.check_parts.Tie as tie
 
@@ -62,34 +61,30 @@ returns-2 c = parts-fours _ _ _ _ _ (within (c .before)) (passed (c .before)) (o
 returns-3 : tie.Need-returns-3
 returns-3 c = parts-l _ _ _ _ _ (within (c .before .before)) (passed (c .before .before)) (c .if2 .taken)
 
-sub-tally-identifiers : tie.Need-sub-tally-identifiers
-sub-tally-identifiers c = search needs
+sub-identifies-link : tie.Need-sub-identifies-link
+sub-identifies-link c = search needs
 
-part-tally-identifiers-start : tie.Need-part-tally-identifiers-start
-part-tally-identifiers-start c = search needs
+part-identifies-link-start : tie.Need-part-identifies-link-start
+part-identifies-link-start c = search needs
 
-part-tally-identifiers-end : tie.Need-part-tally-identifiers-end
-part-tally-identifiers-end c = search needs
+part-identifies-link-end : tie.Need-part-identifies-link-end
+part-identifies-link-end c = search needs
 
-tally-identifiers-requires : tie.Need-tally-identifiers-requires
-tally-identifiers-requires c κs = let e = c .before .before .before in
+identifies-link-requires : tie.Need-identifies-link-requires
+identifies-link-requires c κs = let e = c .before .before .before in
     omega (arith, lent-length (e .before .before .before .before .before .args .at) _ _ _ _ (within e), within e .small)
 
-identified-requires : tie.Need-identified-requires
-identified-requires c κs = search needs
-
 returns-4 : tie.Need-returns-4
-returns-4 c = let e = c .before .before .before .before .before .before in
-    parts-ignored _ _ _ _ _ (within e) (passed e) (c .before .before .before .before .if2 .left) (sym (c .before .identified .ensures ∙ ap identifiedIn (c .before .before .tally-identifiers .ensures)) ∙ not-true _ (c .if3 .taken))
+returns-4 c = let e = c .before .before .before .before .before in
+    parts-ignored _ _ _ _ _ (within e) (passed e) (c .before .before .before .if2 .left) (sym (c .before .identifies-link .ensures _) ∙ not-true _ (c .if3 .taken))
 
 refused-requires : tie.Need-refused-requires
 refused-requires c κs = search needs
 
 returns-5 : tie.Need-returns-5
-returns-5 c = let e = c .before .before .before .before .before .before .before in
+returns-5 c = let e = c .before .before .before .before .before .before in
     c .refused .ensures
-    ∙ parts-odd _ _ _ _ _ (within e) (passed e) (c .before .before .before .before .before .if2 .left)
-    (sym (c .before .before .identified .ensures ∙ ap identifiedIn (c .before .before .before .tally-identifiers .ensures)) ∙ not-false _ (c .before .if3 .left)) (λ z. omega (arith, z))
+    ∙ parts-odd _ _ _ _ _ (within e) (passed e) (c .before .before .before .before .if2 .left) (sym (c .before .before .identifies-link .ensures _) ∙ not-false _ (c .before .if3 .left)) (λ z. omega (arith, z))
 
 pub check-parts-spec : {M : Type 1} → statement M
 check-parts-spec =
@@ -107,11 +102,10 @@ check-parts-spec =
     sub-if1
     returns-2
     returns-3
-    sub-tally-identifiers
-    part-tally-identifiers-start
-    part-tally-identifiers-end
-    tally-identifiers-requires
-    identified-requires
+    sub-identifies-link
+    part-identifies-link-start
+    part-identifies-link-end
+    identifies-link-requires
     returns-4
     refused-requires
     returns-5)

@@ -1,14 +1,14 @@
 -- Each way out is one of the definition's checks, in its order; v is what follows the neighbour bytes.
-use Rattle.isis_check_b.proofs.SrlgLaws.{behind, behind-length, behind-is, length-byte, srlg-short, srlg-ignored, srlg-no-list, srlg-past, srlg-parts}
-use Rattle.isis_check_a.proofs.Laws.{masks-say}
-use Rattle.isis.specs.MaskHeader.{maskTooLong, headerLength}
-use native.Mathlib.Omega.{arith}
-use denote.Ref.{now}
-use lib.ListN.{length, getD}
-use Prim.Native.Nat.{ℕ, _+_, _-_, _≤_, _<_}
 use mathlib.Core.Bool.{false}
 use mathlib.Core.Path.{_≡_, sym, ap, _∙_}
+use Prim.Native.Nat.{ℕ, _+_, _<_}
+use native.Mathlib.Omega.{arith}
 use borrow.Author.Needs.{needs}
+use lib.ListN.{length}
+use denote.Ref.{now}
+use Rattle.isis.specs.MaskHeader.{maskTooLong, headerLength}
+use Rattle.isis_check_a.proofs.Laws.{masks-say}
+use Rattle.isis_check_b.proofs.SrlgLaws.{behind, behind-length, behind-is, length-byte, srlg-short, srlg-ignored, srlg-no-list, srlg-past, srlg-parts}
 use Rattle.isis_check_b.proofs.check_srlg.Statement.{statement}
 use Rattle.isis_check_b.proofs.check_srlg.Tie as tie
 

@@ -1,17 +1,16 @@
 -- Each way out is one reason to be ignored; else the tally says.
-use Rattle.isis_check_b.proofs.SrlgLaws.{part-within, part-short, length-byte, live-short, live-too-long, live-nobody, live-says}
-use Rattle.isis_check_b.specs.Identifiers.{identifiedIn}
-use Rattle.isis_check_a.proofs.Laws.{header-nobody, masks-say}
-use Rattle.isis.specs.RunB.{identifierBytes}
-use Rattle.isis.specs.MaskHeader.{maskTooLong, headerLength}
-use native.Mathlib.Omega.{arith}
-use denote.Ref.{now}
-use lib.ListN.{length, take, drop, getD}
-use Prim.Native.Nat.{ℕ, _+_, _-_, _≤_, _<_}
 use mathlib.Core.Logic.{⊎-elim}
 use mathlib.Core.Bool.{false}
 use mathlib.Core.Path.{_≡_, sym, ap, _∙_}
+use Prim.Native.Nat.{ℕ, _+_, _-_, _≤_, _<_}
+use native.Mathlib.Omega.{arith}
 use borrow.Author.Needs.{needs}
+use lib.ListN.{length, take, drop, getD}
+use denote.Ref.{now}
+use Rattle.isis.specs.RunB.{identifierBytes}
+use Rattle.isis.specs.MaskHeader.{maskTooLong, headerLength}
+use Rattle.isis_check_a.proofs.Laws.{header-nobody, masks-say}
+use Rattle.isis_check_b.proofs.SrlgLaws.{part-within, part-short, length-byte, live-short, live-too-long, live-nobody, live-says}
 use Rattle.isis_check_b.proofs.live_srlg.Statement.{statement}
 use Rattle.isis_check_b.proofs.live_srlg.Tie as tie
 
@@ -92,29 +91,24 @@ add-least c = omega (arith, framed (c .before) .2, c .shared-slice-known2 .given
 least-requires : tie.Need-least-requires
 least-requires c κs = search needs
 
-sub-tally-identifiers : tie.Need-sub-tally-identifiers
-sub-tally-identifiers c = omega (arith, within c .0)
+sub-identifies-link : tie.Need-sub-identifies-link
+sub-identifies-link c = omega (arith, within c .0)
 
-part-tally-identifiers-start : tie.Need-part-tally-identifiers-start
-part-tally-identifiers-start c = omega (arith, within c .0)
+part-identifies-link-start : tie.Need-part-identifies-link-start
+part-identifies-link-start c = omega (arith, within c .0)
 
-part-tally-identifiers-end : tie.Need-part-tally-identifiers-end
-part-tally-identifiers-end c = search needs
+part-identifies-link-end : tie.Need-part-identifies-link-end
+part-identifies-link-end c = search needs
 
-tally-identifiers-requires : tie.Need-tally-identifiers-requires
-tally-identifiers-requires c κs = within (c .before) .2
-
-identified-requires : tie.Need-identified-requires
-identified-requires c κs = search needs
+identifies-link-requires : tie.Need-identifies-link-requires
+identifies-link-requires c κs = within (c .before) .2
 
 returns-5 : tie.Need-returns-5
-returns-5 c = let k = c .before .before .before in
+returns-5 c = let k = c .before .before in
     let m = k .before .before .before .before .before in
     λ at.
-    c .identified .ensures
-    ∙ ap identifiedIn (c .before .tally-identifiers .ensures)
-    ∙ live-says _ at _ (framed (k .before .before) .0) (sym (header-nobody _ _ (m .before .before .before .read-header .ensures .0)) ∙ sym (m .before .before .l-for-nobody .ensures) ∙ m .before .if2 .left)
-    (within k .1) (within k .2)
+    live-says _ at _ _ (framed (k .before .before) .0) (sym (header-nobody _ _ (m .before .before .before .read-header .ensures .0)) ∙ sym (m .before .before .l-for-nobody .ensures) ∙ m .before .if2 .left)
+    (within k .1) (c .identifies-link .ensures)
 
 pub live-srlg-spec : {M : Type 1} → statement M
 live-srlg-spec =
@@ -136,9 +130,8 @@ live-srlg-spec =
     cast-least
     add-least
     least-requires
-    sub-tally-identifiers
-    part-tally-identifiers-start
-    part-tally-identifiers-end
-    tally-identifiers-requires
-    identified-requires
+    sub-identifies-link
+    part-identifies-link-start
+    part-identifies-link-end
+    identifies-link-requires
     returns-5)

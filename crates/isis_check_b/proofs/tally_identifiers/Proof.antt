@@ -1,17 +1,17 @@
 -- The invariant: the tally so far and that of what is left sum up.
-use Rattle.isis_check_b.proofs.Laws.{tally-end, tally-past, tally-turn, tally-small}
-use Rattle.isis_check_b.specs.Identifiers.{tallyOf}
-use Rattle.isis_check_a.proofs.Laws.{frame-says}
+use mathlib.Core.Path.{_≡_, sym, _∙_}
+use Prim.Native.Nat.{ℕ, _≤_, _+_, _-_}
+use native.Mathlib.Omega.{arith}
+use borrow.Author.Needs.{needs}
+use lib.ListN.{length}
+use denote.Ref.{now}
+use Rattle.linkstate.specs.Elements.{elements}
+use Rattle.linkstate.proofs.WalkLaws.{left}
 use Rattle.isis_check_a.specs.declared.Frame.the-variants.{Whole}
 use Rattle.isis_check_a.specs.Frames.{frameAt}
-use Rattle.linkstate.proofs.WalkLaws.{left}
-use Rattle.linkstate.specs.Elements.{elements}
-use denote.Ref.{now}
-use borrow.Author.Needs.{needs}
-use native.Mathlib.Omega.{arith}
-use lib.ListN.{length}
-use mathlib.Core.Path.{_≡_, refl, sym, _∙_}
-use Prim.Native.Nat.{ℕ, _≤_, _<_, _+_, _-_}
+use Rattle.isis_check_a.proofs.Laws.{frame-says}
+use Rattle.isis_check_b.specs.Identifiers.{tallyOf}
+use Rattle.isis_check_b.proofs.Laws.{tally-end, tally-past, tally-turn, tally-small}
 use Rattle.isis_check_b.proofs.tally_identifiers.Statement.{statement}
 use Rattle.isis_check_b.proofs.tally_identifiers.Tie as tie
 

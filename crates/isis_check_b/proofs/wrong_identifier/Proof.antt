@@ -1,8 +1,7 @@
 -- A type that is not known has no wrong length.
-use Rattle.isis_check_b.proofs.Laws.{identifier-unknown, identifier-known}
 use native.Mathlib.Omega.{arith}
-use mathlib.Core.Path.{sym}
 use borrow.Author.Needs.{needs}
+use Rattle.isis_check_b.proofs.Laws.{identifier-unknown, identifier-known}
 use Rattle.isis_check_b.proofs.wrong_identifier.Statement.{statement}
 use Rattle.isis_check_b.proofs.wrong_identifier.Tie as tie
 
