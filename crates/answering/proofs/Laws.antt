@@ -2,13 +2,13 @@
 use mathlib.Core.Path.{_≡_, refl, sym, ap, _∙_, subst}
 use mathlib.Core.Bool.{Bool, true, false, cond, not}
 use mathlib.Core.List.{List, [], _∷_}
-use Prim.Native.Nat.{ℕ, zero, suc, _+_, _≤_, _<_}
+use Prim.Native.Nat.{ℕ, _-_, _≤_, _<_}
 use native.Mathlib.Omega.{arith}
 use borrow.Author.Tests.{lt-ltb, le-ltb, ne-eqb}
-use lib.ListN.{length}
+use lib.ListN.{length, take, drop}
 use Rattle.linkstate.specs.Lists.{empty, put}
 use Rattle.linkstate.specs.Kinds.{Form, formOf, isCode, isLinkCode}
-use Rattle.linkstate.specs.Replies.{Run, Verdict, accepted, refused, Refusal, refusalAt, fault, faultOfCall, refusedIf, _then_, unless, runA, Reading, count, Reply, absent, found, askRefused}
+use Rattle.linkstate.specs.Replies.{Run, Verdict, accepted, refused, Refusal, refusalAt, fault, faultOfCall, refusedIf, _then_, unless, runA, Reading, count, Reply, absent, found, askRefused, Asked}
 use Rattle.linkstate.specs.Attributes.{Attribute, readingAs, reading}
 use Rattle.linkstate.specs.Questions.{srlgAnswer, unwritten, firstOf}
 use Rattle.kinds.specs.declared.Kind.{Kind}
@@ -84,3 +84,9 @@ module _ (s : List ℕ) (run : Run) (k : ℕ) (ts : List Attribute) where
   unfolding firstOf rowAnswer reading
   first-present t us e c p h =
       rw (e, ne-eqb (t .at) 0 (λ z. omega arith)) (ap found (ap (λ (x : ℕ). readingAs (formOf x) run t) c ∙ h))
+
+-- The list's front is what was sorted.
+pub srlg-front : (x : Asked) (l : List ℕ) (k : ℕ) (ns list : List ℕ) → x ≡ srlgAnswer (take (k - 0) (drop 0 l)) list → take k l ≡ ns → x ≡ srlgAnswer ns list
+srlg-front x l k ns list e h =
+    let z : k - 0 ≡ k = omega arith in
+    e ∙ ap (λ (i : ℕ). srlgAnswer (take i l) list) z ∙ ap (λ (i : List ℕ). srlgAnswer i list) h

@@ -2,7 +2,7 @@
 ghost use mathlib.Core.Path.{_≡_};
 ghost use mathlib.Core.Bool.{not};
 ghost use Prim.Native.Nat.{_+_, _≤_};
-ghost use lib.ListN.{length};
+ghost use lib.ListN.{length, take};
 ghost use Rattle.linkstate.specs.Kinds.{isCode, isLinkCode, formOf};
 ghost use Rattle.linkstate.specs.Replies.{refusedIf, _then_};
 ghost use Rattle.linkstate.specs.Questions.{numberTooHigh, srlgAnswer};
@@ -80,4 +80,12 @@ pub fn answer_srlgs(ns: &[u32], list: &mut [u32]) -> Answer
     }
     srlg::copy_words(ns, list);
     Answer::Found(Reading::Count(ns.len()))
+}
+
+// The same from the first k numbers of a list.
+pub fn answer_front(ns: &[u32], k: usize, list: &mut [u32]) -> Answer
+    requires { ⌜ k ≤ length (now ns) ⌝ }
+    ensures { λ r. ⌜ toldAsked r (now (list .exit)) ≡ srlgAnswer (take k (now (ns .entry))) (now (list .entry)) ⌝ }
+{
+    answer_srlgs(&ns[0..k], list)
 }

@@ -69,12 +69,6 @@ pub source-bytes : (a b c v : List ℕ) (ts : List Attribute) → v ≡ bytesOfF
 unfolding linkSource
 source-bytes a b c v ts e = e
 
--- The list's front is what was sorted.
-pub srlg-front : (x : Asked) (l : List ℕ) (k : ℕ) (ns list : List ℕ) → x ≡ srlgAnswer (take (k - 0) (drop 0 l)) list → take k l ≡ ns → x ≡ srlgAnswer ns list
-srlg-front x l k ns list e h =
-    let z : k - 0 ≡ k = omega arith in
-    e ∙ ap (λ (i : ℕ). srlgAnswer (take i l) list) z ∙ ap (λ (i : List ℕ). srlgAnswer i list) h
-
 -- ---- named
 
 and-comm : (x y : Bool) → x && y ≡ y && x

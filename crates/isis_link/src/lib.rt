@@ -3,8 +3,7 @@
 ghost use mathlib.Core.Path.{_≡_};
 ghost use mathlib.Core.Bool.{true, false};
 ghost use mathlib.Core.List.{List};
-ghost use Prim.Native.Nat.{ℕ, _≤_};
-ghost use lib.ListN.{length, take};
+ghost use Prim.Native.Nat.{ℕ};
 ghost use Rattle.linkstate.specs.Kinds.{isCode};
 ghost use Rattle.linkstate.specs.Replies.{accepted, runA};
 ghost use Rattle.linkstate.specs.Attributes.{srlgs};
@@ -17,14 +16,6 @@ use replies::Checked;
 use replies::Named;
 use replies::Subject;
 
-// The reply of SRLG from the first k numbers of a list, which are the different ones, ascending.
-fn answer_front(ns: &[u32], k: usize, list: &mut [u32]) -> Answer
-    requires { ⌜ k ≤ length (now ns) ⌝ }
-    ensures { λ r. ⌜ toldAsked r (now (list .exit)) ≡ srlgAnswer (take k (now (ns .entry))) (now (list .entry)) ⌝ }
-{
-    answering::answer_srlgs(&ns[0..k], list)
-}
-
 // The reply of SRLG, of a link that passed its checks.
 fn answer_srlg(b: &[u8], c: &[u8], whom: Subject, list: &mut [u32]) -> Answer
     requires { ⌜ Passed (now b) (now c) × (numberTooHigh (subjectOf whom) ≡ false) ⌝ }
@@ -32,7 +23,7 @@ fn answer_srlg(b: &[u8], c: &[u8], whom: Subject, list: &mut [u32]) -> Answer
 {
     let mut ns = [0u32; 512];
     let k = isis_srlgs::srlgs_of(b, c, whom, &mut ns);
-    answer_front(&ns, k, list)
+    answering::answer_front(&ns, k, list)
 }
 
 // The answer to a question that nothing refuses but 5.

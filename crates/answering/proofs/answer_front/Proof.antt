@@ -1,9 +1,9 @@
 -- The list's front, answered.
-use Rattle.isis_link.proofs.Laws.{srlg-front}
+use Rattle.answering.proofs.Laws.{srlg-front}
 use mathlib.Core.Path.{refl}
 use borrow.Author.Needs.{needs}
-use Rattle.isis_link.proofs.answer_front.Statement.{statement}
-use Rattle.isis_link.proofs.answer_front.Tie as tie
+use Rattle.answering.proofs.answer_front.Statement.{statement}
+use Rattle.answering.proofs.answer_front.Tie as tie
 
 sub-answer-srlgs : tie.Need-sub-answer-srlgs
 sub-answer-srlgs c = search needs

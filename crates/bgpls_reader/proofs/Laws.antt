@@ -1,0 +1,52 @@
+-- SRLGs of a run from their counted numbers, and the run's source.
+use mathlib.Core.Path.{_≡_, refl, sym, ap, _∙_}
+use mathlib.Core.Bool.{Bool, true, false}
+use mathlib.Core.List.{List}
+use Prim.Native.Nat.{ℕ, _-_, _*_, _≤_}
+use native.Mathlib.Omega.{arith}
+use borrow.Author.Tests.{eq-eqb}
+use lib.ListN.{length, take, drop, replicate, length-replicate}
+use Rattle.linkstate.specs.Lists.{put}
+use Rattle.linkstate.specs.Bytes.{distinct}
+use Rattle.linkstate.specs.Attributes.{Attribute, srlgs}
+use Rattle.linkstate.specs.Replies.{Verdict, accepted, Run, Asked, Named, listed, unless}
+use Rattle.linkstate.specs.Masks.{user, asNumber}
+use Rattle.linkstate.specs.Questions.{Subject, given, srlgAnswer, answer, bytesOfFirst, listNamed}
+use Rattle.linkstate.specs.BgpLs.{runVerdict, runSource}
+use Rattle.octets.proofs.Laws.{front-is}
+use Rattle.bgpls_srlg.specs.Words.{srlgWords}
+
+-- The numbers of attributes, sorted, are their SRLGs.
+pub words-answer : (x : Asked) (ts : List Attribute) (n : ℕ) (xs after ns list : List ℕ) → n ≤ length xs → n ≡ length (srlgWords ts) → after ≡ put xs 0 (srlgWords ts)
+    → ns ≡ distinct (take (n - 0) (drop 0 after)) → x ≡ srlgAnswer ns list → x ≡ srlgAnswer (srlgs ts) list
+unfolding srlgs srlgWords
+words-answer x ts n xs after ns list h c w s e =
+    let z : n - 0 ≡ n = omega arith in
+    let front : take (n - 0) after ≡ srlgWords ts = ap (λ (i : ℕ). take i after) (z ∙ c) ∙ ap (take (length (srlgWords ts))) w ∙ front-is xs (srlgWords ts) (omega arith) in
+    e ∙ ap (λ (l : List ℕ). srlgAnswer l list) (s ∙ ap distinct front)
+
+-- A list of k zeros has room for k numbers.
+pub room : (n k : ℕ) → n ≤ k → n ≤ length {A = ℕ} (replicate k 0)
+room n k h = rw length-replicate h
+
+-- The answer to a question for SRLGs.
+pub asks-srlg : (r : List ℕ) (whom : Subject) (k : ℕ) (run : Run) (list : List ℕ) (x : Asked) → k ≡ 1096 → x ≡ srlgAnswer (srlgs (given (runSource r) whom 1096)) list
+    → x ≡ answer run k (given (runSource r) whom k) list
+unfolding answer
+asks-srlg r whom k run list x h e = rw h e
+
+pub of-set : (x : Asked) (ts us : List Attribute) (list : List ℕ) → ts ≡ us → x ≡ srlgAnswer (srlgs ts) list → x ≡ srlgAnswer (srlgs us) list
+of-set x ts us list e h = h ∙ ap (λ (l : List Attribute). srlgAnswer (srlgs l) list) e
+
+-- A verdict that was told of the run is its source's, and so are its bytes.
+pub of-run : (r : List ℕ) (v : Verdict) → v ≡ runVerdict r → v ≡ (runSource r) .verdict
+unfolding runSource
+of-run r v e = e
+
+pub source-bytes : (r v : List ℕ) (ts : List Attribute) → v ≡ bytesOfFirst r ts → v ≡ bytesOfFirst ((runSource r) .bytes) ts
+unfolding runSource
+source-bytes r v ts e = e
+
+pub lists : (r : List ℕ) (s u : ℕ) → accepted ≡ (runSource r) .verdict → s ≡ asNumber (runSource r .names) → u ≡ asNumber (λ n. runSource r .names (user n)) → listed s u ≡ listNamed (runSource r)
+unfolding listNamed unless
+lists r s u v hs hu = rw (← v, hs, hu)

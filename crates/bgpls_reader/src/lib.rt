@@ -1,0 +1,143 @@
+// Questions to a BGP-LS run that anybody may have written: ask, value and named.
+// Any bytes, any subject and any code are taken; every refusal is document 01's, and after one nothing was written.
+ghost use mathlib.Core.Path.{_≡_};
+ghost use mathlib.Core.Bool.{true, false};
+ghost use Prim.Native.Nat.{_≤_};
+ghost use lib.ListN.{length};
+ghost use Rattle.linkstate.specs.Kinds.{isCode};
+ghost use Rattle.linkstate.specs.Replies.{accepted, runBgpLs};
+ghost use Rattle.linkstate.specs.Attributes.{srlgs};
+ghost use Rattle.linkstate.specs.Questions.{numberTooHigh, given, srlgAnswer, answer, ask, value, listNamed};
+ghost use Rattle.linkstate.specs.BgpLs.{runVerdict, runSource};
+ghost use Rattle.replies.specs.Told.{subjectOf, toldAsked, toldNamed};
+ghost use Rattle.bgpls_find.specs.Sets.{attributesIn};
+ghost use Rattle.bgpls_reader.specs.Room.{Counted};
+use bgpls_find::Set;
+use replies::Answer;
+use replies::Checked;
+use replies::Named;
+use replies::Subject;
+
+// The reply of SRLG: the numbers of a set go into one list, are sorted into another, and are counted before any is written. tmp is room to work in.
+fn answer_words(
+    r: &[u8],
+    set: Set,
+    n: usize,
+    list: &mut [u32],
+    xs: &mut [u32],
+    out: &mut [u32],
+    tmp: &mut [u32],
+) -> Answer
+    requires { ⌜ Counted (now r) set n × (n ≤ length (now xs)) × (n ≤ length (now out)) × (n ≤ length (now tmp)) ⌝ }
+    ensures { λ x. ⌜ toldAsked x (now (list .exit)) ≡ srlgAnswer (srlgs (attributesIn set (now (r .entry)))) (now (list .entry)) ⌝ }
+{
+    bgpls_srlg::write_words(r, set, xs);
+    let k = srlg_sort::sort_distinct(&xs[0..n], out, tmp);
+    answering::answer_front(out, k, list)
+}
+
+// With room for few numbers, for those of a large link, and for as many as a run can have.
+fn answer_few(r: &[u8], set: Set, n: usize, list: &mut [u32]) -> Answer
+    requires { ⌜ Counted (now r) set n × (n ≤ 64) ⌝ }
+    ensures { λ x. ⌜ toldAsked x (now (list .exit)) ≡ srlgAnswer (srlgs (attributesIn set (now (r .entry)))) (now (list .entry)) ⌝ }
+{
+    let mut xs = [0u32; 64];
+    let mut out = [0u32; 64];
+    let mut tmp = [0u32; 64];
+    answer_words(r, set, n, list, &mut xs, &mut out, &mut tmp)
+}
+
+fn answer_many(r: &[u8], set: Set, n: usize, list: &mut [u32]) -> Answer
+    requires { ⌜ Counted (now r) set n × (n ≤ 2048) ⌝ }
+    ensures { λ x. ⌜ toldAsked x (now (list .exit)) ≡ srlgAnswer (srlgs (attributesIn set (now (r .entry)))) (now (list .entry)) ⌝ }
+{
+    let mut xs = [0u32; 2048];
+    let mut out = [0u32; 2048];
+    let mut tmp = [0u32; 2048];
+    answer_words(r, set, n, list, &mut xs, &mut out, &mut tmp)
+}
+
+fn answer_most(r: &[u8], set: Set, n: usize, list: &mut [u32]) -> Answer
+    requires { ⌜ Counted (now r) set n × (n ≤ 131072) ⌝ }
+    ensures { λ x. ⌜ toldAsked x (now (list .exit)) ≡ srlgAnswer (srlgs (attributesIn set (now (r .entry)))) (now (list .entry)) ⌝ }
+{
+    let mut xs = [0u32; 131072];
+    let mut out = [0u32; 131072];
+    let mut tmp = [0u32; 131072];
+    answer_words(r, set, n, list, &mut xs, &mut out, &mut tmp)
+}
+
+// The reply of SRLG, of a run that passed its checks.
+fn answer_srlg(r: &[u8], whom: Subject, list: &mut [u32]) -> Answer
+    requires { ⌜ (runVerdict (now r) ≡ accepted) × (numberTooHigh (subjectOf whom) ≡ false) ⌝ }
+    ensures { λ x. ⌜ toldAsked x (now (list .exit)) ≡ srlgAnswer (srlgs (given (runSource (now (r .entry))) (subjectOf whom) 1096)) (now (list .entry)) ⌝ }
+{
+    let set = bgpls_values::set_asked(r, whom, 1096);
+    let n = bgpls_srlg::count_words(r, set);
+    if n <= 64 {
+        return answer_few(r, set, n, list);
+    }
+    if n <= 2048 {
+        return answer_many(r, set, n, list);
+    }
+    answer_most(r, set, n, list)
+}
+
+// The answer to a question that nothing refuses but 5.
+fn answer_accepted(r: &[u8], whom: Subject, code: usize, list: &mut [u32]) -> Answer
+    requires { ⌜ (runVerdict (now r) ≡ accepted) × (numberTooHigh (subjectOf whom) ≡ false) × (isCode code ≡ true) ⌝ }
+    ensures { λ x. ⌜ toldAsked x (now (list .exit)) ≡ answer runBgpLs code (given (runSource (now (r .entry))) (subjectOf whom) code) (now (list .entry)) ⌝ }
+{
+    if code == 1096 {
+        return answer_srlg(r, whom, list);
+    }
+    bgpls_values::answer_value(r, whom, code)
+}
+
+// One kind of one subject: absent, found with its reading, or refused. SRLGs go ascending to the front of the lent list; for every other answer the list stays as it was.
+pub fn ask(r: &[u8], whom: Subject, code: usize, list: &mut [u32]) -> Answer
+    ensures { λ x. ⌜ toldAsked x (now (list .exit)) ≡ ask (runSource (now (r .entry))) (subjectOf whom) code (now (list .entry)) ⌝ }
+{
+    match answering::check_question(whom, code) {
+        Checked::Refused(x) => return Answer::Refused(x),
+        Checked::Accepted => {}
+    }
+    match bgpls_check::check_run(r) {
+        Checked::Refused(x) => Answer::Refused(x),
+        Checked::Accepted => answer_accepted(r, whom, code, list),
+    }
+}
+
+// The same question: the value's bytes as a part of the run; empty where it is absent, refused, or SRLG.
+pub fn value(r: &[u8], whom: Subject, code: usize) -> &[u8]
+    ensures { λ x. ⌜ now x ≡ value (runSource (now (r .entry))) (subjectOf whom) code ⌝ }
+{
+    match answering::check_question(whom, code) {
+        Checked::Refused(_) => return &r[0..0],
+        Checked::Accepted => {}
+    }
+    match bgpls_check::check_run(r) {
+        Checked::Refused(_) => return &r[0..0],
+        Checked::Accepted => {}
+    }
+    if code == 1096 {
+        return &r[0..0];
+    }
+    bgpls_values::part_of(r, whom, code)
+}
+
+// The applications other than RSVP-TE that the run names.
+pub fn named(r: &[u8]) -> Named
+    ensures { λ x. ⌜ toldNamed x ≡ listNamed (runSource (now (r .entry))) ⌝ }
+{
+    match bgpls_check::check_run(r) {
+        Checked::Refused(x) => Named::Refused(x),
+        Checked::Accepted => {
+            let m = bgpls_named::named_masks(r);
+            Named::Listed {
+                standard: m.standard,
+                user: m.user,
+            }
+        }
+    }
+}
