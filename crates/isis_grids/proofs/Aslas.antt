@@ -1,27 +1,24 @@
 -- ASLA sub-TLVs that passed their checks: what their headers promise, where their lists begin, and the turns of a loop that reads the selected lists.
-use mathlib.Core.Path.{_≡_, refl, sym, ap, ap₂, _∙_, subst}
+use mathlib.Core.Path.{_≡_, refl, sym, ap, _∙_, subst}
 use mathlib.Core.Logic.{_⊎_, inl, inr, ⊎-elim}
-use mathlib.Core.Bool.{Bool, true, false, cond, _&&_, _||_, not, false≢true}
+use mathlib.Core.Bool.{Bool, true, false, cond, _&&_, _||_, not}
 use mathlib.Core.List.{List, [], _∷_, _++_, append-assoc}
-use Prim.Native.Nat.{ℕ, zero, suc, _+_, _-_, _≤_, _<_}
+use Prim.Native.Nat.{ℕ, _+_, _-_, _≤_, _<_}
 use native.Mathlib.Omega.{arith}
 use native.Mathlib.Nat.{zero-add}
 use borrow.Author.Tests.{eqb-true, eqb-false, eq-eqb, ne-eqb, ltb-false}
 use lib.Dec.{eqb, ltb}
 use lib.ListN.{length, take, drop, getD, replicate, length-take}
 use lib.Seq.{drop-length, drop-at}
-use Rattle.linkstate.specs.Lists.{each, keep, any, numbers}
+use Rattle.linkstate.specs.Lists.{each, keep}
 use Rattle.linkstate.specs.Bytes.{bytesAt}
 use Rattle.linkstate.specs.Replies.{Verdict, accepted, runA, fault}
 use Rattle.linkstate.specs.Elements.{Element, element, cut, elements, faults}
-use Rattle.linkstate.specs.Masks.{bit, inMasks, others, asNumber, inNumber}
 use Rattle.linkstate.specs.Attributes.{Attribute}
-use Rattle.linkstate.specs.Sides.{Advertisement, Side, names, general, rsvpTeAlone, ofLive}
+use Rattle.linkstate.specs.Sides.{Advertisement, names, general, rsvpTeAlone, ofLive}
 use Rattle.linkstate.proofs.ElementLaws.{none-left}
 use Rattle.linkstate.proofs.WalkLaws.{left, not-accepted, each-end}
-use Rattle.linkstate.proofs.Computing.{computing}
 use Rattle.octets.proofs.Laws.{part-is, length-bytesAt, bytesAt-add}
-use Rattle.masks.proofs.Laws.{in-number, number-same}
 use Rattle.isis.specs.MaskHeader.{lFlag, maskTooLong, lForNobody, headerLength, advertisement}
 use Rattle.isis.specs.RunA.{listElements, checkAttribute, checkAsla, checkA, attributesOf, liveAsla, aslaAdvertisements, sideA}
 use Rattle.isis_grids.specs.declared.Which.{Which}

@@ -2,7 +2,7 @@
 use mathlib.Core.Path.{_≡_, refl, sym, ap, ap₂, _∙_, subst}
 use mathlib.Core.Bool.{Bool, true, false, cond, _&&_, _||_, not}
 use mathlib.Core.List.{List, [], _∷_, _++_, map}
-use Prim.Native.Nat.{ℕ, _+_, _≤_, _<_}
+use Prim.Native.Nat.{ℕ, _+_, _≤_}
 use native.Mathlib.Omega.{arith}
 use borrow.Author.Tests.{ne-eqb, not-true}
 use lib.Dec.{eqb}
@@ -11,7 +11,7 @@ use Rattle.linkstate.specs.Lists.{all, empty, each}
 use Rattle.linkstate.specs.Replies.{accepted, runA}
 use Rattle.linkstate.specs.Elements.{elements, faults}
 use Rattle.linkstate.specs.Attributes.{Attribute, valueOf}
-use Rattle.linkstate.specs.Sides.{Side, names, named, namedWithL, ofLive, generalSet, applicationSet, rsvpTeKind, rsvpTeAlone, maximumBandwidth, reservableBandwidth, bandwidthKind}
+use Rattle.linkstate.specs.Sides.{Side, names, named, namedWithL, ofLive, generalSet, applicationSet, rsvpTeKind, maximumBandwidth, reservableBandwidth, bandwidthKind}
 use Rattle.kinds.specs.Rules.{gridCodes}
 use Rattle.kinds.proofs.Computing.{computing}
 use Rattle.isis.specs.RunA.{attributesOf, checkA, sideA}
@@ -22,7 +22,7 @@ use Rattle.isis_grids.specs.Selected.{selects}
 use Rattle.isis_grids.proofs.Grids.{All, Placed, placed-each, row-append, filled-grid}
 use Rattle.isis_grids.proofs.Aslas.{placed-selected, live-all}
 use Rattle.isis_grids.proofs.Bandwidths.{first-present, first-absent}
-use Rattle.isis_grids.proofs.Places.{Stands, live-stands, value-none}
+use Rattle.isis_grids.proofs.Places.{live-stands, value-none}
 use Rattle.isis_sets.specs.declared.Naming.{Naming}
 use Rattle.isis_sets.specs.declared.Naming.the-variants.{NotNamed, Named, WithL}
 use Rattle.isis_sets.specs.Sets.{namingOf, rsvpTeGrid}

@@ -1,7 +1,6 @@
 // What an application gets of run A: who is named and how, the sets of applications, the general set, and the link's bandwidths (document 01, "Who gets what").
 ghost use mathlib.Core.Path.{_≡_};
 ghost use Prim.Native.Nat.{_+_, _<_, _≤_};
-ghost use lib.ListN.{length};
 ghost use Rattle.linkstate.specs.Lists.{any};
 ghost use Rattle.linkstate.specs.Replies.{accepted, runA};
 ghost use Rattle.linkstate.specs.Elements.{element, elements, faults};

@@ -7,7 +7,7 @@ use Rattle.isis_grids.specs.Grid.{rowOf}
 use Rattle.isis.specs.RunA.{checkA, sideA}
 use Rattle.linkstate.proofs.WalkLaws.{left}
 use Rattle.linkstate.specs.Sides.{ofLive}
-use Rattle.linkstate.specs.Elements.{Element, faults}
+use Rattle.linkstate.specs.Elements.{faults}
 use Rattle.linkstate.specs.Replies.{accepted, runA}
 use Rattle.linkstate.specs.Lists.{each}
 use denote.Ref.{now}

@@ -4,7 +4,6 @@ use Rattle.isis_grids.proofs.Walks.{framed}
 use Rattle.isis.specs.RunA.{checkA}
 use Rattle.linkstate.specs.Elements.{elements}
 use denote.Ref.{now}
-use native.Mathlib.Omega.{arith}
 use borrow.Author.Needs.{needs}
 use Rattle.isis_sets.proofs.maximum_row.Statement.{statement}
 use Rattle.isis_sets.proofs.maximum_row.Tie as tie
