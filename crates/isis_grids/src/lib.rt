@@ -164,8 +164,8 @@ pub fn row_in(s: &[u8], base: usize, t: u8) -> [usize; 2]
     while at < s.len() {
         let n = s[at + 1] as usize;
         if s[at] == t {
-            let row = [base + at + 2, n];
-            return row;
+            let found = [base + at + 2, n];
+            return found;
         }
         at = at + 2 + n;
     }
