@@ -1,4 +1,4 @@
-// What run A holds, as grids: of its legacy attributes, and of the ASLA sub-TLVs that pass a test (document 01, "Who gets what").
+// What run A holds, as grids and as single rows: of its legacy attributes, and of the ASLA sub-TLVs that pass a test (document 01, "Who gets what").
 ghost use mathlib.Core.Path.{_≡_};
 ghost use Prim.Native.Nat.{_+_, _<_, _≤_};
 ghost use lib.ListN.{length, getD};

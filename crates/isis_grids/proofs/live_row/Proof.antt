@@ -8,13 +8,14 @@ use Rattle.isis.specs.RunA.{checkA, sideA}
 use Rattle.linkstate.proofs.WalkLaws.{left}
 use Rattle.linkstate.specs.Sides.{ofLive}
 use Rattle.linkstate.specs.Kinds.{codeOfType}
-use Rattle.linkstate.specs.Elements.{faults}
+use Rattle.linkstate.specs.Elements.{Element, faults}
 use Rattle.linkstate.specs.Replies.{accepted, runA}
 use Rattle.linkstate.specs.Lists.{each}
 use denote.Ref.{now}
 use lib.ListN.{length, getD}
 use native.Mathlib.Omega.{arith}
 use mathlib.Core.Path.{_≡_, ap, sym, _∙_}
+use mathlib.Core.List.{List}
 use Prim.Native.Nat.{_+_, _≤_, _-_}
 use borrow.Author.Needs.{needs}
 use Rattle.isis_grids.proofs.live_row.Statement.{statement}
@@ -30,7 +31,7 @@ loop-holds : tie.Need-loop-holds Inv-loop μ-loop
 loop-holds c = let x = c .before .args in (
   omega arith,
   ap (faults runA checkA) (left-all 0 (now (x .a))) ∙ c .before .pre .1,
-  ap (λ (es : _). rowOf (codeOfType (x .t)) (each (selected (x .which)) es)) (left-all 0 (now (x .a))) ∙ ap (rowOf (codeOfType (x .t))) (sym (live-all (x .which) (now (x .a)))),
+  ap (λ (es : List Element). rowOf (codeOfType (x .t)) (each (selected (x .which)) es)) (left-all 0 (now (x .a))) ∙ ap (rowOf (codeOfType (x .t))) (sym (live-all (x .which) (now (x .a)))),
 )
 
 add-n : tie.Need-add-n Inv-loop μ-loop

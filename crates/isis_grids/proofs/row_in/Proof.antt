@@ -5,13 +5,14 @@ use Rattle.isis_grids.specs.Grid.{rowOf, unchecked}
 use Rattle.linkstate.specs.Kinds.{codeOfType}
 use Rattle.isis.specs.RunA.{attributesOf}
 use Rattle.linkstate.proofs.WalkLaws.{left}
-use Rattle.linkstate.specs.Elements.{elements, faults}
+use Rattle.linkstate.specs.Elements.{Element, elements, faults}
 use Rattle.linkstate.specs.Replies.{accepted, runA}
 use Rattle.linkstate.specs.Lists.{each}
 use denote.Ref.{now}
 use lib.ListN.{length}
 use native.Mathlib.Omega.{arith}
 use mathlib.Core.Path.{_≡_, ap, _∙_}
+use mathlib.Core.List.{List}
 use Prim.Native.Nat.{_+_, _≤_, _-_}
 use borrow.Author.Needs.{needs}
 use Rattle.isis_grids.proofs.row_in.Statement.{statement}
@@ -24,7 +25,7 @@ abbrev μ-loop : tie.MeasureT-loop
 μ-loop s base t at₀ at = length s - at
 
 loop-holds : tie.Need-loop-holds Inv-loop μ-loop
-loop-holds c = let x = c .args in (omega arith, ap (faults runA unchecked) (left-all (x .base) (now (x .s))) ∙ c .pre .2, ap (λ (es : _). rowOf (codeOfType (x .t)) (each attributesOf es)) (left-all (x .base) (now (x .s))))
+loop-holds c = let x = c .args in (omega arith, ap (faults runA unchecked) (left-all (x .base) (now (x .s))) ∙ c .pre .2, ap (λ (es : List Element). rowOf (codeOfType (x .t)) (each attributesOf es)) (left-all (x .base) (now (x .s))))
 
 add-n : tie.Need-add-n Inv-loop μ-loop
 add-n c = search needs
