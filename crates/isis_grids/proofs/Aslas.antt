@@ -1,27 +1,24 @@
 -- ASLA sub-TLVs that passed their checks: what their headers promise, where their lists begin, and the turns of a loop that reads the selected lists.
-use mathlib.Core.Path.{_≡_, refl, sym, ap, ap₂, _∙_, subst}
+use mathlib.Core.Path.{_≡_, refl, sym, ap, _∙_, subst}
 use mathlib.Core.Logic.{_⊎_, inl, inr, ⊎-elim}
-use mathlib.Core.Bool.{Bool, true, false, cond, _&&_, _||_, not, false≢true}
+use mathlib.Core.Bool.{Bool, true, false, cond, _&&_, _||_, not}
 use mathlib.Core.List.{List, [], _∷_, _++_, append-assoc}
-use Prim.Native.Nat.{ℕ, zero, suc, _+_, _-_, _≤_, _<_}
+use Prim.Native.Nat.{ℕ, _+_, _-_, _≤_, _<_}
 use native.Mathlib.Omega.{arith}
 use native.Mathlib.Nat.{zero-add}
 use borrow.Author.Tests.{eqb-true, eqb-false, eq-eqb, ne-eqb, ltb-false}
 use lib.Dec.{eqb, ltb}
 use lib.ListN.{length, take, drop, getD, replicate, length-take}
 use lib.Seq.{drop-length, drop-at}
-use Rattle.linkstate.specs.Lists.{each, keep, any, numbers}
+use Rattle.linkstate.specs.Lists.{each, keep}
 use Rattle.linkstate.specs.Bytes.{bytesAt}
 use Rattle.linkstate.specs.Replies.{Verdict, accepted, runA, fault}
 use Rattle.linkstate.specs.Elements.{Element, element, cut, elements, faults}
-use Rattle.linkstate.specs.Masks.{bit, inMasks, others, asNumber, inNumber}
 use Rattle.linkstate.specs.Attributes.{Attribute}
-use Rattle.linkstate.specs.Sides.{Advertisement, Side, names, general, rsvpTeAlone, ofLive}
+use Rattle.linkstate.specs.Sides.{Advertisement, names, general, rsvpTeAlone, ofLive}
 use Rattle.linkstate.proofs.ElementLaws.{none-left}
 use Rattle.linkstate.proofs.WalkLaws.{left, not-accepted, each-end}
-use Rattle.linkstate.proofs.Computing.{computing}
 use Rattle.octets.proofs.Laws.{part-is, length-bytesAt, bytesAt-add}
-use Rattle.masks.proofs.Laws.{in-number, number-same}
 use Rattle.isis.specs.MaskHeader.{lFlag, maskTooLong, lForNobody, headerLength, advertisement}
 use Rattle.isis.specs.RunA.{listElements, checkAttribute, checkAsla, checkA, attributesOf, liveAsla, aslaAdvertisements, sideA}
 use Rattle.isis_grids.specs.declared.Which.{Which}
@@ -147,26 +144,27 @@ module _ (w : Which) (v : List ℕ) where
       (λ e. ap (λ (k : ℕ). faults runA unchecked (elements 1 (at + 2 + k) (drop k v))) (e .0) ∙ framed checkAttribute (listElements at v) (list-ok at v ok (e .2) (e .1)))
       list-cases
 
--- As the code has it, of the element at a position of the run.
+-- As the code has it, of the ASLA at a position of the run.
 module _ (w : Which) (a : List ℕ) (at : ℕ) where
-  abbrev part : List ℕ
-  part = take (at + 2 + getD a (at + 1) 0 - (at + 2)) (drop (at + 2) a)
-
+  -- anything but an ASLA has no list
   pub list-other : (getD a at 0 ≡ 16 → ⊥) → at + 2 + getD a (at + 1) 0 ≡ listAt w a at
   unfolding listAt
   list-other n = rw (ne-eqb (getD a at 0) 16 n)
 
-  module _ (asla : getD a at 0 ≡ 16) where
-    pub value-headed : (getD a at 0 ≡ 16 → Headed (bytesAt a (at + 2) (getD a (at + 1) 0))) → Headed part
-    value-headed h = subst Headed (sym (part-is a (at + 2) (getD a (at + 1) 0))) (h asla)
+  abbrev part : List ℕ
+  part = take (at + 2 + getD a (at + 1) 0 - (at + 2)) (drop (at + 2) a)
+
+  module _ (asla : getD a at 0 ≡ 16) (h : Headed (bytesAt a (at + 2) (getD a (at + 1) 0))) where
+    pub value-headed : Headed part
+    value-headed = subst Headed (sym (part-is a (at + 2) (getD a (at + 1) 0))) h
 
     pub list-asla : (k : ℕ) → k ≡ listFrom w part → at + 2 + k ≡ listAt w a at
     unfolding listAt
     list-asla k e = rw (eq-eqb (getD a at 0) 16 asla, e, part-is a (at + 2) (getD a (at + 1) 0))
 
-    pub list-ends : at + 2 + getD a (at + 1) 0 ≤ length a → (getD a at 0 ≡ 16 → Headed (bytesAt a (at + 2) (getD a (at + 1) 0))) → (k : ℕ) → k ≡ listFrom w part → at + 2 + k ≤ length a
-    list-ends l h k e =
-        omega (arith, e, list-within w part (value-headed h), ap length (part-is a (at + 2) (getD a (at + 1) 0)), length-bytesAt a (at + 2) (getD a (at + 1) 0) l)
+    pub list-ends : at + 2 + getD a (at + 1) 0 ≤ length a → (k : ℕ) → k ≡ listFrom w part → at + 2 + k ≤ length a
+    list-ends l k e =
+        omega (arith, e, list-within w part value-headed, ap length (part-is a (at + 2) (getD a (at + 1) 0)), length-bytesAt a (at + 2) (getD a (at + 1) 0) l)
 
 -- What holds of the attributes of every list that is read holds of those that are selected.
 pub all-selected : (P : Attribute → Type 0) (w : Which) (at t : ℕ) (v : List ℕ) → (t ≡ 16 → lFlag v ≡ false → maskTooLong v ≡ false → All P (each attributesOf (listElements at v))) → All P (selected w (element at t v))

@@ -8,7 +8,6 @@ use native.Mathlib.Nat.{add-sub-cancel-left}
 use borrow.Author.Tests.{ltb-false}
 use lib.Dec.{ltb}
 use lib.ListN.{length, take, drop, length-take}
-use Rattle.linkstate.specs.Sides.{Advertisement}
 use Rattle.isis.specs.MaskHeader.{lFlag, sabmLength, udabmLength, headerLength, maskTooLong, advertisement}
 use Rattle.isis_check_a.specs.declared.Header.{Header}
 use Rattle.isis_check_a.specs.Headers.{headerOf, tooLong}

@@ -5,16 +5,16 @@ use mathlib.Core.List.{List, [], _∷_, _++_}
 use Prim.Native.Nat.{ℕ, _+_, _-_, _/_, _%_, _^_, _≤_, _<_}
 use native.Mathlib.Omega.{arith}
 use native.Mathlib.Nat.{zero-div}
-use borrow.Author.Tests.{eqb-true, eq-eqb, ne-eqb}
+use borrow.Author.Tests.{eqb-true, ne-eqb}
 use lib.Dec.{eqb, ltb}
 use lib.ListN.{length, take, drop, getD}
 use Rattle.linkstate.specs.Lists.{any, each}
 use Rattle.linkstate.specs.Bytes.{bytesAt}
 use Rattle.linkstate.specs.Masks.{bit, user, inMasks, asNumber, inNumber}
 use Rattle.linkstate.specs.Replies.{accepted, runA}
-use Rattle.linkstate.specs.Elements.{Element, element, elements, faults}
+use Rattle.linkstate.specs.Elements.{Element, element, faults}
 use Rattle.linkstate.specs.Attributes.{Attribute}
-use Rattle.linkstate.specs.Sides.{Advertisement, Side, names, named, namedWithL}
+use Rattle.linkstate.specs.Sides.{Advertisement, names, named, namedWithL}
 use Rattle.linkstate.proofs.WalkLaws.{left, each-end}
 use Rattle.octets.proofs.Laws.{part-is}
 use Rattle.masks.proofs.Laws.{in-number}
@@ -25,7 +25,7 @@ use Rattle.isis_check_a.specs.Headers.{headerOf, tooLong}
 use Rattle.isis_check_a.proofs.Laws.{header-l, header-too-long}
 use Rattle.isis_grids.proofs.Selects.{standard-bit, user-bit}
 use Rattle.isis_grids.proofs.Headers.{masks-read}
-use Rattle.isis_grids.proofs.Walks.{elementAt, turn, left-all}
+use Rattle.isis_grids.proofs.Walks.{turn, left-all}
 use Rattle.isis_grids.proofs.Aslas.{listPart}
 use Rattle.isis_sets.specs.declared.Naming.{Naming}
 use Rattle.isis_sets.specs.declared.Naming.the-variants.{NotNamed, Named, WithL}

@@ -4,7 +4,6 @@ use Rattle.isis_grids.proofs.Walks.{framed}
 use Rattle.isis.specs.RunA.{checkA}
 use Rattle.linkstate.specs.Elements.{elements}
 use denote.Ref.{now}
-use native.Mathlib.Omega.{arith}
 use mathlib.Core.Path.{sym, _∙_}
 use borrow.Author.Needs.{needs}
 use Rattle.isis_sets.proofs.rsvp_te_grid.Statement.{statement}
