@@ -1,7 +1,7 @@
 -- Laws of equal values, grids and sets. Assumes nothing.
 use Prim.Native.Nat.{ℕ, zero, suc, _+_, _≤_, _<_}
 use mathlib.Core.Path.{_≡_, refl, sym, _∙_, ap}
-use mathlib.Core.Bool.{Bool, true, false, cond, _&&_}
+use mathlib.Core.Bool.{Bool, true, false, _&&_}
 use mathlib.Core.List.{List, [], _∷_, _++_, map}
 use lib.Dec.{eqb}
 use lib.ListN.{length, getD, drop, drop-of-length-le}
@@ -17,7 +17,7 @@ use Rattle.kinds.specs.Rules.{gridCodes, rowIn}
 use Rattle.kinds.proofs.Computing.{computing}
 use Rattle.octets.proofs.Laws.{same-complete, same-sound, same-not, same-lengths}
 use Rattle.srlg.proofs.Laws.{words-bytesOfWords}
-use Rattle.set_bytes.specs.Sets.{front, rowValue, setOf, RowFits, Fits}
+use Rattle.set_bytes.specs.Sets.{front, rowValue, setOf, RowFits}
 use Rattle.set_bytes.proofs.Laws.{length-value}
 use Rattle.set_equal.specs.Grids.{gridOf}
 
