@@ -1,0 +1,56 @@
+-- The sets that grids over run A and lists of SRLGs stand for, as BGP-LS value bytes (rules K1, K2, W7).
+use mathlib.Core.Bool.{cond}
+use mathlib.Core.List.{List, [], _∷_, _++_}
+use Prim.Native.Nat.{ℕ, _+_, _-_, _≤_, _<_}
+use mathlib.Core.Path.{_≡_}
+use lib.Dec.{eqb}
+use lib.ListN.{length, take, drop, getD}
+use Rattle.linkstate.specs.Bytes.{bytesAt, bytesOfWords}
+use Rattle.linkstate.specs.Kinds.{codes, linkCodes, isLinkCode}
+use Rattle.kinds.specs.Rules.{gridCodes, rowIn}
+use Rattle.set_bytes.specs.declared.Row.{Row}
+use Rattle.set_bytes.specs.declared.Row.the-variants.{Present, Absent}
+
+-- K1. What BGP-LS has in front of a value of run A: a zero byte before the TE metric, which has three bytes in IS-IS.
+unfoldable pub front : ℕ → List ℕ
+front c = cond (eqb c 1092) (0 ∷ []) []
+
+-- W7. The value of a kind by its row, which is place and length in run A; none where the row is absent, at place 0.
+unfoldable pub rowValue : List ℕ → ℕ → List ℕ → List ℕ
+rowValue a c r = cond (eqb (getD r 0 0) 0) [] (front c ++ bytesAt a (getD r 0 0) (getD r 1 0))
+
+-- K2. The set of a grid and its SRLGs.
+unfoldable pub setOf : List ℕ → List (List ℕ) → List ℕ → ℕ → List ℕ
+setOf a g ns c = cond (eqb c 1096) (bytesOfWords ns) (rowValue a c (getD g (rowIn gridCodes c) []))
+
+-- K2. The link's bandwidths, by three rows.
+unfoldable pub bandwidthOf : List ℕ → List (List ℕ) → ℕ → List ℕ
+bandwidthOf a l c = rowValue a c (getD l (rowIn linkCodes c) [])
+
+-- L2. What stands at the top of a run: bandwidths and a set.
+unfoldable pub topOf : List ℕ → List (List ℕ) → List (List ℕ) → List ℕ → ℕ → List ℕ
+topOf a l g ns c = cond (isLinkCode c) (bandwidthOf a l c) (setOf a g ns c)
+
+-- A row that fits: its value lies within run A and is one of an accepted link.
+pub record RowFits (a r : List ℕ) : Type 0 where
+  pub within : getD r 0 0 + getD r 1 0 ≤ length a
+  pub short : getD r 1 0 ≤ 252
+  pub some : (getD r 0 0 ≡ 0 → ⊥) → 0 < getD r 1 0
+
+abbrev pub Fits : List ℕ → List (List ℕ) → Type 0
+Fits a g = (k : ℕ) → RowFits a (getD g k [])
+
+abbrev pub Short : List (List ℕ) → Type 0
+Short g = (k : ℕ) → getD (getD g k []) 1 0 ≤ 252
+
+-- A row as the code takes it.
+abbrev pub rowRead : List ℕ → Row
+rowRead r = cond (eqb (getD r 0 0) 0) Absent (Present (getD r 0 0) (getD r 1 0))
+
+-- The row of a code other than 1096.
+unfoldable pub rowFor : List (List ℕ) → List (List ℕ) → ℕ → List ℕ
+rowFor l g c = cond (isLinkCode c) (getD l (rowIn linkCodes c) []) (getD g (rowIn gridCodes c) [])
+
+-- The codes of the fourteen kinds from one place to another.
+unfoldable pub codesFrom : ℕ → ℕ → List ℕ
+codesFrom from to = take (to - from) (drop from codes)

@@ -1,0 +1,177 @@
+// The TLVs of one set, measured and written: of an application's set, and of what stands at the top of a BGP-LS run.
+ghost use mathlib.Core.Path.{_≡_};
+ghost use mathlib.Core.List.{List, [], _∷_, _++_};
+ghost use Prim.Native.Nat.{ℕ, _+_, _≤_, _<_};
+ghost use lib.ListN.{length, getD};
+ghost use Rattle.linkstate.specs.Lists.{each, put};
+ghost use Rattle.linkstate.specs.Bytes.{two, bytesAt, bytesOfWords};
+ghost use Rattle.linkstate.specs.Kinds.{codes};
+ghost use Rattle.linkstate.specs.Export.{Tlv, tlv, bytesOf, present};
+ghost use Rattle.set_bytes.specs.Sets.{front, topOf, Fits, Short, rowRead, rowFor, codesFrom};
+
+// The value of a kind in run A, by its row of a grid.
+pub enum Row {
+    Present { place: usize, len: usize },
+    Absent,
+}
+
+// A row of place and length, taken as such.
+pub fn read_row(row: [usize; 2]) -> Row
+    ensures { λ r. ⌜ r ≡ rowRead row ⌝ }
+{
+    let place = row[0];
+    if place == 0 {
+        return Row::Absent;
+    }
+    Row::Present { place, len: row[1] }
+}
+
+// The code of a kind, by its place among the fourteen.
+fn code_at(i: usize) -> u16
+    requires { ⌜ i < 14 ⌝ }
+    ensures { λ r. ⌜ r ≡ getD codes i 0 ⌝ }
+{
+    if i < 5 {
+        return 1088 + (i as u16);
+    }
+    if i == 5 {
+        return 1096;
+    }
+    if i < 13 {
+        return 1108 + (i as u16);
+    }
+    1173
+}
+
+// The row of a kind, by its place among the fourteen: one of the link's three, or of a grid. SRLGs have none.
+fn row_at(l: [[usize; 2]; 3], g: [[usize; 2]; 10], i: usize) -> Row
+    requires { ⌜ (i < 14) × (i ≡ 5 → ⊥) ⌝ }
+    ensures { λ r. ⌜ r ≡ rowRead (rowFor l g (getD codes i 0)) ⌝ }
+{
+    if i == 0 {
+        return read_row(g[0]);
+    }
+    if i < 4 {
+        return read_row(l[i - 1]);
+    }
+    if i == 4 {
+        return read_row(g[1]);
+    }
+    read_row(g[i - 4])
+}
+
+// How many zero bytes stand in front of a value of run A.
+fn front_len(code: u16) -> usize
+    ensures { λ r. ⌜ (r ≡ length (front code)) × (r ≤ 1) ⌝ }
+{
+    if code == 1092 {
+        return 1;
+    }
+    0
+}
+
+// How many bytes the TLV of n SRLGs has: none where there are none.
+fn srlgs_size(n: usize) -> usize
+    requires { ⌜ n ≤ 512 ⌝ }
+    ensures { λ r. ⌜ (r ≤ 2052) × ((ns : List ℕ) → length ns ≡ n → r ≡ length (each bytesOf (present (1096 ∷ []) (λ _. bytesOfWords ns)))) ⌝ }
+{
+    if n == 0 {
+        return 0;
+    }
+    4 + 4 * n
+}
+
+// How many bytes the TLVs of the kinds from one place to another have.
+fn kinds_size(l: [[usize; 2]; 3], g: [[usize; 2]; 10], n: usize, from: usize, to: usize) -> usize
+    requires { ⌜ (from ≤ to) × (to ≤ 14) × (n ≤ 512) × Short l × Short g ⌝ }
+    ensures { λ r. ⌜ (r ≤ 28728) × ((a ns : List ℕ) → Fits a l → Fits a g → length ns ≡ n → r ≡ length (each bytesOf (present (codesFrom from to) (topOf a l g ns)))) ⌝ }
+{
+    let mut total: usize = 0;
+    for i in from..to {
+        if i == 5 {
+            total = total + srlgs_size(n);
+            continue;
+        }
+        let Row::Present { place: _, len } = row_at(l, g, i) else {
+            continue;
+        };
+        total = total + 4 + front_len(code_at(i)) + len;
+    }
+    total
+}
+
+// Type and length of a TLV.
+pub fn write_head(out: &mut [u8], at: usize, code: u16, len: u16)
+    requires { ⌜ at + 4 ≤ length (now out) ⌝ }
+    ensures { λ _. ⌜ now (out .exit) ≡ put (now (out .entry)) at (two code ++ two len) ⌝ }
+{
+    octets::write16(out, at, code);
+    octets::write16(out, at + 2, len);
+}
+
+// What stands in front of a value of run A; the place after it.
+fn write_front(code: u16, out: &mut [u8], at: usize) -> usize
+    requires { ⌜ at + length (front code) ≤ length (now out) ⌝ }
+    ensures { λ r. ⌜ (r ≡ at + length (front code)) × (now (out .exit) ≡ put (now (out .entry)) at (front code)) ⌝ }
+{
+    if code == 1092 {
+        out[at] = 0;
+        return at + 1;
+    }
+    at
+}
+
+// The TLV of a value of run A; the place after it.
+fn write_row(a: &[u8], place: usize, len: usize, code: u16, out: &mut [u8], at: usize) -> usize
+    requires { ⌜ (place + len ≤ length (now a)) × (len ≤ 252) × (at + (4 + (length (front code) + len)) ≤ length (now out)) ⌝ }
+    ensures { λ r. ⌜ (r ≡ at + (4 + (length (front code) + len))) × (now (out .exit) ≡ put (now (out .entry)) at (bytesOf (tlv code (front code ++ bytesAt (now (a .entry)) place len)))) ⌝ }
+{
+    let size = front_len(code) + len;
+    write_head(out, at, code, size as u16);
+    let value = write_front(code, out, at + 4);
+    octets::copy_part(a, place, len, out, value);
+    value + len
+}
+
+// The TLV of SRLGs, if there are any; the place after it.
+fn write_srlgs(srlgs: &[u32], out: &mut [u8], at: usize) -> usize
+    requires { ⌜ (length (now srlgs) ≤ 512) × (at + length (each bytesOf (present (1096 ∷ []) (λ _. bytesOfWords (now srlgs)))) ≤ length (now out)) ⌝ }
+    ensures { λ r. ⌜ (r ≡ at + length (each bytesOf (present (1096 ∷ []) (λ _. bytesOfWords (now (srlgs .entry)))))) × (now (out .exit) ≡ put (now (out .entry)) at (each bytesOf (present (1096 ∷ []) (λ _. bytesOfWords (now (srlgs .entry)))))) ⌝ }
+{
+    let n = srlgs.len();
+    if n == 0 {
+        return at;
+    }
+    let size = 4 * n;
+    write_head(out, at, 1096, size as u16);
+    srlg::write_words(srlgs, out, at + 4);
+    at + 4 + size
+}
+
+// The TLVs of the kinds from one place to another, ascending; the place after them.
+fn write_kinds(
+    a: &[u8],
+    l: [[usize; 2]; 3],
+    g: [[usize; 2]; 10],
+    srlgs: &[u32],
+    from: usize,
+    to: usize,
+    out: &mut [u8],
+    at: usize,
+) -> usize
+    requires { ⌜ (from ≤ to) × (to ≤ 14) × Fits (now a) l × Fits (now a) g × (length (now srlgs) ≤ 512) × (at + length (each bytesOf (present (codesFrom from to) (topOf (now a) l g (now srlgs)))) ≤ length (now out)) ⌝ }
+    ensures { λ r. ⌜ (r ≡ at + length (each bytesOf (present (codesFrom from to) (topOf (now (a .entry)) l g (now (srlgs .entry)))))) × (now (out .exit) ≡ put (now (out .entry)) at (each bytesOf (present (codesFrom from to) (topOf (now (a .entry)) l g (now (srlgs .entry)))))) ⌝ }
+{
+    let mut next = at;
+    for i in from..to {
+        if i == 5 {
+            next = write_srlgs(srlgs, out, next);
+            continue;
+        }
+        let Row::Present { place, len } = row_at(l, g, i) else {
+            continue;
+        };
+        next = write_row(a, place, len, code_at(i), out, next);
+    }
+    next
+}
