@@ -1,0 +1,325 @@
+-- ASLA sub-TLVs that passed their checks: what their headers promise, where their lists begin, and the turns of a loop that reads the selected lists.
+use mathlib.Core.Path.{_≡_, refl, sym, ap, ap₂, _∙_, subst}
+use mathlib.Core.Logic.{_⊎_, inl, inr, ⊎-elim}
+use mathlib.Core.Bool.{Bool, true, false, cond, _&&_, _||_, not, false≢true}
+use mathlib.Core.List.{List, [], _∷_, _++_, append-assoc}
+use Prim.Native.Nat.{ℕ, zero, suc, _+_, _-_, _≤_, _<_}
+use native.Mathlib.Omega.{arith}
+use native.Mathlib.Nat.{zero-add}
+use borrow.Author.Tests.{eqb-true, eqb-false, eq-eqb, ne-eqb, ltb-false}
+use lib.Dec.{eqb, ltb}
+use lib.ListN.{length, take, drop, getD, replicate, length-take}
+use lib.Seq.{drop-length, drop-at}
+use Rattle.linkstate.specs.Lists.{each, keep, any, numbers}
+use Rattle.linkstate.specs.Bytes.{bytesAt}
+use Rattle.linkstate.specs.Replies.{Verdict, accepted, runA, fault}
+use Rattle.linkstate.specs.Elements.{Element, element, cut, elements, faults}
+use Rattle.linkstate.specs.Masks.{bit, inMasks, others, asNumber, inNumber}
+use Rattle.linkstate.specs.Attributes.{Attribute}
+use Rattle.linkstate.specs.Sides.{Advertisement, Side, names, general, rsvpTeAlone, ofLive}
+use Rattle.linkstate.proofs.ElementLaws.{none-left}
+use Rattle.linkstate.proofs.WalkLaws.{left, not-accepted, each-end}
+use Rattle.linkstate.proofs.Computing.{computing}
+use Rattle.octets.proofs.Laws.{part-is, length-bytesAt, bytesAt-add}
+use Rattle.masks.proofs.Laws.{in-number, number-same}
+use Rattle.isis.specs.MaskHeader.{lFlag, maskTooLong, lForNobody, headerLength, advertisement}
+use Rattle.isis.specs.RunA.{listElements, checkAttribute, checkAsla, checkA, attributesOf, liveAsla, aslaAdvertisements, sideA}
+use Rattle.isis_grids.specs.declared.Which.{Which}
+use Rattle.isis_grids.specs.declared.Which.the-variants.{Naming, General, RsvpTeAlone, WithoutL}
+use Rattle.isis_grids.specs.Grid.{gridOf, filled, unchecked}
+use Rattle.isis_grids.specs.Selected.{selects, listFrom, listAt, Headed, selected}
+use Rattle.isis_grids.proofs.Grids.{All, all-each, Placed, placed-each, filled-empty}
+use Rattle.isis_grids.proofs.Walks.{framed, elementAt, inside, passed, turn, left-all}
+
+-- ---- one ASLA
+
+cond-passed : (b : Bool) (n o : ℕ) (w : Verdict) → cond b (fault n runA o) w ≡ accepted → (b ≡ false) × (w ≡ accepted)
+cond-passed true n o w e = absurd (not-accepted n runA o e)
+cond-passed false n o w e = (refl, e)
+
+module _ (at : ℕ) (v : List ℕ) (ok : checkAsla at v ≡ accepted) where
+  fixed : (ltb (length v) 2 ≡ false) × (cond (maskTooLong v) accepted (cond (ltb (length v) (headerLength v)) (fault 3 runA at) (cond (lForNobody v) accepted (cond (lFlag v) accepted (faults runA checkAttribute (listElements at v))))) ≡ accepted)
+  unfolding checkAsla
+  fixed = cond-passed (ltb (length v) 2) 3 at _ ok
+
+  masked : maskTooLong v ≡ false → (ltb (length v) (headerLength v) ≡ false) × (cond (lForNobody v) accepted (cond (lFlag v) accepted (faults runA checkAttribute (listElements at v))) ≡ accepted)
+  masked m = cond-passed (ltb (length v) (headerLength v)) 3 at _ (rw m at (fixed .1))
+
+  pub headed : Headed v
+  headed = (ltb-false (length v) 2 (fixed .0), λ m. ltb-false (length v) (headerLength v) (masked m .0))
+
+  pub list-ok : maskTooLong v ≡ false → lFlag v ≡ false → faults runA checkAttribute (listElements at v) ≡ accepted
+  unfolding lForNobody
+  list-ok m l = rw l at (masked m .1)
+
+-- No test looks at the attributes.
+selects-same : (w : Which) (v : List ℕ) (ts us : List Attribute) → selects w (advertisement v ts) ≡ selects w (advertisement v us)
+unfolding selects advertisement names general rsvpTeAlone
+selects-same (Naming n) v ts us = refl
+selects-same General v ts us = refl
+selects-same RsvpTeAlone v ts us = refl
+selects-same WithoutL v ts us = refl
+
+pub append-nil : {A : Type 0} (xs : List A) → xs ++ [] ≡ xs
+append-nil [] = refl
+append-nil (x ∷ xs) = ap (λ (l : List _). x ∷ l) (append-nil xs)
+
+one-kept : (p : Advertisement → Bool) (d : Advertisement) (b : Bool) → each (λ x. x .attributes) (keep p (cond b (d ∷ []) [])) ≡ cond (b && p d) (d .attributes) []
+unfolding each keep
+one-kept p d false = refl
+one-kept p d true = go (p d)
+  where
+    go : (x : Bool) → each (λ x. x .attributes) (cond x (d ∷ []) []) ≡ cond x (d .attributes) []
+    go true = append-nil (d .attributes)
+    go false = refl
+
+-- Which of the tests decide: l is the L-flag, m a mask too long, n L for nobody, x the selection.
+decided : (l m x n : Bool) (ts : List Attribute) → (l ≡ false → n ≡ false) → cond (not (m || n) && x) (cond l [] ts) [] ≡ cond l [] (cond m [] (cond x ts []))
+decided true true x n ts h = refl
+decided true false true true ts h = refl
+decided true false true false ts h = refl
+decided true false false true ts h = refl
+decided true false false false ts h = refl
+decided false true x n ts h = refl
+decided false false x n ts h = subst (λ (b : Bool). cond (not b && x) ts [] ≡ cond x ts []) (sym (h refl)) refl
+
+through : {A B : Type 0} (f : A → B) (l m x : Bool) (i j : A) → f (cond l j (cond m j (cond x i j))) ≡ cond l (f j) (cond m (f j) (cond x (f i) (f j)))
+through f true m x i j = refl
+through f false true x i j = refl
+through f false false true i j = refl
+through f false false false i j = refl
+
+module _ (w : Which) (at t : ℕ) (v : List ℕ) where
+  abbrev from : List Element
+  from = elements 1 (at + 2 + listFrom w v) (drop (listFrom w v) v)
+
+  none : (i : ℕ) → each attributesOf (elements 1 i (drop (length v) v)) ≡ []
+  unfolding each
+  none i = ap (λ (l : List ℕ). each attributesOf (elements 1 i l)) (drop-length v) ∙ ap (each attributesOf) (none-left 1 i)
+
+  -- The selected attributes of an ASLA are those of the list from where it begins.
+  pub selected-asla : t ≡ 16 → selected w (element at t v) ≡ each attributesOf from
+  unfolding selected aslaAdvertisements liveAsla lForNobody listFrom listElements advertisement
+  selected-asla e =
+      let ts = each attributesOf (listElements at v) in
+      rw (eq-eqb t 16 e)
+      (one-kept (selects w) (advertisement v ts) (not (maskTooLong v || lForNobody v))
+      ∙ decided (lFlag v) (maskTooLong v) (selects w (advertisement v ts)) (lForNobody v) ts nobody
+      ∙ ap (λ (b : Bool). cond (lFlag v) [] (cond (maskTooLong v) [] (cond b ts []))) (selects-same w v ts [])
+      ∙ ends
+      ∙ sym (through (λ (k : ℕ). each attributesOf (elements 1 (at + 2 + k) (drop k v))) (lFlag v) (maskTooLong v) (selects w (advertisement v [])) (headerLength v) (length v)))
+    where
+      nobody : lFlag v ≡ false → lForNobody v ≡ false
+      nobody l = rw l
+
+      ends : cond (lFlag v) [] (cond (maskTooLong v) [] (cond (selects w (advertisement v [])) (each attributesOf (listElements at v)) []))
+          ≡ cond (lFlag v) (each attributesOf (elements 1 (at + 2 + length v) (drop (length v) v)))
+          (cond (maskTooLong v) (each attributesOf (elements 1 (at + 2 + length v) (drop (length v) v)))
+          (cond (selects w (advertisement v [])) (each attributesOf (elements 1 (at + 2 + headerLength v) (drop (headerLength v) v))) (each attributesOf (elements 1 (at + 2 + length v) (drop (length v) v)))))
+      ends = rw (none (at + 2 + length v))
+
+  pub selected-other : (t ≡ 16 → ⊥) → selected w (element at t v) ≡ []
+  unfolding selected aslaAdvertisements each keep
+  selected-other n = rw (ne-eqb t 16 n)
+
+-- Where a list begins: past the end, or behind the masks of an ASLA that is read.
+module _ (w : Which) (v : List ℕ) where
+  list-cases : (listFrom w v ≡ length v) ⊎ ((listFrom w v ≡ headerLength v) × (lFlag v ≡ false) × (maskTooLong v ≡ false))
+  unfolding listFrom
+  list-cases = go (lFlag v) refl (maskTooLong v) refl (selects w (advertisement v []))
+    where
+      go : (l : Bool) → lFlag v ≡ l → (m : Bool) → maskTooLong v ≡ m → (x : Bool)
+          → (cond l (length v) (cond m (length v) (cond x (headerLength v) (length v))) ≡ length v)
+          ⊎ ((cond l (length v) (cond m (length v) (cond x (headerLength v) (length v))) ≡ headerLength v) × (lFlag v ≡ false) × (maskTooLong v ≡ false))
+      go true e m f x = inl refl
+      go false e true f x = inl refl
+      go false e false f true = inr (refl, e, f)
+      go false e false f false = inl refl
+
+  pub list-within : Headed v → listFrom w v ≤ length v
+  list-within h = ⊎-elim (λ e. omega arith) (λ e. omega (arith, e .0, h .1 (e .2))) list-cases
+
+  pub list-framed : (at : ℕ) → checkAsla at v ≡ accepted → faults runA unchecked (elements 1 (at + 2 + listFrom w v) (drop (listFrom w v) v)) ≡ accepted
+  unfolding faults listElements
+  list-framed at ok =
+      ⊎-elim
+      (λ e. ap (λ (k : ℕ). faults runA unchecked (elements 1 (at + 2 + k) (drop k v))) e ∙ ap (λ (l : List ℕ). faults runA unchecked (elements 1 (at + 2 + length v) l)) (drop-length v) ∙ ap (faults runA unchecked) (none-left 1 (at + 2 + length v)))
+      (λ e. ap (λ (k : ℕ). faults runA unchecked (elements 1 (at + 2 + k) (drop k v))) (e .0) ∙ framed checkAttribute (listElements at v) (list-ok at v ok (e .2) (e .1)))
+      list-cases
+
+-- As the code has it, of the element at a position of the run.
+module _ (w : Which) (a : List ℕ) (at : ℕ) where
+  abbrev part : List ℕ
+  part = take (at + 2 + getD a (at + 1) 0 - (at + 2)) (drop (at + 2) a)
+
+  pub list-other : (getD a at 0 ≡ 16 → ⊥) → at + 2 + getD a (at + 1) 0 ≡ listAt w a at
+  unfolding listAt
+  list-other n = rw (ne-eqb (getD a at 0) 16 n)
+
+  module _ (asla : getD a at 0 ≡ 16) where
+    pub part-headed : (getD a at 0 ≡ 16 → Headed (bytesAt a (at + 2) (getD a (at + 1) 0))) → Headed part
+    part-headed h = subst Headed (sym (part-is a (at + 2) (getD a (at + 1) 0))) (h asla)
+
+    pub list-asla : (k : ℕ) → k ≡ listFrom w part → at + 2 + k ≡ listAt w a at
+    unfolding listAt
+    list-asla k e = rw (eq-eqb (getD a at 0) 16 asla, e, part-is a (at + 2) (getD a (at + 1) 0))
+
+    pub list-ends : at + 2 + getD a (at + 1) 0 ≤ length a → (getD a at 0 ≡ 16 → Headed (bytesAt a (at + 2) (getD a (at + 1) 0))) → (k : ℕ) → k ≡ listFrom w part → at + 2 + k ≤ length a
+    list-ends l h k e =
+        omega (arith, e, list-within w part (part-headed h), ap length (part-is a (at + 2) (getD a (at + 1) 0)), length-bytesAt a (at + 2) (getD a (at + 1) 0) l)
+
+-- What holds of the attributes of every list that is read holds of those that are selected.
+pub all-selected : (P : Attribute → Type 0) (w : Which) (at t : ℕ) (v : List ℕ) → (t ≡ 16 → lFlag v ≡ false → maskTooLong v ≡ false → All P (each attributesOf (listElements at v))) → All P (selected w (element at t v))
+unfolding listElements
+all-selected P w at t v h = go (eqb t 16) refl
+  where
+    go : (b : Bool) → eqb t 16 ≡ b → All P (selected w (element at t v))
+    go true e =
+        subst (All P) (sym (selected-asla w at t v (eqb-true t 16 e)))
+        (⊎-elim (λ i. subst (λ (k : ℕ). All P (each attributesOf (elements 1 (at + 2 + k) (drop k v)))) (sym i) (subst (All P) (sym (none w at t v (at + 2 + length v))) tt))
+        (λ i. subst (λ (k : ℕ). All P (each attributesOf (elements 1 (at + 2 + k) (drop k v)))) (sym (i .0)) (h (eqb-true t 16 e) (i .1) (i .2)))
+        (list-cases w v))
+    go false e = subst (All P) (sym (selected-other w at t v (eqb-false t 16 e))) tt
+
+placed-one : (w : Which) (e : Element) → All Placed (selected w e)
+unfolding selected aslaAdvertisements each keep
+placed-one w (element at t v) = all-selected Placed w at t v (λ a b c. placed-each (listElements at v))
+placed-one w (cut at) = tt
+
+pub placed-selected : (w : Which) (es : List Element) → All Placed (each (selected w) es)
+placed-selected w es = all-each Placed (selected w) es (λ e m. placed-one w e)
+
+-- ---- all ASLAs
+
+each-append : {A B : Type 0} (f : A → List B) (xs ys : List A) → each f (xs ++ ys) ≡ each f xs ++ each f ys
+unfolding each
+each-append f [] ys = refl
+each-append f (x ∷ xs) ys = ap (λ (l : List _). f x ++ l) (each-append f xs ys) ∙ sym (append-assoc (f x) (each f xs) (each f ys))
+
+keep-append : {A : Type 0} (p : A → Bool) (xs ys : List A) → keep p (xs ++ ys) ≡ keep p xs ++ keep p ys
+unfolding keep
+keep-append p [] ys = refl
+keep-append p (x ∷ xs) ys = go (p x) (keep-append p xs ys)
+  where
+    go : (b : Bool) → keep p (xs ++ ys) ≡ keep p xs ++ keep p ys → cond b (x ∷ keep p (xs ++ ys)) (keep p (xs ++ ys)) ≡ cond b (x ∷ keep p xs) (keep p xs) ++ keep p ys
+    go true e = ap (λ (l : List _). x ∷ l) e
+    go false e = e
+
+selected-all : (w : Which) (es : List Element) → each (λ d. d .attributes) (keep (selects w) (each aslaAdvertisements es)) ≡ each (selected w) es
+unfolding each keep selected
+selected-all w [] = refl
+selected-all w (e ∷ es) =
+    ap (each (λ d. d .attributes)) (keep-append (selects w) (aslaAdvertisements e) (each aslaAdvertisements es))
+    ∙ each-append (λ d. d .attributes) (keep (selects w) (aslaAdvertisements e)) (keep (selects w) (each aslaAdvertisements es))
+    ∙ ap (λ (l : List Attribute). each (λ d. d .attributes) (keep (selects w) (aslaAdvertisements e)) ++ l) (selected-all w es)
+
+pub live-all : (w : Which) (a : List ℕ) → ofLive (selects w) (sideA a) ≡ each (selected w) (elements 1 0 a)
+unfolding ofLive sideA
+live-all w a = selected-all w (elements 1 0 a)
+
+-- ---- a turn of a loop over run A that reads the selected lists
+
+-- What follows a position inside a part, as a part of the run.
+bytes-of : (s : List ℕ) (p n : ℕ) → take n (drop p s) ≡ bytesAt s p n
+unfolding bytesAt
+bytes-of s p n = refl
+
+part-drop : (s : List ℕ) (p n k : ℕ) → k ≤ n → p + n ≤ length s → take (p + n - (p + k)) (drop (p + k) s) ≡ drop k (bytesAt s p n)
+part-drop s p n k h l =
+    let m = n - k in
+    let e : p + n - (p + k) ≡ m = omega arith in
+    let f : k + m ≡ n = omega arith in
+    ap (λ (i : ℕ). take i (drop (p + k) s)) e
+    ∙ bytes-of s (p + k) m
+    ∙ sym (drop-at (bytesAt s p k) (bytesAt s (p + k) m) k (length-bytesAt s p k (omega arith)))
+    ∙ ap (drop k) (sym (bytesAt-add s p k m) ∙ ap (bytesAt s p) f)
+
+-- The value of the element at a position, and the part of the run from a position to the element's end.
+abbrev pub valueAt : List ℕ → ℕ → List ℕ
+valueAt a at = bytesAt a (at + 2) (getD a (at + 1) 0)
+
+abbrev pub listPart : List ℕ → ℕ → ℕ → List ℕ
+listPart a at from = take (at + 2 + getD a (at + 1) 0 - from) (drop from a)
+
+module _ (w : Which) (a : List ℕ) (at : ℕ) (here : at < length a) (ok : faults runA checkA (left 1 0 a at) ≡ accepted) where
+  asla-ok : getD a at 0 ≡ 16 → checkAsla at (valueAt a at) ≡ accepted
+  unfolding checkA
+  asla-ok asla =
+      let p : checkA (0 + at) (getD a at 0) (valueAt a at) ≡ accepted = passed checkA 0 a at here ok in
+      ap (λ (i : ℕ). checkAsla i (valueAt a at)) (sym (zero-add at)) ∙ (rw asla at p)
+
+  pub asla-headed : getD a at 0 ≡ 16 → Headed (valueAt a at)
+  asla-headed asla = headed at (valueAt a at) (asla-ok asla)
+
+  -- The list at a position: framed, and with the attributes that are selected here.
+  abbrev Listed : ℕ → Type 0
+  Listed from = (faults runA unchecked (elements 1 from (listPart a at from)) ≡ accepted) × (selected w (elementAt 0 a at) ≡ each attributesOf (elements 1 from (listPart a at from)))
+
+  empty-list : (from : ℕ) → at + 2 + getD a (at + 1) 0 ≤ from → listPart a at from ≡ []
+  empty-list from h = let z : at + 2 + getD a (at + 1) 0 - from ≡ 0 = omega arith in ap (λ (n : ℕ). take n (drop from a)) z
+
+  listed-other : (getD a at 0 ≡ 16 → ⊥) → Listed (at + 2 + getD a (at + 1) 0)
+  unfolding faults each
+  listed-other n =
+      let i = at + 2 + getD a (at + 1) 0 in
+      let e : elements 1 i (listPart a at i) ≡ [] = ap (elements 1 i) (empty-list i (omega arith)) ∙ none-left 1 i in
+      (ap (faults runA unchecked) e, selected-other w (0 + at) (getD a at 0) (valueAt a at) n ∙ sym (ap (each attributesOf) e))
+
+  listed-asla : getD a at 0 ≡ 16 → Listed (at + 2 + listFrom w (valueAt a at))
+  listed-asla asla =
+      let n = getD a (at + 1) 0 in
+      let k = listFrom w (valueAt a at) in
+      let i = inside checkA 0 a at here ok in
+      let h : k ≤ n = omega (arith, list-within w (valueAt a at) (asla-headed asla), length-bytesAt a (at + 2) n i) in
+      let e : listPart a at (at + 2 + k) ≡ drop k (valueAt a at) = part-drop a (at + 2) n k h i in (
+        ap (λ (l : List ℕ). faults runA unchecked (elements 1 (at + 2 + k) l)) e ∙ list-framed w (valueAt a at) at (asla-ok asla),
+        ap (λ (o : ℕ). selected w (element o (getD a at 0) (valueAt a at))) (zero-add at)
+            ∙ selected-asla w at (getD a at 0) (valueAt a at) asla ∙ ap (λ (l : List ℕ). each attributesOf (elements 1 (at + 2 + k) l)) (sym e),
+      )
+
+  listed : (from : ℕ) → from ≡ listAt w a at → Listed from
+  unfolding listAt
+  listed from e = subst Listed (sym e) (go (eqb (getD a at 0) 16) refl)
+    where
+      go : (b : Bool) → eqb (getD a at 0) 16 ≡ b → Listed (cond b (at + 2 + listFrom w (valueAt a at)) (at + 2 + getD a (at + 1) 0))
+      go true i = listed-asla (eqb-true (getD a at 0) 16 i)
+      go false i = listed-other (eqb-false (getD a at 0) 16 i)
+
+  pub list-part-framed : (from : ℕ) → from ≡ listAt w a at → faults runA unchecked (elements 1 from (listPart a at from)) ≡ accepted
+  list-part-framed from e = listed from e .0
+
+  pub list-part-room : (from : ℕ) → from < at + 2 + getD a (at + 1) 0 → from + length (listPart a at from) ≤ length a
+  list-part-room from h = omega (arith, inside checkA 0 a at here ok, length-take (at + 2 + getD a (at + 1) 0 - from) (drop from a))
+
+  -- What gathers attributes list by list gathers those of the run element by element.
+  module _ {G : Type 0} (F : G → List Attribute → G) (none : (g : G) → F g [] ≡ g) (joins : (g : G) (ts us : List Attribute) → F g (ts ++ us) ≡ F (F g ts) us) (g : G) (from : ℕ) (e : from ≡ listAt w a at) where
+    abbrev Rest : G → Type 0
+    Rest h = F h (each (selected w) (left 1 0 a (at + 2 + getD a (at + 1) 0))) ≡ F g (each (selected w) (left 1 0 a at))
+
+    pub live-read : (h : G) → h ≡ F g (each attributesOf (elements 1 from (listPart a at from))) → Rest h
+    live-read h f =
+        let rest = each (selected w) (left 1 0 a (at + 2 + getD a (at + 1) 0)) in
+        ap (λ (x : G). F x rest) (f ∙ ap (F g) (sym (listed from e .1)))
+        ∙ sym (joins g (selected w (elementAt 0 a at)) rest) ∙ ap (F g) (sym (turn checkA 0 a at here ok (selected w)))
+
+    pub live-unread : at + 2 + getD a (at + 1) 0 ≤ from → Rest g
+    unfolding each
+    live-unread l =
+        live-read g
+        (sym (ap (λ (v : List ℕ). F g (each attributesOf (elements 1 from v))) (empty-list from l) ∙ ap (λ (es : List Element). F g (each attributesOf es)) (none-left 1 from) ∙ none g))
+
+-- The end of such a loop.
+module _ {G : Type 0} (F : G → List Attribute → G) (none : (g : G) → F g [] ≡ g) where
+  pub live-end : (w : Which) (a : List ℕ) (at : ℕ) (g : G) → length a ≤ at → g ≡ F g (each (selected w) (left 1 0 a at))
+  live-end w a at g l = sym (ap (F g) (each-end (selected w) 1 (omega arith) 0 a at l) ∙ none g)
+
+-- What fills a grid: the lists one after the other.
+pub filled-nil : (g : List (List ℕ)) → filled g [] ≡ g
+unfolding filled
+filled-nil g = refl
+
+pub live-start : (w : Which) (a : List ℕ) → filled (replicate 10 (0 ∷ 0 ∷ [])) (each (selected w) (left 1 0 a 0)) ≡ gridOf (ofLive (selects w) (sideA a))
+live-start w a =
+    ap (λ (es : List Element). filled (replicate 10 (0 ∷ 0 ∷ [])) (each (selected w) es)) (left-all 0 a)
+    ∙ filled-empty (each (selected w) (elements 1 0 a)) (placed-selected w (elements 1 0 a))
+    ∙ ap gridOf (sym (live-all w a))

@@ -1,0 +1,179 @@
+-- Grids and the attributes that fill them: a grid that is filled from several lists is that of the lists joined.
+use mathlib.Core.Path.{_≡_, refl, sym, ap, ap₂, _∙_, subst}
+use mathlib.Core.Bool.{Bool, true, false, cond, _&&_, _||_, not}
+use mathlib.Core.Logic.{_⊎_, inl, inr}
+use mathlib.Core.List.{List, [], _∷_, _++_, map, append-assoc, List·Memᴰ, List·Memᴰ·head, List·Memᴰ·tail, List·Memᴰ·cases-cons}
+use Prim.Native.Nat.{ℕ, zero, suc, _+_, _≤_, _<_}
+use native.Mathlib.Omega.{arith}
+use borrow.Author.Tests.{eqb-true, eqb-false, eq-eqb, ne-eqb}
+use lib.Dec.{eqb}
+use lib.ListN.{length, getD, set, replicate}
+use Rattle.linkstate.specs.Lists.{keep, each, member, all}
+use Rattle.linkstate.specs.Elements.{Element, element, cut}
+use Rattle.linkstate.specs.Attributes.{Attribute, attribute, ofKind}
+use Rattle.isis.specs.RunA.{attributesOf}
+use Rattle.kinds.specs.Rules.{gridCodes, rowIn}
+use Rattle.kinds.proofs.Computing.{computing}
+use Rattle.isis_grids.specs.Grid.{firstRow, rowOf, gridOf, enteredIn, filled}
+
+-- What holds of every element of a list.
+module _ {A : Type 0} where
+  abbrev pub All : (A → Type 0) → List A → Type 0
+  All P [] = Unit {0}
+  All P (x ∷ xs) = P x × All P xs
+
+  pub all-append : (P : A → Type 0) (xs ys : List A) → All P xs → All P ys → All P (xs ++ ys)
+  all-append P [] ys h g = g
+  all-append P (x ∷ xs) ys h g = (h .0, all-append P xs ys (h .1) g)
+
+  -- and of a member
+  pub all-member : (P : A → Type 0) (xs : List A) → All P xs → (x : A) → List·Memᴰ x xs → P x
+  all-member P [] h x m = elim m [ ]
+  all-member P (y ∷ ys) h x m = go (List·Memᴰ·cases-cons m) (λ i. all-member P ys (h .1) x i)
+    where
+      go : (x ≡ y) ⊎ List·Memᴰ x ys → (List·Memᴰ x ys → P x) → P x
+      go (inl e) f = subst P (sym e) (h .0)
+      go (inr i) f = f i
+
+pub all-each : {A B : Type 0} (P : B → Type 0) (f : A → List B) (xs : List A) → ((x : A) → List·Memᴰ x xs → All P (f x)) → All P (each f xs)
+unfolding each
+all-each P f [] h = tt
+all-each P f (x ∷ xs) h = all-append P (f x) (each f xs) (h x (List·Memᴰ·head refl)) (all-each P f xs (λ y m. h y (List·Memᴰ·tail m)))
+
+-- The attribute's value does not stand at place 0.
+abbrev pub Placed : Attribute → Type 0
+Placed t = 0 < t .at
+
+pub eqb-swap : (x y : ℕ) → eqb x y ≡ eqb y x
+eqb-swap x y = go (eqb x y) refl
+  where
+    go : (b : Bool) → eqb x y ≡ b → b ≡ eqb y x
+    go true e = sym (eq-eqb y x (sym (eqb-true x y e)))
+    go false e = sym (ne-eqb y x (λ h. eqb-false x y e (sym h)))
+
+-- ---- one row
+
+-- An attribute more at the end changes the row of its own code, if that is absent, and no other.
+row-other : (c : ℕ) (us : List Attribute) (t : Attribute) → eqb c (t .code) ≡ false → rowOf c (us ++ (t ∷ [])) ≡ rowOf c us
+unfolding rowOf ofKind keep firstRow
+row-other c [] t e = rw e
+row-other c (u ∷ us) t e = go (eqb c (u .code)) (row-other c us t e)
+  where
+    go : (b : Bool) → firstRow (keep (λ x. eqb c (x .code)) (us ++ (t ∷ []))) ≡ firstRow (keep (λ x. eqb c (x .code)) us)
+        → firstRow (cond b (u ∷ keep (λ x. eqb c (x .code)) (us ++ (t ∷ []))) (keep (λ x. eqb c (x .code)) (us ++ (t ∷ []))))
+        ≡ firstRow (cond b (u ∷ keep (λ x. eqb c (x .code)) us) (keep (λ x. eqb c (x .code)) us))
+    go true i = refl
+    go false i = i
+
+pub row-one : (c : ℕ) (t : Attribute) → eqb c (t .code) ≡ true → rowOf c (t ∷ []) ≡ t .at ∷ t .len ∷ []
+unfolding rowOf ofKind keep firstRow
+row-one c t e = rw e
+
+-- The row of joined lists: the first list's, unless it is absent there.
+pub row-append : (c : ℕ) (us ts : List Attribute) → All Placed us → cond (eqb (getD (rowOf c us) 0 0) 0) (rowOf c ts) (rowOf c us) ≡ rowOf c (us ++ ts)
+unfolding rowOf ofKind keep firstRow
+row-append c [] ts p = refl
+row-append c (u ∷ us) ts p = go (eqb c (u .code)) (row-append c us ts (p .1))
+  where
+    rest : List Attribute → List Attribute
+    rest xs = keep (λ x. eqb c (x .code)) xs
+
+    go : (b : Bool) → cond (eqb (getD (firstRow (rest us)) 0 0) 0) (firstRow (rest ts)) (firstRow (rest us)) ≡ firstRow (rest (us ++ ts))
+        → cond (eqb (getD (firstRow (cond b (u ∷ rest us) (rest us))) 0 0) 0) (firstRow (rest ts)) (firstRow (cond b (u ∷ rest us) (rest us)))
+        ≡ firstRow (cond b (u ∷ rest (us ++ ts)) (rest (us ++ ts)))
+    go true i = rw (ne-eqb (u .at) 0 (λ z. let q = p .0 in omega arith))
+    go false i = i
+
+row-own : (c : ℕ) (us : List Attribute) (t : Attribute) → All Placed us → eqb c (t .code) ≡ true
+    → cond (eqb (getD (rowOf c us) 0 0) 0) (t .at ∷ t .len ∷ []) (rowOf c us) ≡ rowOf c (us ++ (t ∷ []))
+row-own c us t p e = ap (λ (r : List ℕ). cond (eqb (getD (rowOf c us) 0 0) 0) r (rowOf c us)) (sym (row-one c t e)) ∙ row-append c us (t ∷ []) p
+
+-- ---- all rows
+
+-- No code stands twice.
+abbrev Apart : List ℕ → Type 0
+Apart [] = Unit {0}
+Apart (c ∷ cs) = (member c cs ≡ false) × Apart cs
+
+rows-other : (cs : List ℕ) (us : List Attribute) (t : Attribute) → member (t .code) cs ≡ false → map (λ c. rowOf c us) cs ≡ map (λ c. rowOf c (us ++ (t ∷ []))) cs
+unfolding member
+rows-other [] us t e = refl
+rows-other (c ∷ cs) us t e = go (eqb (t .code) c) refl e (rows-other cs us t)
+  where
+    go : (b : Bool) → eqb (t .code) c ≡ b → b || member (t .code) cs ≡ false → (member (t .code) cs ≡ false → map (λ c. rowOf c us) cs ≡ map (λ c. rowOf c (us ++ (t ∷ []))) cs)
+        → map (λ c. rowOf c us) (c ∷ cs) ≡ map (λ c. rowOf c (us ++ (t ∷ []))) (c ∷ cs)
+    go true i h r = absurd (let z : _≡_ {A = ℕ} 0 1 = cc in omega arith)
+    go false i h r = ap₂ (λ (x : List ℕ) (xs : List (List ℕ)). x ∷ xs) (sym (row-other c us t (eqb-swap c (t .code) ∙ i))) (r h)
+
+cond-cons : {A : Type 0} (b : Bool) (x : A) (xs ys : List A) → cond b (x ∷ xs) (x ∷ ys) ≡ x ∷ cond b xs ys
+cond-cons true x xs ys = refl
+cond-cons false x xs ys = refl
+
+cond-head : {A : Type 0} (b : Bool) (x y : A) (xs : List A) → cond b (x ∷ xs) (y ∷ xs) ≡ cond b x y ∷ xs
+cond-head true x y xs = refl
+cond-head false x y xs = refl
+
+entered-one : (cs : List ℕ) (us : List Attribute) (t : Attribute) → Apart cs → All Placed us → enteredIn cs (map (λ c. rowOf c us) cs) t ≡ map (λ c. rowOf c (us ++ (t ∷ []))) cs
+unfolding enteredIn rowIn
+entered-one [] us t a p = refl
+entered-one (c ∷ cs) us t a p = go (eqb (t .code) c) refl (entered-one cs us t (a .1) p)
+  where
+    g : List (List ℕ)
+    g = map (λ c. rowOf c us) cs
+
+    k : ℕ
+    k = rowIn cs (t .code)
+
+    r : List ℕ
+    r = t .at ∷ t .len ∷ []
+
+    go : (b : Bool) → eqb (t .code) c ≡ b → cond (eqb (getD (getD g k []) 0 0) 0) (set g k r) g ≡ map (λ c. rowOf c (us ++ (t ∷ []))) cs
+        → cond (eqb (getD (getD (rowOf c us ∷ g) (cond b 0 (suc k)) []) 0 0) 0) (set (rowOf c us ∷ g) (cond b 0 (suc k)) r) (rowOf c us ∷ g) ≡ rowOf c (us ++ (t ∷ [])) ∷ map (λ c. rowOf c (us ++ (t ∷ []))) cs
+    go true e i =
+        cond-head (eqb (getD (rowOf c us) 0 0) 0) r (rowOf c us) g
+        ∙ ap₂ (λ (x : List ℕ) (xs : List (List ℕ)). x ∷ xs) (row-own c us t p (eqb-swap c (t .code) ∙ e)) (rows-other cs us t (subst (λ (x : ℕ). member x cs ≡ false) (sym (eqb-true (t .code) c e)) (a .0)))
+    go false e i =
+        cond-cons (eqb (getD (getD g k []) 0 0) 0) (rowOf c us) (set g k r) g
+        ∙ ap₂ (λ (x : List ℕ) (xs : List (List ℕ)). x ∷ xs) (sym (row-other c us t (eqb-swap c (t .code) ∙ e))) i
+
+codes-apart : Apart gridCodes
+unfolding computing
+codes-apart = (refl, (refl, (refl, (refl, (refl, (refl, (refl, (refl, (refl, (refl, tt))))))))))
+
+-- ---- filling
+
+pub filled-append : (g : List (List ℕ)) (ts us : List Attribute) → filled g (ts ++ us) ≡ filled (filled g ts) us
+unfolding filled
+filled-append g [] us = refl
+filled-append g (t ∷ ts) us = filled-append (enteredIn gridCodes g t) ts us
+
+-- A grid of attributes that is filled with more is the grid of all of them.
+pub filled-grid : (us ts : List Attribute) → All Placed us → All Placed ts → filled (gridOf us) ts ≡ gridOf (us ++ ts)
+unfolding filled gridOf
+filled-grid us [] p q = ap gridOf (sym (append-nil us))
+  where
+    append-nil : (xs : List Attribute) → xs ++ [] ≡ xs
+    append-nil [] = refl
+    append-nil (x ∷ xs) = ap (λ (l : List Attribute). x ∷ l) (append-nil xs)
+filled-grid us (t ∷ ts) p q =
+    ap (λ (g : List (List ℕ)). filled g ts) (entered-one gridCodes us t codes-apart p)
+    ∙ filled-grid (us ++ (t ∷ [])) ts (all-append Placed us (t ∷ []) p (q .0, tt)) (q .1)
+    ∙ ap gridOf (append-assoc us (t ∷ []) ts)
+
+pub grid-empty : replicate 10 (0 ∷ 0 ∷ []) ≡ gridOf []
+unfolding computing gridOf rowOf firstRow
+grid-empty = refl
+
+-- From the empty grid.
+pub filled-empty : (ts : List Attribute) → All Placed ts → filled (replicate 10 (0 ∷ 0 ∷ [])) ts ≡ gridOf ts
+filled-empty ts p = ap (λ (g : List (List ℕ)). filled g ts) grid-empty ∙ filled-grid [] ts tt p
+
+-- ---- attributes of elements
+
+placed-one : (e : Element) → All Placed (attributesOf e)
+unfolding attributesOf attribute
+placed-one (element at t v) = (omega arith, tt)
+placed-one (cut at) = tt
+
+pub placed-each : (es : List Element) → All Placed (each attributesOf es)
+placed-each es = all-each Placed attributesOf es (λ e m. placed-one e)

@@ -1,0 +1,8 @@
+pub mod Types
+pub mod Grids
+pub mod Walks
+pub mod Headers
+pub mod Aslas
+pub mod Selects
+pub mod Bandwidths
+pub mod Places

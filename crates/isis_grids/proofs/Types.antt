@@ -1,0 +1,144 @@
+-- IS-IS types and their codes: what holds of every type, shown at the table's own types by computing and at the unknown ones.
+use mathlib.Core.Path.{_≡_, refl, sym, ap, ap₂, _∙_, subst}
+use mathlib.Core.Bool.{Bool, true, false, cond, _&&_, not}
+use mathlib.Core.List.{List, [], _∷_, map}
+use Prim.Native.Nat.{ℕ, zero, suc, _+_, _-_, _≤_, _<_}
+use native.Mathlib.Omega.{arith}
+use borrow.Author.Tests.{eqb-true, eqb-false, eq-eqb, ne-eqb}
+use lib.Dec.{eqb}
+use Rattle.linkstate.specs.Lists.{any, all, lookup}
+use Rattle.linkstate.specs.Kinds as T
+use Rattle.linkstate.specs.Kinds.{kinds, hasType, hasCode, codeOfType, wrongInA}
+use Rattle.kinds.specs.declared.Kind.{Kind}
+use Rattle.kinds.specs.declared.Kind.the-variants.{Link, Application, Srlg, Asla, Unknown}
+use Rattle.kinds.specs.declared.Size.the-variants.{Any}
+use Rattle.kinds.specs.declared.Rule.{Rule}
+use Rattle.kinds.specs.Rules.{rule, ruleWith, ruleOfType, gridCodes, rowIn}
+use Rattle.kinds.proofs.Computing.{computing}
+use Rattle.isis_grids.specs.Grid.{wrongOfCode}
+
+-- ---- the row of a type
+
+-- Two answers to one search agree where they agree on every row of the table.
+lookup-two : {A B C D : Type 0} (p : A → Bool) (f : A → B) (g : A → C) (x : B → D) (y : C → D) (d : B) (e : C) (qs : List A)
+    → x d ≡ y e → map (λ q. x (f q)) qs ≡ map (λ q. y (g q)) qs → x (lookup p f d qs) ≡ y (lookup p g e qs)
+unfolding lookup
+lookup-two p f g x y d e [] h m = h
+lookup-two p f g x y d e (q ∷ qs) h m = go (p q) (cc) (lookup-two p f g x y d e qs h (cc))
+  where
+    go : (b : Bool) → x (f q) ≡ y (g q) → x (lookup p f d qs) ≡ y (lookup p g e qs) → x (cond b (f q) (lookup p f d qs)) ≡ y (cond b (g q) (lookup p g e qs))
+    go true i j = i
+    go false i j = j
+
+-- The row that a kind tells; 10 is none.
+abbrev pub rowOfKind : Kind → ℕ
+rowOfKind (Link i) = 10
+rowOfKind (Application i) = i
+rowOfKind Srlg = 10
+rowOfKind Asla = 10
+rowOfKind Unknown = 10
+
+pub row-of-type : (t : ℕ) → rowOfKind ((ruleOfType t) .kind) ≡ rowIn gridCodes (codeOfType t)
+unfolding computing
+row-of-type t = go (eqb t 16) refl
+  where
+    go : (b : Bool) → eqb t 16 ≡ b
+        → rowOfKind (cond b (rule Asla Any 1122) (lookup (hasType t) (ruleWith (λ q. q .isisSize)) (rule Unknown Any 0) kinds) .kind) ≡ rowIn gridCodes (lookup (hasType t) (λ q. q .code) 0 kinds)
+    go true e = ap (λ (i : ℕ). rowIn gridCodes (codeOfType i)) (sym (eqb-true t 16 e))
+    go false e = lookup-two (hasType t) (ruleWith (λ q. q .isisSize)) (λ q. q .code) (λ r. rowOfKind (r .kind)) (rowIn gridCodes) (rule Unknown Any 0) 0 kinds refl refl
+
+-- As the code has it: the kind of the rule that was read.
+pub row-read : (t : ℕ) (r : Rule) (k : Kind) → r ≡ ruleOfType t → r .kind ≡ k → rowOfKind k ≡ rowIn gridCodes (codeOfType t)
+row-read t r k e h = ap rowOfKind (sym h ∙ ap (λ (x : Rule). x .kind) e) ∙ row-of-type t
+
+-- ---- every type
+
+-- What holds of a type that is carried in run A.
+abbrev OfType : (ℕ → Type 0) → T.Carrier → Type 0
+OfType P (T.typeInA t) = P t
+OfType P T.valuesInBC = Unit {0}
+
+abbrev OfTypes : (ℕ → Type 0) → List T.Kind → Type 0
+OfTypes P [] = Unit {0}
+OfTypes P (q ∷ qs) = OfType P (q .carrier) × OfTypes P qs
+
+-- A fact at each type of the table, and at each unknown one, holds at every type.
+types-in : (P : ℕ → Type 0) (qs : List T.Kind) → OfTypes P qs → (t : ℕ) → (lookup (hasType t) (λ q. q .code) 0 qs ≡ 0 → P t) → P t
+unfolding lookup hasType T.carriedAs
+types-in P [] all t f = f refl
+types-in P (q ∷ qs) all t f = go (q .carrier) (all .0) f (types-in P qs (all .1) t)
+  where
+    go : (w : T.Carrier) → OfType P w → (cond (T.carriedAs t w) (q .code) (lookup (hasType t) (λ q. q .code) 0 qs) ≡ 0 → P t) → ((lookup (hasType t) (λ q. q .code) 0 qs ≡ 0 → P t) → P t) → P t
+    go (T.typeInA n) h f r = at (eqb t n) refl f
+      where
+        at : (b : Bool) → eqb t n ≡ b → (cond b (q .code) (lookup (hasType t) (λ q. q .code) 0 qs) ≡ 0 → P t) → P t
+        at true e f = subst P (sym (eqb-true t n e)) h
+        at false e f = r f
+    go T.valuesInBC h f r = r f
+
+pub every-type : (P : ℕ → Type 0) → OfTypes P kinds → ((t : ℕ) → codeOfType t ≡ 0 → P t) → (t : ℕ) → P t
+unfolding codeOfType
+every-type P all f t = types-in P kinds all t (f t)
+
+-- A type whose length is right has a code whose length is.
+pub right-code : (n t : ℕ) → wrongInA t n ≡ false → wrongOfCode (codeOfType t) n ≡ false
+unfolding computing wrongOfCode
+right-code n =
+    every-type (λ t. wrongInA t n ≡ false → wrongOfCode (codeOfType t) n ≡ false)
+    (λ h. h, (λ h. h, (λ h. h, (λ h. h, (λ h. h, (tt, (λ h. h, (λ h. h, (λ h. h, (λ h. h, (λ h. h, (λ h. h, (λ h. h, (λ h. h, tt))))))))))))))
+    (λ t e h. ap (λ (c : ℕ). wrongOfCode c n) e)
+
+-- A type is the only one of its code: a computed test over the table's types.
+agree : Bool → Bool → Bool
+agree true b = b
+agree false b = not b
+
+agree-eq : (a b : Bool) → agree a b ≡ true → a ≡ b
+unfolding agree
+agree-eq true b e = sym e
+agree-eq false true e = absurd (let z : _≡_ {A = ℕ} 0 1 = cc in omega arith)
+agree-eq false false e = refl
+
+testOf : (ℕ → Bool) → T.Carrier → Bool
+testOf p (T.typeInA t) = p t
+testOf p T.valuesInBC = true
+
+tested : (p : ℕ → Bool) (qs : List T.Kind) → all (λ q. testOf p (q .carrier)) qs ≡ true → OfTypes (λ t. p t ≡ true) qs
+unfolding all testOf
+tested p [] h = tt
+tested p (q ∷ qs) h = go (q .carrier) h (tested p qs)
+  where
+    go : (w : T.Carrier) → testOf p w && all (λ q. testOf p (q .carrier)) qs ≡ true → (all (λ q. testOf p (q .carrier)) qs ≡ true → OfTypes (λ t. p t ≡ true) qs) → OfType (λ t. p t ≡ true) w × OfTypes (λ t. p t ≡ true) qs
+    go (T.typeInA t) h f = at (p t) refl h
+      where
+        at : (b : Bool) → p t ≡ b → b && all (λ q. testOf p (q .carrier)) qs ≡ true → (p t ≡ true) × OfTypes (λ t. p t ≡ true) qs
+        at true e h = (e, f h)
+        at false e h = absurd (let z : _≡_ {A = ℕ} 0 1 = cc in omega arith)
+    go T.valuesInBC h f = (tt, f h)
+
+module _ (k c : ℕ) where
+  keyed : ℕ → Bool
+  keyed t = agree (eqb t k) (eqb (codeOfType t) c)
+
+  only-type : all (λ q. testOf keyed (q .carrier)) kinds ≡ true → codeOfType k ≡ c → (c ≡ 0 → ⊥) → (t : ℕ) → eqb t k ≡ eqb (codeOfType t) c
+  unfolding keyed agree
+  only-type h own n t =
+      agree-eq (eqb t k) (eqb (codeOfType t) c)
+      (every-type (λ t. keyed t ≡ true) (tested keyed kinds h)
+      (λ x e. rw (ne-eqb x k (λ i. n (sym own ∙ ap codeOfType (sym i) ∙ e)), ne-eqb (codeOfType x) c (λ i. n (sym i ∙ e)))) t)
+
+-- Only type 18 is a TE metric.
+pub metric-type : (t : ℕ) → eqb t 18 ≡ eqb (codeOfType t) 1092
+unfolding computing testOf keyed agree
+metric-type = only-type 18 1092 refl refl (λ z. omega arith)
+
+-- Each of the link's bandwidths has its own type, 9 to 11.
+pub bandwidth-type : (k : ℕ) → 9 ≤ k → k < 12 → (t : ℕ) → eqb t k ≡ eqb (codeOfType t) (k + 1080)
+unfolding computing testOf keyed agree
+bandwidth-type k h g = let e : 9 + (k - 9) ≡ k = omega arith in subst (λ (i : ℕ). (t : ℕ) → eqb t i ≡ eqb (codeOfType t) (i + 1080)) e (go (k - 9) (omega arith))
+  where
+    go : (d : ℕ) → d < 3 → (t : ℕ) → eqb t (9 + d) ≡ eqb (codeOfType t) (9 + d + 1080)
+    go zero l = only-type 9 1089 refl refl (λ z. omega arith)
+    go (suc zero) l = only-type 10 1090 refl refl (λ z. omega arith)
+    go (suc (suc zero)) l = only-type 11 1091 refl refl (λ z. omega arith)
+    go (suc (suc (suc d))) l = absurd (omega arith)

@@ -1,0 +1,118 @@
+-- A turn fills the grid from the element's list, if it has one that is selected.
+use Rattle.isis_grids.proofs.Aslas.{asla-headed, list-part-framed, list-part-room, live-read, live-unread, live-end, live-start, filled-nil}
+use Rattle.isis_grids.proofs.Walks.{left-all, inside, rest-ok}
+use Rattle.isis_grids.proofs.Grids.{filled-append}
+use Rattle.isis_grids.specs.Selected.{selects, selected}
+use Rattle.isis_grids.specs.Grid.{gridOf, filled}
+use Rattle.isis.specs.RunA.{checkA, sideA}
+use Rattle.linkstate.proofs.WalkLaws.{left}
+use Rattle.linkstate.specs.Sides.{ofLive}
+use Rattle.linkstate.specs.Elements.{faults}
+use Rattle.linkstate.specs.Replies.{accepted, runA}
+use Rattle.linkstate.specs.Lists.{each}
+use denote.Ref.{now}
+use lib.ListN.{length}
+use native.Mathlib.Omega.{arith}
+use mathlib.Core.Path.{_≡_, ap, _∙_}
+use Prim.Native.Nat.{_+_, _≤_, _-_}
+use borrow.Author.Needs.{needs}
+use Rattle.isis_grids.proofs.live_grid.Statement.{statement}
+use Rattle.isis_grids.proofs.live_grid.Tie as tie
+
+abbrev Inv-loop : tie.InvT-loop
+Inv-loop a which g₀ at₀ g at = (at ≤ length a) × (faults runA checkA (left 1 0 a at) ≡ accepted) × (filled g (each (selected which) (left 1 0 a at)) ≡ gridOf (ofLive (selects which) (sideA a)))
+
+abbrev μ-loop : tie.MeasureT-loop
+μ-loop a which g₀ at₀ g at = length a - at
+
+loop-holds : tie.Need-loop-holds Inv-loop μ-loop
+loop-holds c = let x = c .before .args in (omega arith, ap (faults runA checkA) (left-all 0 (now (x .a))) ∙ c .before .pre, live-start (x .which) (now (x .a)))
+
+add-n : tie.Need-add-n Inv-loop μ-loop
+add-n c = search needs
+
+shared-slice-read-n : tie.Need-shared-slice-read-n Inv-loop μ-loop
+shared-slice-read-n c = let l = c .before .before .loop in omega (arith, inside checkA 0 (now (c .before .before .before .before .args .a)) (l .at) (c .before .loop-test .taken) (l .inv .1))
+
+cast-n : tie.Need-cast-n Inv-loop μ-loop
+cast-n c = omega (arith, c .shared-slice-known2 .given (c .before .before .loop .at + 1))
+
+add-next : tie.Need-add-next Inv-loop μ-loop
+add-next c = search needs
+
+add-next-2 : tie.Need-add-next-2 Inv-loop μ-loop
+add-next-2 c = let l = c .before .before .loop in omega (arith, inside checkA 0 (now (c .before .before .before .before .args .a)) (l .at) (c .before .loop-test .taken) (l .inv .1))
+
+list-at-requires : tie.Need-list-at-requires Inv-loop μ-loop
+list-at-requires c κs = let l = c .before .before .loop in
+    let x = c .before .before .before .before .args in
+    let here = c .before .loop-test .taken in
+    (inside checkA 0 (now (x .a)) (l .at) here (l .inv .1), asla-headed (x .which) (now (x .a)) (l .at) here (l .inv .1))
+
+sub-fill : tie.Need-sub-fill Inv-loop μ-loop
+sub-fill c = search needs
+
+part-fill-start : tie.Need-part-fill-start Inv-loop μ-loop
+part-fill-start c = search needs
+
+part-fill-end : tie.Need-part-fill-end Inv-loop μ-loop
+part-fill-end c = let l = c .before .before .before .before .loop in inside checkA 0 (now (c .before .before .before .before .before .before .args .a)) (l .at) (c .before .before .before .loop-test .taken) (l .inv .1)
+
+fill-requires : tie.Need-fill-requires Inv-loop μ-loop
+fill-requires c κs = let l = c .before .before .before .before .before .loop in
+    let x = c .before .before .before .before .before .before .before .args in
+    let here = c .before .before .before .before .loop-test .taken in
+    let from = c .before .before .list-at .result in (
+      omega (arith, list-part-room (x .which) (now (x .a)) (l .at) here (l .inv .1) from (c .before .if1 .taken)),
+      list-part-framed (x .which) (now (x .a)) (l .at) here (l .inv .1) from (c .before .before .list-at .ensures),
+    )
+
+loop-less : tie.Need-loop-less Inv-loop μ-loop
+loop-less c = omega arith
+
+loop-again : tie.Need-loop-again Inv-loop μ-loop
+loop-again c = let l = c .before .before .before .before .before .before .loop in
+    let x = c .before .before .before .before .before .before .before .before .args in
+    let here = c .before .before .before .before .before .loop-test .taken in (
+      inside checkA 0 (now (x .a)) (l .at) here (l .inv .1),
+      rest-ok checkA 0 (now (x .a)) (l .at) here (l .inv .1),
+      live-read (x .which) (now (x .a)) (l .at) here (l .inv .1) filled filled-nil filled-append (l .g) (c .before .before .before .list-at .result) (c .before .before .before .list-at .ensures) (c .fill .result) (c .fill .ensures) ∙ l .inv .2,
+    )
+
+loop-less-2 : tie.Need-loop-less-2 Inv-loop μ-loop
+loop-less-2 c = omega arith
+
+loop-again-2 : tie.Need-loop-again-2 Inv-loop μ-loop
+loop-again-2 c = let l = c .before .before .before .before .loop in
+    let x = c .before .before .before .before .before .before .args in
+    let here = c .before .before .before .loop-test .taken in (
+      inside checkA 0 (now (x .a)) (l .at) here (l .inv .1),
+      rest-ok checkA 0 (now (x .a)) (l .at) here (l .inv .1),
+      live-unread (x .which) (now (x .a)) (l .at) here (l .inv .1) filled filled-nil filled-append (l .g) (c .before .list-at .result) (c .before .list-at .ensures) (c .if1 .left) ∙ l .inv .2,
+    )
+
+returns : tie.Need-returns Inv-loop μ-loop
+returns c = let l = c .before .loop in live-end filled filled-nil (c .before .before .before .args .which) (now (c .before .before .before .args .a)) (l .at) (l .g) (c .loop-test .left) ∙ l .inv .2
+
+pub live-grid-spec : {M : Type 1} → statement M
+live-grid-spec =
+    tie.close
+    (tie.spec
+    Inv-loop
+    μ-loop
+    loop-holds
+    add-n
+    shared-slice-read-n
+    cast-n
+    add-next
+    add-next-2
+    list-at-requires
+    sub-fill
+    part-fill-start
+    part-fill-end
+    fill-requires
+    loop-less
+    loop-again
+    loop-less-2
+    loop-again-2
+    returns)

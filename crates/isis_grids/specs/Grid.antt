@@ -1,0 +1,49 @@
+-- Sets on side A as grids (rule W7): one row per kind, of place and length or absent.
+use mathlib.Core.Bool.{Bool, true, false, cond, _&&_, not}
+use mathlib.Core.List.{List, [], _∷_, map}
+use Prim.Native.Nat.{ℕ}
+use lib.Dec.{eqb}
+use lib.ListN.{getD, set}
+use Rattle.linkstate.specs.Lists.{any}
+use Rattle.linkstate.specs.Bytes.{bytesAt}
+use Rattle.linkstate.specs.Kinds.{kinds, hasCode, fits}
+use Rattle.linkstate.specs.Replies.{Verdict, accepted}
+use Rattle.linkstate.specs.Attributes.{Attribute, ofKind}
+use Rattle.kinds.specs.Rules.{gridCodes, rowIn}
+
+-- The row of an attribute, and of none.
+unfoldable pub firstRow : List Attribute → List ℕ
+firstRow [] = 0 ∷ 0 ∷ []
+firstRow (t ∷ ts) = t .at ∷ t .len ∷ []
+
+-- W5, W7. The row of a code: place and length of its first value in run A, two zeros where it is absent. No value stands at place 0.
+unfoldable pub rowOf : ℕ → List Attribute → List ℕ
+rowOf c ts = firstRow (ofKind c ts)
+
+-- W7. The grid of a set.
+unfoldable pub gridOf : List Attribute → List (List ℕ)
+gridOf ts = map (λ c. rowOf c ts) gridCodes
+
+-- One attribute more: it goes into the row of its code unless something stands there. A code that has no row changes nothing.
+unfoldable pub enteredIn : List ℕ → List (List ℕ) → Attribute → List (List ℕ)
+enteredIn cs g t = let k = rowIn cs (t .code) in cond (eqb (getD (getD g k []) 0 0) 0) (set g k (t .at ∷ t .len ∷ [])) g
+
+unfoldable pub filled : List (List ℕ) → List Attribute → List (List ℕ)
+filled g [] = g
+filled g (t ∷ ts) = filled (enteredIn gridCodes g t) ts
+
+-- The check that passes every element: faults by it are those of framing alone.
+unfoldable pub unchecked : ℕ → ℕ → List ℕ → Verdict
+unchecked at t v = accepted
+
+-- K3. The BGP-LS value bytes of a code whose value has these bytes in run A: a TE metric gets a zero in front.
+unfoldable pub bgplsValue : ℕ → List ℕ → List ℕ
+bgplsValue c v = cond (eqb c 1092) (0 ∷ v) v
+
+-- The value that a row points at, as BGP-LS value bytes; none where it is absent.
+unfoldable pub rowValue : List ℕ → ℕ → List ℕ → List ℕ
+rowValue a c row = cond (eqb (getD row 0 0) 0) [] (bgplsValue c (bytesAt a (getD row 0 0) (getD row 1 0)))
+
+-- R4. Whether a code is known and its values in run A do not have n bytes.
+unfoldable pub wrongOfCode : ℕ → ℕ → Bool
+wrongOfCode c n = any (λ q. hasCode c q && not (fits (q .isisSize) n)) kinds

@@ -1,0 +1,184 @@
+// What run A holds, as grids: of its legacy attributes, and of the ASLA sub-TLVs that pass a test (document 01, "Who gets what").
+ghost use mathlib.Core.Path.{_≡_};
+ghost use Prim.Native.Nat.{_+_, _<_, _≤_};
+ghost use lib.ListN.{length, getD};
+ghost use Rattle.linkstate.specs.Replies.{accepted, runA};
+ghost use Rattle.linkstate.specs.Lists.{each};
+ghost use Rattle.linkstate.specs.Bytes.{bytesAt};
+ghost use Rattle.linkstate.specs.Elements.{elements, faults};
+ghost use Rattle.linkstate.specs.Kinds.{codeOfType};
+ghost use Rattle.kinds.specs.Rules.{gridCodes, rowIn};
+ghost use Rattle.linkstate.specs.Sides.{ofLive};
+ghost use Rattle.isis.specs.RunA.{attributesOf, checkA, sideA};
+ghost use Rattle.isis_grids.specs.Grid.{rowOf, gridOf, filled, unchecked};
+ghost use Rattle.isis_grids.specs.Selected.{selects, unflagged, listFrom, listAt, Headed};
+use kinds::Kind;
+
+// The row of a type; 10 where it has none.
+fn row_of(t: u8) -> usize
+    ensures { λ r. ⌜ r ≡ rowIn gridCodes (codeOfType t) ⌝ }
+{
+    let rule = kinds::classify_type(t);
+    let kind = rule.kind;
+    match kind {
+        Kind::Link(_) => 10,
+        Kind::Application(k) => k,
+        Kind::Srlg => 10,
+        Kind::Asla => 10,
+        Kind::Unknown => 10,
+    }
+}
+
+// A grid with the attributes of a list, whose first byte is at an offset of run A: each goes into the row of its kind unless something stands there.
+pub fn fill(g: [[usize; 2]; 10], s: &[u8], base: usize) -> [[usize; 2]; 10]
+    requires { ⌜ (base + length (now s) < 18446744073709551616) × (faults runA unchecked (elements 1 base (now s)) ≡ accepted) ⌝ }
+    ensures { λ r. ⌜ r ≡ filled g (each attributesOf (elements 1 base (now (s .entry)))) ⌝ }
+{
+    let mut h = g;
+    let mut at = 0;
+    while at < s.len() {
+        let n = s[at + 1] as usize;
+        let k = row_of(s[at]);
+        if k < 10 {
+            if h[k][0] == 0 {
+                let row = [base + at + 2, n];
+                h[k] = row;
+            }
+        }
+        at = at + 2 + n;
+    }
+    h
+}
+
+// The grid of run A's legacy attributes.
+pub fn legacy_grid(a: &[u8]) -> [[usize; 2]; 10]
+    requires { ⌜ faults runA checkA (elements 1 0 (now a)) ≡ accepted ⌝ }
+    ensures { λ r. ⌜ r ≡ gridOf ((sideA (now (a .entry))) .legacy) ⌝ }
+{
+    let g = [[0usize; 2]; 10];
+    fill(g, a, 0)
+}
+
+// Which live ASLA sub-TLVs are read: those that name an application, the general ones, those whose only set bit is RSVP-TE's, or all without L.
+pub enum Which {
+    Naming(u32),
+    General,
+    RsvpTeAlone,
+    WithoutL,
+}
+
+// Whether an ASLA without L, of these masks, is selected.
+fn passes(which: Which, standard: &[u8], user: &[u8]) -> bool
+    requires { ⌜ (length (now standard) ≤ 8) × (length (now user) ≤ 8) ⌝ }
+    ensures { λ r. ⌜ r ≡ selects which (unflagged (now (standard .entry)) (now (user .entry))) ⌝ }
+{
+    match which {
+        Which::Naming(n) => masks::names(standard, user, n),
+        Which::General => {
+            if standard.len() != 0 {
+                return false;
+            }
+            user.len() == 0
+        }
+        Which::RsvpTeAlone => {
+            if masks::mask_number(standard) != 1 {
+                return false;
+            }
+            masks::mask_number(user) == 0
+        }
+        Which::WithoutL => true,
+    }
+}
+
+// Where the attribute list of an ASLA with the value v begins; past the end where there is none to read, or the ASLA is not selected.
+fn list_start(v: &[u8], which: Which) -> usize
+    requires { ⌜ Headed (now v) ⌝ }
+    ensures { λ r. ⌜ r ≡ listFrom which (now (v .entry)) ⌝ }
+{
+    let h = isis_check_a::read_header(v);
+    if h.l {
+        return v.len();
+    }
+    if isis_check_a::mask_too_long(h) {
+        return v.len();
+    }
+    let m = 2 + h.standard;
+    let e = m + h.user;
+    if passes(which, &v[2..m], &v[m..e]) {
+        return e;
+    }
+    v.len()
+}
+
+// Where in run A the list of the element at a position begins: at the element's end where it is no ASLA, or none to read.
+fn list_at(a: &[u8], at: usize, which: Which) -> usize
+    requires { ⌜ (at + 2 + getD (now a) (at + 1) 0 ≤ length (now a)) × (getD (now a) at 0 ≡ 16 → Headed (bytesAt (now a) (at + 2) (getD (now a) (at + 1) 0))) ⌝ }
+    ensures { λ r. ⌜ r ≡ listAt which (now (a .entry)) at ⌝ }
+{
+    let n = a[at + 1] as usize;
+    let v = at + 2;
+    if a[at] != 16 {
+        return v + n;
+    }
+    v + list_start(&a[v..v + n], which)
+}
+
+// The grid of the live ASLA sub-TLVs that are selected, together.
+pub fn live_grid(a: &[u8], which: Which) -> [[usize; 2]; 10]
+    requires { ⌜ faults runA checkA (elements 1 0 (now a)) ≡ accepted ⌝ }
+    ensures { λ r. ⌜ r ≡ gridOf (ofLive (selects which) (sideA (now (a .entry)))) ⌝ }
+{
+    let mut g = [[0usize; 2]; 10];
+    let mut at = 0;
+    while at < a.len() {
+        let n = a[at + 1] as usize;
+        let next = at + 2 + n;
+        let from = list_at(a, at, which);
+        if from < next {
+            let h = fill(g, &a[from..next], from);
+            g = h;
+        }
+        at = next;
+    }
+    g
+}
+
+// The row of one of the link's bandwidths, by its type, in a list whose first byte is at an offset of run A.
+pub fn bandwidth_in(s: &[u8], base: usize, t: u8) -> [usize; 2]
+    requires { ⌜ (9 ≤ t) × (t < 12) × (base + length (now s) < 18446744073709551616) × (faults runA unchecked (elements 1 base (now s)) ≡ accepted) ⌝ }
+    ensures { λ r. ⌜ r ≡ rowOf (t + 1080) (each attributesOf (elements 1 base (now (s .entry)))) ⌝ }
+{
+    let mut at = 0;
+    while at < s.len() {
+        let n = s[at + 1] as usize;
+        if s[at] == t {
+            let row = [base + at + 2, n];
+            return row;
+        }
+        at = at + 2 + n;
+    }
+    let none = [0usize; 2];
+    none
+}
+
+// The row of one of the link's bandwidths, by its type, in the live ASLA sub-TLVs that are selected.
+pub fn live_bandwidth(a: &[u8], which: Which, t: u8) -> [usize; 2]
+    requires { ⌜ (9 ≤ t) × (t < 12) × (faults runA checkA (elements 1 0 (now a)) ≡ accepted) ⌝ }
+    ensures { λ r. ⌜ r ≡ rowOf (t + 1080) (ofLive (selects which) (sideA (now (a .entry)))) ⌝ }
+{
+    let mut at = 0;
+    while at < a.len() {
+        let n = a[at + 1] as usize;
+        let next = at + 2 + n;
+        let from = list_at(a, at, which);
+        if from < next {
+            let row = bandwidth_in(&a[from..next], from, t);
+            if row[0] != 0 {
+                return row;
+            }
+        }
+        at = next;
+    }
+    let none = [0usize; 2];
+    none
+}
