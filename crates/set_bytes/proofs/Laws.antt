@@ -4,20 +4,20 @@ use mathlib.Core.Path.{_≡_, refl, sym, _∙_, ap}
 use mathlib.Core.Bool.{Bool, true, false, cond, _&&_}
 use mathlib.Core.List.{List, [], _∷_, _++_, append-assoc, append-nil, map}
 use lib.Dec.{eqb}
-use lib.ListN.{length, take, drop, getD, length-append, length-drop}
+use lib.ListN.{length, take, drop, getD, replicate, length-append}
 use lib.Seq.{take-add, drop-cons, drop-drop}
 use native.Mathlib.Omega.{arith}
 use native.Mathlib.Numerals.{add-one}
 use borrow.Author.Tests.{eqb-false, eq-eqb, ne-eqb}
 use Rattle.linkstate.specs.Lists.{all, each, empty, put}
 use Rattle.linkstate.specs.Bytes.{two, bytesAt, bytesOfWords}
-use Rattle.linkstate.specs.Kinds.{codes, linkCodes, isLinkCode}
+use Rattle.linkstate.specs.Kinds.{codes, linkCodes, applicationCodes, isLinkCode}
 use Rattle.linkstate.specs.Export.{Tlv, tlv, bytesOf, present}
 use Rattle.kinds.specs.Rules.{gridCodes, rowIn}
 use Rattle.kinds.proofs.Computing.{computing}
 use Rattle.octets.proofs.Laws.{length-bytesAt, put-nil, put-then}
 use Rattle.srlg.proofs.Laws.{length-bytesOfWords}
-use Rattle.set_bytes.specs.Sets.{front, rowValue, setOf, bandwidthOf, topOf, RowFits, Fits, rowRead, rowFor, codesFrom}
+use Rattle.set_bytes.specs.Sets.{inTlvs, front, rowValue, setOf, bandwidthOf, topOf, lowCodes, highCodes, RowFits, Fits, Short, rowRead, rowFor, codesFrom}
 use Rattle.set_bytes.proofs.Codes.{other-code, code-srlg}
 use Rattle.set_bytes.specs.declared.Row.{Row}
 use Rattle.set_bytes.specs.declared.Row.the-variants.{Present, Absent}
@@ -29,30 +29,26 @@ unfolding bytesOf two
 length-tlv t v = omega arith
 
 module _ (f : ℕ → List ℕ) where
-  -- The bytes of the TLVs of some kinds.
-  abbrev pub inTlvs : List ℕ → List ℕ
-  inTlvs ks = each bytesOf (present ks f)
-
-  pub tlvs-none : inTlvs [] ≡ []
+  pub tlvs-none : inTlvs f [] ≡ []
   unfolding each present
   tlvs-none = refl
 
-  pub tlvs-append : (ks js : List ℕ) → inTlvs (ks ++ js) ≡ inTlvs ks ++ inTlvs js
+  pub tlvs-append : (ks js : List ℕ) → inTlvs f (ks ++ js) ≡ inTlvs f ks ++ inTlvs f js
   unfolding each present
   tlvs-append [] js = refl
   tlvs-append (k ∷ ks) js = go (empty (f k)) (tlvs-append ks js)
     where
-      go : (b : Bool) → inTlvs (ks ++ js) ≡ inTlvs ks ++ inTlvs js
-          → each bytesOf (cond b (present (ks ++ js) f) (tlv k (f k) ∷ present (ks ++ js) f)) ≡ each bytesOf (cond b (present ks f) (tlv k (f k) ∷ present ks f)) ++ inTlvs js
+      go : (b : Bool) → inTlvs f (ks ++ js) ≡ inTlvs f ks ++ inTlvs f js
+          → each bytesOf (cond b (present (ks ++ js) f) (tlv k (f k) ∷ present (ks ++ js) f)) ≡ each bytesOf (cond b (present ks f) (tlv k (f k) ∷ present ks f)) ++ inTlvs f js
       go true e = e
-      go false e = ap (λ (l : List ℕ). bytesOf (tlv k (f k)) ++ l) e ∙ sym (append-assoc (bytesOf (tlv k (f k))) (inTlvs ks) (inTlvs js))
+      go false e = ap (λ (l : List ℕ). bytesOf (tlv k (f k)) ++ l) e ∙ sym (append-assoc (bytesOf (tlv k (f k))) (inTlvs f ks) (inTlvs f js))
 
   -- One kind that has no value, and one that has.
-  pub tlv-absent : (k : ℕ) → f k ≡ [] → inTlvs (k ∷ []) ≡ []
+  pub tlv-absent : (k : ℕ) → f k ≡ [] → inTlvs f (k ∷ []) ≡ []
   unfolding each present empty
   tlv-absent k e = rw e
 
-  pub tlv-present : (k : ℕ) (v : List ℕ) → f k ≡ v → 0 < length v → inTlvs (k ∷ []) ≡ bytesOf (tlv k v)
+  pub tlv-present : (k : ℕ) (v : List ℕ) → f k ≡ v → 0 < length v → inTlvs f (k ∷ []) ≡ bytesOf (tlv k v)
   unfolding each present empty
   tlv-present k [] e h = absurd (omega arith)
   tlv-present k (b ∷ v) e h = rw e (append-nil (bytesOf (tlv k (b ∷ v))))
@@ -285,3 +281,64 @@ pub put-row : (d e f o a : List ℕ) (at t n k p m : ℕ)
 put-row d e f o a at t n k p m x y z r s w h le =
     let l = length-value a t p m w in
     put-tlv d e o at t n (front t ++ bytesAt a p m) x (put-then e f o (at + 4) (front t) k (bytesAt a p m) y z s (omega (arith, length-bytesAt a p m w))) (r ∙ sym l) (omega arith)
+
+-- ---- sets
+
+-- The rows of no link.
+abbrev pub noRows : List (List ℕ)
+noRows = replicate 3 (0 ∷ 0 ∷ [])
+
+pub none-short : Short noRows
+none-short zero = omega arith
+none-short (suc zero) = omega arith
+none-short (suc (suc zero)) = omega arith
+none-short (suc (suc (suc k))) = omega arith
+
+pub none-fit : (a : List ℕ) → Fits a noRows
+none-fit a zero = record { within = omega arith; short = omega arith; some = λ z. absurd (z refl) }
+none-fit a (suc zero) = record { within = omega arith; short = omega arith; some = λ z. absurd (z refl) }
+none-fit a (suc (suc zero)) = record { within = omega arith; short = omega arith; some = λ z. absurd (z refl) }
+none-fit a (suc (suc (suc k))) = record { within = omega arith; short = omega arith; some = λ z. absurd (z refl) }
+
+-- An application's set is what stands at the top of a run with no bandwidths.
+pub set-is : (a : List ℕ) (g : List (List ℕ)) (ns : List ℕ) → inTlvs (topOf a noRows g ns) (codesFrom 0 14) ≡ inTlvs (setOf a g ns) applicationCodes
+unfolding computing topOf setOf bandwidthOf rowValue codesFrom
+set-is a g ns = refl
+
+low : codesFrom 0 13 ≡ lowCodes
+unfolding computing codesFrom
+low = refl
+
+high : codesFrom 13 14 ≡ highCodes
+unfolding computing codesFrom
+high = refl
+
+module _ (f : ℕ → List ℕ) where
+  pub low-is : inTlvs f (codesFrom 0 13) ≡ inTlvs f lowCodes
+  low-is = ap (inTlvs f) low
+
+  pub high-is : inTlvs f (codesFrom 13 14) ≡ inTlvs f highCodes
+  high-is = ap (inTlvs f) high
+
+  pub both-are : length (inTlvs f (codesFrom 0 14)) ≡ length (inTlvs f lowCodes) + length (inTlvs f highCodes)
+  both-are =
+      let e = ap (inTlvs f) (codes-add 0 13 14 (omega arith) (omega arith)) ∙ tlvs-append f (codesFrom 0 13) (codesFrom 13 14) in
+      omega (arith, ap length e, length-append (inTlvs f (codesFrom 0 13)) (inTlvs f (codesFrom 13 14)), ap length low-is, ap length high-is)
+
+-- The same bytes, told otherwise: what a write of them asks, and what it leaves.
+module _ (vs ws : List ℕ) (e : vs ≡ ws) (d : List ℕ) (at : ℕ) where
+  pub same-room : at + length ws ≤ length d → at + length vs ≤ length d
+  same-room h = omega (arith, ap length e)
+
+  pub same-write : (r : ℕ) (o : List ℕ) → (r ≡ at + length vs) × (o ≡ put d at vs) → (r ≡ at + length ws) × (o ≡ put d at ws)
+  same-write r o w = (omega (arith, ap length e), w .1 ∙ ap (put d at) e)
+
+-- A set is empty where it has no TLV.
+pub empty-is : (f : ℕ → List ℕ) (ks : List ℕ) → eqb (length (inTlvs f ks)) 0 ≡ all empty (map f ks)
+unfolding each present all
+empty-is f [] = refl
+empty-is f (k ∷ ks) = go (empty (f k)) (empty-is f ks)
+  where
+    go : (b : Bool) → eqb (length (inTlvs f ks)) 0 ≡ all empty (map f ks) → eqb (length (each bytesOf (cond b (present ks f) (tlv k (f k) ∷ present ks f)))) 0 ≡ b && all empty (map f ks)
+    go true e = e
+    go false e = ne-eqb (length (bytesOf (tlv k (f k)) ++ inTlvs f ks)) 0 (λ z. omega (arith, length-tlv k (f k), length-append (bytesOf (tlv k (f k))) (inTlvs f ks)))

@@ -3,13 +3,19 @@ use mathlib.Core.Bool.{cond}
 use mathlib.Core.List.{List, [], _∷_, _++_}
 use Prim.Native.Nat.{ℕ, _+_, _-_, _≤_, _<_}
 use mathlib.Core.Path.{_≡_}
-use lib.Dec.{eqb}
+use lib.Dec.{eqb, ltb}
 use lib.ListN.{length, take, drop, getD}
+use Rattle.linkstate.specs.Lists.{keep, each}
 use Rattle.linkstate.specs.Bytes.{bytesAt, bytesOfWords}
 use Rattle.linkstate.specs.Kinds.{codes, linkCodes, isLinkCode}
+use Rattle.linkstate.specs.Export.{bytesOf, present}
 use Rattle.kinds.specs.Rules.{gridCodes, rowIn}
 use Rattle.set_bytes.specs.declared.Row.{Row}
 use Rattle.set_bytes.specs.declared.Row.the-variants.{Present, Absent}
+
+-- The bytes of the TLVs of a set, for some of the kinds.
+abbrev pub inTlvs : (ℕ → List ℕ) → List ℕ → List ℕ
+inTlvs f ks = each bytesOf (present ks f)
 
 -- K1. What BGP-LS has in front of a value of run A: a zero byte before the TE metric, which has three bytes in IS-IS.
 unfoldable pub front : ℕ → List ℕ
@@ -30,6 +36,13 @@ bandwidthOf a l c = rowValue a c (getD l (rowIn linkCodes c) [])
 -- L2. What stands at the top of a run: bandwidths and a set.
 unfoldable pub topOf : List ℕ → List (List ℕ) → List (List ℕ) → List ℕ → ℕ → List ℕ
 topOf a l g ns c = cond (isLinkCode c) (bandwidthOf a l c) (setOf a g ns c)
+
+-- L2. The codes at the top of a run that come before the ASLA TLVs and after them.
+abbrev pub lowCodes : List ℕ
+lowCodes = keep (λ k. ltb k 1122) codes
+
+abbrev pub highCodes : List ℕ
+highCodes = keep (λ k. ltb 1122 k) codes
 
 -- A row that fits: its value lies within run A and is one of an accepted link.
 pub record RowFits (a r : List ℕ) : Type 0 where

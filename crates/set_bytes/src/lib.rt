@@ -3,11 +3,12 @@ ghost use mathlib.Core.Path.{_≡_};
 ghost use mathlib.Core.List.{List, [], _∷_, _++_};
 ghost use Prim.Native.Nat.{ℕ, _+_, _≤_, _<_};
 ghost use lib.ListN.{length, getD};
-ghost use Rattle.linkstate.specs.Lists.{each, put};
+ghost use Rattle.linkstate.specs.Lists.{put, all, empty};
 ghost use Rattle.linkstate.specs.Bytes.{two, bytesAt, bytesOfWords};
-ghost use Rattle.linkstate.specs.Kinds.{codes};
-ghost use Rattle.linkstate.specs.Export.{Tlv, tlv, bytesOf, present};
-ghost use Rattle.set_bytes.specs.Sets.{front, topOf, Fits, Short, rowRead, rowFor, codesFrom};
+ghost use Rattle.linkstate.specs.Kinds.{codes, applicationCodes};
+ghost use Rattle.linkstate.specs.Meaning.{row};
+ghost use Rattle.linkstate.specs.Export.{tlv, bytesOf};
+ghost use Rattle.set_bytes.specs.Sets.{inTlvs, front, setOf, topOf, lowCodes, highCodes, Fits, Short, rowRead, rowFor, codesFrom};
 
 // The value of a kind in run A, by its row of a grid.
 pub enum Row {
@@ -73,7 +74,7 @@ fn front_len(code: u16) -> usize
 // How many bytes the TLV of n SRLGs has: none where there are none.
 fn srlgs_size(n: usize) -> usize
     requires { ⌜ n ≤ 512 ⌝ }
-    ensures { λ r. ⌜ (r ≤ 2052) × ((ns : List ℕ) → length ns ≡ n → r ≡ length (each bytesOf (present (1096 ∷ []) (λ _. bytesOfWords ns)))) ⌝ }
+    ensures { λ r. ⌜ (r ≤ 2052) × ((ns : List ℕ) → length ns ≡ n → r ≡ length (inTlvs (λ _. bytesOfWords ns) (1096 ∷ []))) ⌝ }
 {
     if n == 0 {
         return 0;
@@ -84,7 +85,7 @@ fn srlgs_size(n: usize) -> usize
 // How many bytes the TLVs of the kinds from one place to another have.
 fn kinds_size(l: [[usize; 2]; 3], g: [[usize; 2]; 10], n: usize, from: usize, to: usize) -> usize
     requires { ⌜ (from ≤ to) × (to ≤ 14) × (n ≤ 512) × Short l × Short g ⌝ }
-    ensures { λ r. ⌜ (r ≤ 28728) × ((a ns : List ℕ) → Fits a l → Fits a g → length ns ≡ n → r ≡ length (each bytesOf (present (codesFrom from to) (topOf a l g ns)))) ⌝ }
+    ensures { λ r. ⌜ (r ≤ 28728) × ((a ns : List ℕ) → Fits a l → Fits a g → length ns ≡ n → r ≡ length (inTlvs (topOf a l g ns) (codesFrom from to))) ⌝ }
 {
     let mut total: usize = 0;
     for i in from..to {
@@ -135,8 +136,8 @@ fn write_row(a: &[u8], place: usize, len: usize, code: u16, out: &mut [u8], at: 
 
 // The TLV of SRLGs, if there are any; the place after it.
 fn write_srlgs(srlgs: &[u32], out: &mut [u8], at: usize) -> usize
-    requires { ⌜ (length (now srlgs) ≤ 512) × (at + length (each bytesOf (present (1096 ∷ []) (λ _. bytesOfWords (now srlgs)))) ≤ length (now out)) ⌝ }
-    ensures { λ r. ⌜ (r ≡ at + length (each bytesOf (present (1096 ∷ []) (λ _. bytesOfWords (now (srlgs .entry)))))) × (now (out .exit) ≡ put (now (out .entry)) at (each bytesOf (present (1096 ∷ []) (λ _. bytesOfWords (now (srlgs .entry)))))) ⌝ }
+    requires { ⌜ (length (now srlgs) ≤ 512) × (at + length (inTlvs (λ _. bytesOfWords (now srlgs)) (1096 ∷ [])) ≤ length (now out)) ⌝ }
+    ensures { λ r. ⌜ (r ≡ at + length (inTlvs (λ _. bytesOfWords (now (srlgs .entry))) (1096 ∷ []))) × (now (out .exit) ≡ put (now (out .entry)) at (inTlvs (λ _. bytesOfWords (now (srlgs .entry))) (1096 ∷ []))) ⌝ }
 {
     let n = srlgs.len();
     if n == 0 {
@@ -159,8 +160,8 @@ fn write_kinds(
     out: &mut [u8],
     at: usize,
 ) -> usize
-    requires { ⌜ (from ≤ to) × (to ≤ 14) × Fits (now a) l × Fits (now a) g × (length (now srlgs) ≤ 512) × (at + length (each bytesOf (present (codesFrom from to) (topOf (now a) l g (now srlgs)))) ≤ length (now out)) ⌝ }
-    ensures { λ r. ⌜ (r ≡ at + length (each bytesOf (present (codesFrom from to) (topOf (now (a .entry)) l g (now (srlgs .entry)))))) × (now (out .exit) ≡ put (now (out .entry)) at (each bytesOf (present (codesFrom from to) (topOf (now (a .entry)) l g (now (srlgs .entry)))))) ⌝ }
+    requires { ⌜ (from ≤ to) × (to ≤ 14) × Fits (now a) l × Fits (now a) g × (length (now srlgs) ≤ 512) × (at + length (inTlvs (topOf (now a) l g (now srlgs)) (codesFrom from to)) ≤ length (now out)) ⌝ }
+    ensures { λ r. ⌜ (r ≡ at + length (inTlvs (topOf (now (a .entry)) l g (now (srlgs .entry))) (codesFrom from to))) × (now (out .exit) ≡ put (now (out .entry)) at (inTlvs (topOf (now (a .entry)) l g (now (srlgs .entry))) (codesFrom from to))) ⌝ }
 {
     let mut next = at;
     for i in from..to {
@@ -174,4 +175,68 @@ fn write_kinds(
         next = write_row(a, place, len, code_at(i), out, next);
     }
     next
+}
+
+// How many bytes the TLVs of an application's set have.
+pub fn set_size(g: [[usize; 2]; 10], srlgs: usize) -> usize
+    requires { ⌜ (srlgs ≤ 512) × Short g ⌝ }
+    ensures { λ r. ⌜ (r ≤ 28728) × ((a ns : List ℕ) → Fits a g → length ns ≡ srlgs → r ≡ length (inTlvs (setOf a g ns) applicationCodes)) ⌝ }
+{
+    let l = [[0usize; 2]; 3];
+    kinds_size(l, g, srlgs, 0, 14)
+}
+
+// Whether an application's set is empty.
+pub fn set_empty(g: [[usize; 2]; 10], srlgs: usize) -> bool
+    requires { ⌜ (srlgs ≤ 512) × Short g ⌝ }
+    ensures { λ r. ⌜ ((a ns : List ℕ) → Fits a g → length ns ≡ srlgs → r ≡ all empty (row (setOf a g ns))) ⌝ }
+{
+    set_size(g, srlgs) == 0
+}
+
+// The TLVs of an application's set, ascending; the place after them.
+pub fn write_set(a: &[u8], g: [[usize; 2]; 10], srlgs: &[u32], out: &mut [u8], at: usize) -> usize
+    requires { ⌜ Fits (now a) g × (length (now srlgs) ≤ 512) × (at + length (inTlvs (setOf (now a) g (now srlgs)) applicationCodes) ≤ length (now out)) ⌝ }
+    ensures { λ r. ⌜ (r ≡ at + length (inTlvs (setOf (now (a .entry)) g (now (srlgs .entry))) applicationCodes)) × (now (out .exit) ≡ put (now (out .entry)) at (inTlvs (setOf (now (a .entry)) g (now (srlgs .entry))) applicationCodes)) ⌝ }
+{
+    let l = [[0usize; 2]; 3];
+    write_kinds(a, l, g, srlgs, 0, 14, out, at)
+}
+
+// How many bytes the TLVs at the top of a run have, those before the ASLA TLVs and those after them.
+pub fn top_size(l: [[usize; 2]; 3], g: [[usize; 2]; 10], srlgs: usize) -> usize
+    requires { ⌜ (srlgs ≤ 512) × Short l × Short g ⌝ }
+    ensures { λ r. ⌜ (r ≤ 28728) × ((a ns : List ℕ) → Fits a l → Fits a g → length ns ≡ srlgs → r ≡ length (inTlvs (topOf a l g ns) lowCodes) + length (inTlvs (topOf a l g ns) highCodes)) ⌝ }
+{
+    kinds_size(l, g, srlgs, 0, 14)
+}
+
+// The TLVs at the top of a run that come before the ASLA TLVs, ascending; the place after them.
+pub fn write_top_low(
+    a: &[u8],
+    l: [[usize; 2]; 3],
+    g: [[usize; 2]; 10],
+    srlgs: &[u32],
+    out: &mut [u8],
+    at: usize,
+) -> usize
+    requires { ⌜ Fits (now a) l × Fits (now a) g × (length (now srlgs) ≤ 512) × (at + length (inTlvs (topOf (now a) l g (now srlgs)) lowCodes) ≤ length (now out)) ⌝ }
+    ensures { λ r. ⌜ (r ≡ at + length (inTlvs (topOf (now (a .entry)) l g (now (srlgs .entry))) lowCodes)) × (now (out .exit) ≡ put (now (out .entry)) at (inTlvs (topOf (now (a .entry)) l g (now (srlgs .entry))) lowCodes)) ⌝ }
+{
+    write_kinds(a, l, g, srlgs, 0, 13, out, at)
+}
+
+// Those that come after the ASLA TLVs.
+pub fn write_top_high(
+    a: &[u8],
+    l: [[usize; 2]; 3],
+    g: [[usize; 2]; 10],
+    srlgs: &[u32],
+    out: &mut [u8],
+    at: usize,
+) -> usize
+    requires { ⌜ Fits (now a) l × Fits (now a) g × (length (now srlgs) ≤ 512) × (at + length (inTlvs (topOf (now a) l g (now srlgs)) highCodes) ≤ length (now out)) ⌝ }
+    ensures { λ r. ⌜ (r ≡ at + length (inTlvs (topOf (now (a .entry)) l g (now (srlgs .entry))) highCodes)) × (now (out .exit) ≡ put (now (out .entry)) at (inTlvs (topOf (now (a .entry)) l g (now (srlgs .entry))) highCodes)) ⌝ }
+{
+    write_kinds(a, l, g, srlgs, 13, 14, out, at)
 }
