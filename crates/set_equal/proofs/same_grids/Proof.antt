@@ -1,0 +1,77 @@
+-- `set_equal::same_grids` meets its contract: the rows passed are the same, and those left decide. Assumes nothing.
+use Rattle.set_equal.proofs.Laws.{From, grids-end, grids-next, grids-differ}
+use Rattle.set_equal.specs.Grids.{gridOf}
+use Rattle.kinds.specs.Rules.{gridCodes}
+use Rattle.linkstate.specs.Lists.{sameRows}
+use borrow.Author.Tests.{not-true, not-false}
+use borrow.Author.Needs.{needs}
+use denote.Ref.{now}
+use native.Mathlib.Omega.{arith}
+use mathlib.Core.List.{map}
+use mathlib.Core.Path.{_≡_, refl, sym, _∙_}
+use Prim.Native.Nat.{_≤_, _-_}
+use Rattle.set_equal.proofs.same_grids.Statement.{statement}
+use Rattle.set_equal.proofs.same_grids.Tie as tie
+
+abbrev Inv-loop : tie.InvT-loop
+Inv-loop a g h k₀ k = (k ≤ 10) × (From a g h k ≡ sameRows (map (gridOf a g) gridCodes) (map (gridOf a h) gridCodes))
+
+abbrev μ-loop : tie.MeasureT-loop
+μ-loop a g h k₀ k = 10 - k
+
+loop-holds : tie.Need-loop-holds Inv-loop μ-loop
+loop-holds c = (omega arith, refl)
+
+mul-same-row : tie.Need-mul-same-row Inv-loop μ-loop
+mul-same-row c = search needs
+
+array-copy-out-same-row : tie.Need-array-copy-out-same-row Inv-loop μ-loop
+array-copy-out-same-row c = search needs
+
+mul-same-row-2 : tie.Need-mul-same-row-2 Inv-loop μ-loop
+mul-same-row-2 c = search needs
+
+array-copy-out-same-row-2 : tie.Need-array-copy-out-same-row-2 Inv-loop μ-loop
+array-copy-out-same-row-2 c = search needs
+
+same-row-requires : tie.Need-same-row-requires Inv-loop μ-loop
+same-row-requires c κs = let l = c .before .before .before in let s = l .before .before in (s .pre .0 (l .loop .k), s .pre .1 (l .loop .k))
+
+returns : tie.Need-returns Inv-loop μ-loop
+returns c = let l = c .before .before .before .before .before in
+    let a = l .before .before .args in
+    sym (grids-differ (now (a .a)) (a .t2) (a .t3) (l .loop .k) (omega arith) _ (c .before .same-row .ensures) (not-true _ (c .if1 .taken))) ∙ l .loop .inv .1
+
+add-k : tie.Need-add-k Inv-loop μ-loop
+add-k c = search needs
+
+loop-less : tie.Need-loop-less Inv-loop μ-loop
+loop-less c = search needs
+
+loop-again : tie.Need-loop-again Inv-loop μ-loop
+loop-again c = let l = c .before .before .before .before .before in
+    let a = l .before .before .args in
+    (omega arith, sym (grids-next (now (a .a)) (a .t2) (a .t3) (l .loop .k) (omega arith) _ (c .before .same-row .ensures) (not-false _ (c .if1 .left))) ∙ l .loop .inv .1)
+
+returns-2 : tie.Need-returns-2 Inv-loop μ-loop
+returns-2 c = let l = c .before in
+    let a = l .before .before .args in
+    grids-end (now (a .a)) (a .t2) (a .t3) (l .loop .k) (omega arith) ∙ l .loop .inv .1
+
+pub same-grids-spec : {M : Type 1} → statement M
+same-grids-spec =
+    tie.close
+    (tie.spec
+    Inv-loop
+    μ-loop
+    loop-holds
+    mul-same-row
+    array-copy-out-same-row
+    mul-same-row-2
+    array-copy-out-same-row-2
+    same-row-requires
+    returns
+    add-k
+    loop-less
+    loop-again
+    returns-2)
