@@ -13,9 +13,10 @@ use lib.ListN.{length, getD, set}
 use lib.Seq.{getD-set-same, getD-set-other}
 use Rattle.linkstate.specs.Lists.{numbers, lookup, sameRows}
 use Rattle.linkstate.specs.Meaning.{Meaning, row}
-use Rattle.set_groups.specs.Table.{inSets, tableSet, tableMeaning, leadOf}
+use Rattle.set_groups.specs.Table.{tableSet, tableMeaning, leadOf}
 use Rattle.linkstate.specs.Masks.{one, powersBelow}
 use Rattle.linkstate.specs.Export.{leader}
+use Rattle.asla_bytes.specs.Applications.{inNumbers}
 use Rattle.masks.proofs.Laws.{powers-lt}
 
 -- ---- the members of a group
@@ -63,25 +64,25 @@ module _ (a : List ℕ) (standard user : ℕ) (grids : List (List (List ℕ))) (
   abbrev equal : Bool
   equal = sameRows (row (tableSet a grids spans list k)) (row (tableSet a grids spans list n))
 
-  pub leads-yes : inSets standard user k ≡ true → equal ≡ true → leads table n k ≡ true
+  pub leads-yes : inNumbers standard user k ≡ true → equal ≡ true → leads table n k ≡ true
   unfolding tableMeaning
   leads-yes e f = rw (e, f)
 
-  pub leads-unnamed : inSets standard user k ≡ false → leads table n k ≡ false
+  pub leads-unnamed : inNumbers standard user k ≡ false → leads table n k ≡ false
   unfolding tableMeaning
   leads-unnamed e = rw e
 
   pub leads-differ : equal ≡ false → leads table n k ≡ false
   unfolding tableMeaning
-  leads-differ e = rw e (and-false (inSets standard user k))
+  leads-differ e = rw e (and-false (inNumbers standard user k))
 
 module _ (a : List ℕ) (standard user : ℕ) (grids : List (List (List ℕ))) (spans : List (List ℕ)) (list : List ℕ) (n : ℕ) where
   -- The leader of one that is not named, and of one that is.
-  pub no-lead : inSets standard user n ≡ false → 0 ≡ leadOf (tableMeaning a standard user grids spans list) n
+  pub no-lead : inNumbers standard user n ≡ false → 0 ≡ leadOf (tableMeaning a standard user grids spans list) n
   unfolding leadOf tableMeaning
   no-lead e = rw e
 
-  pub some-lead : inSets standard user n ≡ true → leader (tableMeaning a standard user grids spans list) n ≡ leadOf (tableMeaning a standard user grids spans list) n
+  pub some-lead : inNumbers standard user n ≡ true → leader (tableMeaning a standard user grids spans list) n ≡ leadOf (tableMeaning a standard user grids spans list) n
   unfolding leadOf tableMeaning
   some-lead e = rw e
 

@@ -2,18 +2,13 @@
 use mathlib.Core.Path.{_≡_}
 use mathlib.Core.Bool.{Bool, cond}
 use mathlib.Core.List.{List, []}
-use Prim.Native.Nat.{ℕ, _+_, _-_, _≤_, _<_}
-use lib.Dec.{ltb, eqb}
+use Prim.Native.Nat.{ℕ, _+_, _≤_, _<_}
 use lib.ListN.{length, getD}
 use Rattle.linkstate.specs.Bytes.{bytesAt}
-use Rattle.linkstate.specs.Masks.{inNumber}
 use Rattle.linkstate.specs.Meaning.{Meaning}
 use Rattle.linkstate.specs.Export.{leader}
 use Rattle.set_bytes.specs.Sets.{setOf, Fits}
-
--- Whether an application is in two sets that are kept as numbers, of standard and of user applications.
-unfoldable pub inSets : ℕ → ℕ → ℕ → Bool
-inSets standard user n = cond (ltb n 64) (inNumber standard n) (inNumber user (n - 64))
+use Rattle.asla_bytes.specs.Applications.{inNumbers}
 
 -- The numbers of a span of a list.
 unfoldable pub inSpan : List ℕ → List ℕ → List ℕ
@@ -29,7 +24,7 @@ tableMeaning a standard user grids spans list =
       bandwidth = λ k. [];
       rsvpTe = λ k. [];
       general = λ k. [];
-      named = inSets standard user;
+      named = inNumbers standard user;
       set = tableSet a grids spans list;
     }
 

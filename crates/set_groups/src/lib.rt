@@ -8,12 +8,13 @@ ghost use Rattle.linkstate.specs.Lists.{sameRows};
 ghost use Rattle.linkstate.specs.Masks.{asNumber};
 ghost use Rattle.linkstate.specs.Meaning.{row};
 ghost use Rattle.linkstate.specs.Export.{leader};
-ghost use Rattle.set_groups.specs.Table.{inSets, inSpan, tableSet, tableMeaning, Sound, leadOf, Leads};
+ghost use Rattle.asla_bytes.specs.Applications.{inNumbers};
+ghost use Rattle.set_groups.specs.Table.{inSpan, tableSet, tableMeaning, Sound, leadOf, Leads};
 
 // Whether an application is in two sets, of standard and of user applications.
 pub fn is_named(standard: u64, user: u64, n: usize) -> bool
     requires { ⌜ n < 128 ⌝ }
-    ensures { λ r. ⌜ r ≡ inSets standard user n ⌝ }
+    ensures { λ r. ⌜ r ≡ inNumbers standard user n ⌝ }
 {
     if n < 64 {
         return masks::has(standard, n as u32);

@@ -1,5 +1,5 @@
 -- `set_groups::is_named` meets its contract.
-use Rattle.set_groups.specs.Table.{inSets}
+use Rattle.asla_bytes.specs.Applications.{inNumbers}
 use native.Mathlib.Omega.{arith}
 use Prim.Native.Nat.{ℕ, _-_}
 use mathlib.Core.Path.{_∙_, sym}
@@ -15,7 +15,7 @@ has-requires : tie.Need-has-requires
 has-requires c κs = search needs
 
 returns : tie.Need-returns
-unfolding inSets
+unfolding inNumbers
 returns c = rw (lt-ltb (c .before .before .args .n) 64 (omega arith)) (c .has .ensures)
 
 cast-has-2 : tie.Need-cast-has-2
@@ -25,7 +25,7 @@ has-requires-2 : tie.Need-has-requires-2
 has-requires-2 c κs = search needs
 
 returns-2 : tie.Need-returns-2
-unfolding inSets
+unfolding inNumbers
 returns-2 c = rw (le-ltb (c .before .before .args .n) 64 (omega arith)) (c .has2 .ensures)
 
 pub is-named-spec : {M : Type 1} → statement M

@@ -48,7 +48,7 @@ loop-again c = (
     omega arith,
     (let l = c .before .before .before .loop in
     first-later _ (l .k) (omega arith)
-    (⊎-elim (λ w. leads-differ _ _ _ _ _ _ _ (l .k) (sym (w .1 .0 .same-entries .ensures) ∙ w .1 .1 .if2 .left)) (λ w. leads-unnamed _ _ _ _ _ _ _ (l .k) (sym (c .before .is-named .ensures) ∙ w .left)) (c .if1 .came))
+    (⊎-elim (λ w. leads-differ _ _ _ _ _ _ _ (l .k) (sym (w .1 .ensures) ∙ w .2 .left)) (λ w. leads-unnamed _ _ _ _ _ _ _ (l .k) (sym (c .before .is-named .ensures) ∙ w .left)) (c .if1 .came))
     ∙ l .inv .2),
   )
 
