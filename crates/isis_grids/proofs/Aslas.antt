@@ -1,27 +1,24 @@
 -- ASLA sub-TLVs that passed their checks: what their headers promise, where their lists begin, and the turns of a loop that reads the selected lists.
-use mathlib.Core.Path.{_≡_, refl, sym, ap, ap₂, _∙_, subst}
+use mathlib.Core.Path.{_≡_, refl, sym, ap, _∙_, subst}
 use mathlib.Core.Logic.{_⊎_, inl, inr, ⊎-elim}
-use mathlib.Core.Bool.{Bool, true, false, cond, _&&_, _||_, not, false≢true}
+use mathlib.Core.Bool.{Bool, true, false, cond, _&&_, _||_, not}
 use mathlib.Core.List.{List, [], _∷_, _++_, append-assoc}
-use Prim.Native.Nat.{ℕ, zero, suc, _+_, _-_, _≤_, _<_}
+use Prim.Native.Nat.{ℕ, _+_, _-_, _≤_, _<_}
 use native.Mathlib.Omega.{arith}
 use native.Mathlib.Nat.{zero-add}
 use borrow.Author.Tests.{eqb-true, eqb-false, eq-eqb, ne-eqb, ltb-false}
 use lib.Dec.{eqb, ltb}
 use lib.ListN.{length, take, drop, getD, replicate, length-take}
 use lib.Seq.{drop-length, drop-at}
-use Rattle.linkstate.specs.Lists.{each, keep, any, numbers}
+use Rattle.linkstate.specs.Lists.{each, keep}
 use Rattle.linkstate.specs.Bytes.{bytesAt}
 use Rattle.linkstate.specs.Replies.{Verdict, accepted, runA, fault}
 use Rattle.linkstate.specs.Elements.{Element, element, cut, elements, faults}
-use Rattle.linkstate.specs.Masks.{bit, inMasks, others, asNumber, inNumber}
 use Rattle.linkstate.specs.Attributes.{Attribute}
-use Rattle.linkstate.specs.Sides.{Advertisement, Side, names, general, rsvpTeAlone, ofLive}
+use Rattle.linkstate.specs.Sides.{Advertisement, names, general, rsvpTeAlone, ofLive}
 use Rattle.linkstate.proofs.ElementLaws.{none-left}
 use Rattle.linkstate.proofs.WalkLaws.{left, not-accepted, each-end}
-use Rattle.linkstate.proofs.Computing.{computing}
 use Rattle.octets.proofs.Laws.{part-is, length-bytesAt, bytesAt-add}
-use Rattle.masks.proofs.Laws.{in-number, number-same}
 use Rattle.isis.specs.MaskHeader.{lFlag, maskTooLong, lForNobody, headerLength, advertisement}
 use Rattle.isis.specs.RunA.{listElements, checkAttribute, checkAsla, checkA, attributesOf, liveAsla, aslaAdvertisements, sideA}
 use Rattle.isis_grids.specs.declared.Which.{Which}
@@ -157,8 +154,8 @@ module _ (w : Which) (a : List ℕ) (at : ℕ) where
   list-other n = rw (ne-eqb (getD a at 0) 16 n)
 
   module _ (asla : getD a at 0 ≡ 16) where
-    pub part-headed : (getD a at 0 ≡ 16 → Headed (bytesAt a (at + 2) (getD a (at + 1) 0))) → Headed part
-    part-headed h = subst Headed (sym (part-is a (at + 2) (getD a (at + 1) 0))) (h asla)
+    pub value-headed : (getD a at 0 ≡ 16 → Headed (bytesAt a (at + 2) (getD a (at + 1) 0))) → Headed part
+    value-headed h = subst Headed (sym (part-is a (at + 2) (getD a (at + 1) 0))) (h asla)
 
     pub list-asla : (k : ℕ) → k ≡ listFrom w part → at + 2 + k ≡ listAt w a at
     unfolding listAt
@@ -166,7 +163,7 @@ module _ (w : Which) (a : List ℕ) (at : ℕ) where
 
     pub list-ends : at + 2 + getD a (at + 1) 0 ≤ length a → (getD a at 0 ≡ 16 → Headed (bytesAt a (at + 2) (getD a (at + 1) 0))) → (k : ℕ) → k ≡ listFrom w part → at + 2 + k ≤ length a
     list-ends l h k e =
-        omega (arith, e, list-within w part (part-headed h), ap length (part-is a (at + 2) (getD a (at + 1) 0)), length-bytesAt a (at + 2) (getD a (at + 1) 0) l)
+        omega (arith, e, list-within w part (value-headed h), ap length (part-is a (at + 2) (getD a (at + 1) 0)), length-bytesAt a (at + 2) (getD a (at + 1) 0) l)
 
 -- What holds of the attributes of every list that is read holds of those that are selected.
 pub all-selected : (P : Attribute → Type 0) (w : Which) (at t : ℕ) (v : List ℕ) → (t ≡ 16 → lFlag v ≡ false → maskTooLong v ≡ false → All P (each attributesOf (listElements at v))) → All P (selected w (element at t v))
@@ -241,16 +238,22 @@ valueAt a at = bytesAt a (at + 2) (getD a (at + 1) 0)
 abbrev pub listPart : List ℕ → ℕ → ℕ → List ℕ
 listPart a at from = take (at + 2 + getD a (at + 1) 0 - from) (drop from a)
 
-module _ (w : Which) (a : List ℕ) (at : ℕ) (here : at < length a) (ok : faults runA checkA (left 1 0 a at) ≡ accepted) where
-  asla-ok : getD a at 0 ≡ 16 → checkAsla at (valueAt a at) ≡ accepted
+-- An ASLA at a position has passed its checks.
+module _ (a : List ℕ) (at : ℕ) (here : at < length a) (ok : faults runA checkA (left 1 0 a at) ≡ accepted) (asla : getD a at 0 ≡ 16) where
+  asla-ok : checkAsla at (valueAt a at) ≡ accepted
   unfolding checkA
-  asla-ok asla =
+  asla-ok =
       let p : checkA (0 + at) (getD a at 0) (valueAt a at) ≡ accepted = passed checkA 0 a at here ok in
       ap (λ (i : ℕ). checkAsla i (valueAt a at)) (sym (zero-add at)) ∙ (rw asla at p)
 
-  pub asla-headed : getD a at 0 ≡ 16 → Headed (valueAt a at)
-  asla-headed asla = headed at (valueAt a at) (asla-ok asla)
+  pub asla-headed : Headed (valueAt a at)
+  asla-headed = headed at (valueAt a at) asla-ok
 
+  -- its value, as a part of the run
+  pub part-headed : Headed (listPart a at (at + 2))
+  part-headed = subst Headed (sym (part-is a (at + 2) (getD a (at + 1) 0))) asla-headed
+
+module _ (w : Which) (a : List ℕ) (at : ℕ) (here : at < length a) (ok : faults runA checkA (left 1 0 a at) ≡ accepted) where
   -- The list at a position: framed, and with the attributes that are selected here.
   abbrev Listed : ℕ → Type 0
   Listed from = (faults runA unchecked (elements 1 from (listPart a at from)) ≡ accepted) × (selected w (elementAt 0 a at) ≡ each attributesOf (elements 1 from (listPart a at from)))
@@ -270,9 +273,9 @@ module _ (w : Which) (a : List ℕ) (at : ℕ) (here : at < length a) (ok : faul
       let n = getD a (at + 1) 0 in
       let k = listFrom w (valueAt a at) in
       let i = inside checkA 0 a at here ok in
-      let h : k ≤ n = omega (arith, list-within w (valueAt a at) (asla-headed asla), length-bytesAt a (at + 2) n i) in
+      let h : k ≤ n = omega (arith, list-within w (valueAt a at) (asla-headed a at here ok asla), length-bytesAt a (at + 2) n i) in
       let e : listPart a at (at + 2 + k) ≡ drop k (valueAt a at) = part-drop a (at + 2) n k h i in (
-        ap (λ (l : List ℕ). faults runA unchecked (elements 1 (at + 2 + k) l)) e ∙ list-framed w (valueAt a at) at (asla-ok asla),
+        ap (λ (l : List ℕ). faults runA unchecked (elements 1 (at + 2 + k) l)) e ∙ list-framed w (valueAt a at) at (asla-ok a at here ok asla),
         ap (λ (o : ℕ). selected w (element o (getD a at 0) (valueAt a at))) (zero-add at)
             ∙ selected-asla w at (getD a at 0) (valueAt a at) asla ∙ ap (λ (l : List ℕ). each attributesOf (elements 1 (at + 2 + k) l)) (sym e),
       )

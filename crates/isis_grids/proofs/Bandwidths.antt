@@ -1,5 +1,5 @@
 -- The row of a bandwidth, found by its type: the turns of the two loops that look for it.
-use mathlib.Core.Path.{_≡_, refl, sym, ap, ap₂, _∙_, subst}
+use mathlib.Core.Path.{_≡_, refl, sym, ap, _∙_}
 use mathlib.Core.Bool.{Bool, true, false, cond}
 use mathlib.Core.List.{List, [], _∷_, _++_, append-assoc}
 use Prim.Native.Nat.{ℕ, _+_, _≤_, _<_}
@@ -9,7 +9,7 @@ use lib.Dec.{eqb}
 use lib.ListN.{length, getD}
 use Rattle.linkstate.specs.Lists.{each, keep}
 use Rattle.linkstate.specs.Replies.{accepted, runA}
-use Rattle.linkstate.specs.Elements.{Element, elements, faults}
+use Rattle.linkstate.specs.Elements.{elements, faults}
 use Rattle.linkstate.specs.Kinds.{codeOfType}
 use Rattle.linkstate.specs.Attributes.{Attribute, attribute, ofKind}
 use Rattle.linkstate.proofs.WalkLaws.{left, each-end}

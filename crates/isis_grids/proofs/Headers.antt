@@ -8,7 +8,6 @@ use native.Mathlib.Nat.{add-sub-cancel-left}
 use borrow.Author.Tests.{ltb-false}
 use lib.Dec.{ltb}
 use lib.ListN.{length, take, drop, length-take}
-use Rattle.linkstate.specs.Sides.{Advertisement}
 use Rattle.isis.specs.MaskHeader.{lFlag, sabmLength, udabmLength, headerLength, maskTooLong, advertisement}
 use Rattle.isis_check_a.specs.declared.Header.{Header}
 use Rattle.isis_check_a.specs.Headers.{headerOf, tooLong}
@@ -37,13 +36,17 @@ module _ (v : List ℕ) (h : Header) (e : h ≡ headerOf v) where
     pub masks-inside : Headed v → 2 + h .standard + h .user ≤ length v
     masks-inside p = subst (λ (n : ℕ). n ≤ length v) (sym (header-bytes h v e)) (p .1 (sym (header-too-long h v e) ∙ short))
 
-  -- the advertisement by its masks, as the code takes them out of the value
-  masks-read : lFlag v ≡ false → unflagged (take (2 + h .standard - 2) (drop 2 v)) (take (2 + h .standard + h .user - (2 + h .standard)) (drop (2 + h .standard) v)) ≡ advertisement v []
+  -- the masks, as the code takes them out of the value
+  pub masks-read : (take (2 + h .standard - 2) (drop 2 v) ≡ (advertisement v []) .standardMask) × (take (2 + h .standard + h .user - (2 + h .standard)) (drop (2 + h .standard) v) ≡ (advertisement v []) .userMask)
   unfolding advertisement
-  masks-read l =
+  masks-read =
       let s : h .standard ≡ sabmLength v = ap (λ (x : Header). x .standard) e in
       let u : h .user ≡ udabmLength v = ap (λ (x : Header). x .user) e in
-      rw (add-sub-cancel-left 2 (h .standard), add-sub-cancel-left (2 + h .standard) (h .user), s, u, l)
+      (rw (add-sub-cancel-left 2 (h .standard), s), rw (add-sub-cancel-left (2 + h .standard) (h .user), s, u))
+
+  unflagged-is : lFlag v ≡ false → unflagged ((advertisement v []) .standardMask) ((advertisement v []) .userMask) ≡ advertisement v []
+  unfolding advertisement
+  unflagged-is l = rw l
 
   module _ (w : Which) where
     pub list-of-l : h .l ≡ true → length v ≡ listFrom w v
@@ -65,7 +68,7 @@ module _ (v : List ℕ) (h : Header) (e : h ≡ headerOf v) where
         by-test =
             let z : lFlag v ≡ false = sym (header-l h v e) ∙ l in
             let y : maskTooLong v ≡ false = sym (header-too-long h v e) ∙ short in
-            rw (z, y) (ap (λ (x : Bool). cond x (headerLength v) (length v)) (told ∙ ap (selects w) (masks-read z)))
+            rw (z, y) (ap (λ (x : Bool). cond x (headerLength v) (length v)) (told ∙ ap₂ (λ (x y : List ℕ). selects w (unflagged x y)) (masks-read .0) (masks-read .1) ∙ ap (selects w) (unflagged-is z)))
 
         pub list-selected : b ≡ true → 2 + h .standard + h .user ≡ listFrom w v
         list-selected t = header-bytes h v e ∙ (rw t at by-test)

@@ -1,13 +1,13 @@
 -- The tests of advertisements, as the code makes them on the two masks of one without L.
-use mathlib.Core.Path.{_≡_, refl, sym, ap, ap₂, _∙_, subst}
-use mathlib.Core.Bool.{Bool, true, false, cond, _&&_, _||_, not, false≢true}
-use mathlib.Core.List.{List, [], _∷_}
+use mathlib.Core.Path.{_≡_, refl, sym, ap, ap₂, _∙_}
+use mathlib.Core.Bool.{Bool, true, false, _&&_, _||_, not, false≢true}
+use mathlib.Core.List.{List}
 use Prim.Native.Nat.{ℕ, zero, suc, _+_, _-_, _≤_, _<_}
 use native.Mathlib.Omega.{arith}
 use borrow.Author.Tests.{eqb-true, eqb-false, eq-eqb, ne-eqb, ltb-true, ltb-false, lt-ltb, le-ltb}
 use lib.Dec.{eqb, ltb}
 use Rattle.linkstate.specs.Lists.{any, numbers}
-use Rattle.linkstate.specs.Masks.{bit, inMasks, others, asNumber, inNumber}
+use Rattle.linkstate.specs.Masks.{bit, user, inMasks, others, asNumber, inNumber}
 use lib.ListN.{length}
 use Rattle.linkstate.specs.Sides.{Advertisement, names, general, rsvpTeAlone}
 use Rattle.linkstate.proofs.Computing.{computing}
@@ -38,17 +38,19 @@ module _ (p : ℕ → Bool) where
           at true i = ap p (eqb-true a from i) ∙ e
           at false i = let ne = eqb-false a from i in f h a (omega arith) (omega arith)
 
+-- An application's bit, in its mask.
+module _ (d : Advertisement) (n : ℕ) (h : n < 64) where
+  pub standard-bit : names n d ≡ bit (d .standardMask) n
+  unfolding names inMasks
+  standard-bit = rw (lt-ltb n 64 h)
+
+  pub user-bit : names (user n) d ≡ bit (d .userMask) n
+  unfolding names inMasks user
+  user-bit = let e : 64 + n - 64 ≡ n = omega arith in rw (le-ltb (64 + n) 64 (omega arith), e)
+
 module _ (s u : List ℕ) where
   abbrev d : Advertisement
   d = unflagged s u
-
-  standard-bit : (n : ℕ) → n < 64 → names n d ≡ bit s n
-  unfolding names inMasks
-  standard-bit n h = rw (lt-ltb n 64 h)
-
-  user-bit : (n : ℕ) → n < 64 → names (64 + n) d ≡ bit u n
-  unfolding names inMasks
-  user-bit n h = let e : 64 + n - 64 ≡ n = omega arith in rw (le-ltb (64 + n) 64 (omega arith), e)
 
   -- the sets of 0 alone, and of none
   first : asNumber (λ n. eqb n 0) ≡ 1
@@ -60,11 +62,11 @@ module _ (s u : List ℕ) where
   nobody = refl
 
   alone-numbers : names 0 d ≡ true → any (λ a. names a d) others ≡ false → (asNumber (bit s) ≡ 1) × (asNumber (bit u) ≡ 0)
-  unfolding others
+  unfolding others user
   alone-numbers h g =
       let away = each-fails (λ a. names a d) 1 127 g in (
-        number-same (bit s) (λ n. eqb n 0) (λ n l. sym (standard-bit n l) ∙ zero-or n l (eqb n 0) refl) ∙ first,
-        number-same (bit u) (λ n. false) (λ n l. sym (user-bit n l) ∙ each-fails (λ a. names a d) 1 127 g (64 + n) (omega arith) (omega arith)) ∙ nobody,
+        number-same (bit s) (λ n. eqb n 0) (λ n l. sym (standard-bit d n l) ∙ zero-or n l (eqb n 0) refl) ∙ first,
+        number-same (bit u) (λ n. false) (λ n l. sym (user-bit d n l) ∙ each-fails (λ a. names a d) 1 127 g (64 + n) (omega arith) (omega arith)) ∙ nobody,
       )
     where
       zero-or : (n : ℕ) → n < 64 → (b : Bool) → eqb n 0 ≡ b → names n d ≡ b
@@ -72,9 +74,9 @@ module _ (s u : List ℕ) where
       zero-or n l false e = let ne = eqb-false n 0 e in each-fails (λ a. names a d) 1 127 g n (omega arith) (omega arith)
 
   numbers-alone : asNumber (bit s) ≡ 1 → asNumber (bit u) ≡ 0 → (names 0 d ≡ true) × (any (λ a. names a d) others ≡ false)
-  unfolding others
+  unfolding others user
   numbers-alone h g = (
-    standard-bit 0 (omega arith) ∙ of-standard 0 (omega arith),
+    standard-bit d 0 (omega arith) ∙ of-standard 0 (omega arith),
     none-passes (λ a. names a d) 1 127 (λ a l k. at a l k (ltb a 64) refl),
   )
     where
@@ -85,11 +87,11 @@ module _ (s u : List ℕ) where
       of-user n l = sym (in-number (bit u) n l) ∙ ap (λ (m : ℕ). inNumber m n) (g ∙ sym nobody) ∙ in-number (λ i. false) n l
 
       at : (a : ℕ) → 1 ≤ a → a < 1 + 127 → (b : Bool) → ltb a 64 ≡ b → names a d ≡ false
-      at a l k true e = let z = ltb-true a 64 e in standard-bit a z ∙ of-standard a z ∙ ne-eqb a 0 (λ i. omega arith)
+      at a l k true e = let z = ltb-true a 64 e in standard-bit d a z ∙ of-standard a z ∙ ne-eqb a 0 (λ i. omega arith)
       at a l k false e =
           let z = ltb-false a 64 e in
           let i : a ≡ 64 + (a - 64) = omega arith in
-          ap (λ (x : ℕ). names x d) i ∙ user-bit (a - 64) (omega arith) ∙ of-user (a - 64) (omega arith)
+          ap (λ (x : ℕ). names x d) i ∙ user-bit d (a - 64) (omega arith) ∙ of-user (a - 64) (omega arith)
 
   -- The test of the definitions, test by test as the code has it.
   alone-not : (asNumber (bit s) ≡ 1 → ⊥) → false ≡ rsvpTeAlone d

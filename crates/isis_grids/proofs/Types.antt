@@ -1,14 +1,14 @@
 -- IS-IS types and their codes: what holds of every type, shown at the table's own types by computing and at the unknown ones.
-use mathlib.Core.Path.{_≡_, refl, sym, ap, ap₂, _∙_, subst}
+use mathlib.Core.Path.{_≡_, refl, sym, ap, _∙_, subst}
 use mathlib.Core.Bool.{Bool, true, false, cond, _&&_, not}
 use mathlib.Core.List.{List, [], _∷_, map}
 use Prim.Native.Nat.{ℕ, zero, suc, _+_, _-_, _≤_, _<_}
 use native.Mathlib.Omega.{arith}
-use borrow.Author.Tests.{eqb-true, eqb-false, eq-eqb, ne-eqb}
+use borrow.Author.Tests.{eqb-true, ne-eqb}
 use lib.Dec.{eqb}
-use Rattle.linkstate.specs.Lists.{any, all, lookup}
+use Rattle.linkstate.specs.Lists.{all, lookup}
 use Rattle.linkstate.specs.Kinds as T
-use Rattle.linkstate.specs.Kinds.{kinds, hasType, hasCode, codeOfType, wrongInA}
+use Rattle.linkstate.specs.Kinds.{kinds, hasType, codeOfType, wrongInA}
 use Rattle.kinds.specs.declared.Kind.{Kind}
 use Rattle.kinds.specs.declared.Kind.the-variants.{Link, Application, Srlg, Asla, Unknown}
 use Rattle.kinds.specs.declared.Size.the-variants.{Any}

@@ -1,5 +1,5 @@
 -- The turns of the loops over run A and over attribute lists, where the checks have passed.
-use mathlib.Core.Path.{_≡_, refl, sym, ap, ap₂, _∙_, subst}
+use mathlib.Core.Path.{_≡_, refl, sym, ap, ap₂, _∙_}
 use mathlib.Core.Bool.{Bool, true, false, cond}
 use mathlib.Core.List.{List, [], _∷_, _++_}
 use Prim.Native.Nat.{ℕ, _+_, _≤_, _<_}
@@ -14,7 +14,7 @@ use Rattle.linkstate.specs.Bytes.{bytesAt}
 use Rattle.linkstate.specs.Replies.{Verdict, accepted, runA, _then_}
 use Rattle.linkstate.specs.Elements.{Element, element, cut, elements, faults}
 use Rattle.linkstate.specs.Kinds.{codeOfType}
-use Rattle.linkstate.specs.Attributes.{Attribute, attribute}
+use Rattle.linkstate.specs.Attributes.{attribute}
 use Rattle.linkstate.proofs.WalkLaws.{left, type-one, length-one, faults-passed, each-end, each-turn, then-second, not-accepted}
 use Rattle.octets.proofs.Laws.{length-bytesAt}
 use Rattle.kinds.specs.Rules.{gridCodes, rowIn}

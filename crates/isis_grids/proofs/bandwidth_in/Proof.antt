@@ -4,13 +4,13 @@ use Rattle.isis_grids.proofs.Walks.{left-all, inside, rest-ok}
 use Rattle.isis_grids.specs.Grid.{rowOf, unchecked}
 use Rattle.isis.specs.RunA.{attributesOf}
 use Rattle.linkstate.proofs.WalkLaws.{left}
-use Rattle.linkstate.specs.Elements.{Element, elements, faults}
+use Rattle.linkstate.specs.Elements.{elements, faults}
 use Rattle.linkstate.specs.Replies.{accepted, runA}
 use Rattle.linkstate.specs.Lists.{each}
 use denote.Ref.{now}
 use lib.ListN.{length}
 use native.Mathlib.Omega.{arith}
-use mathlib.Core.Path.{_≡_, ap, sym, _∙_}
+use mathlib.Core.Path.{_≡_, ap, _∙_}
 use Prim.Native.Nat.{_+_, _≤_, _-_}
 use borrow.Author.Needs.{needs}
 use Rattle.isis_grids.proofs.bandwidth_in.Statement.{statement}

@@ -3,20 +3,16 @@ use Rattle.isis_grids.proofs.Walks.{left-all, inside, rest-ok, next-sto
 use Rattle.linkstate.specs.Elements.{Element, elements, faults}
 use denote.Ref.{now}
 use mathlib.Core.List.{List}
-use Prim.Native.Nat.{ℕ, _+_, _≤_, _-_}
-use mathlib.Core.Path.{_≡_, ap, sym, _∙_}
-use Rattle.isis_grids.proofs.Walks.{inside, rest-ok, next-stored, next-kept, next-none, fill-turn, fill-end}
+use Prim.Native.Nat.{_+_, _≤_, _-_}
+use mathlib.Core.Path.{_≡_, ap, _∙_}
 use Rattle.isis_grids.specs.Grid.{filled, unchecked}
 use Rattle.isis.specs.RunA.{attributesOf}
 use Rattle.linkstate.proofs.WalkLaws.{left}
-use Rattle.linkstate.specs.Elements.{elements, faults}
 use Rattle.linkstate.specs.Replies.{accepted, runA}
 use Rattle.linkstate.specs.Lists.{each}
 use lib.ListN.{length}
 use native.Mathlib.Omega.{arith}
 use mathlib.Core.Logic.{⊎-elim}
-use mathlib.Core.Path.{_≡_, refl, _∙_}
-use Prim.Native.Nat.{_≤_, _-_}
 use borrow.Author.Needs.{needs}
 use Rattle.isis_grids.proofs.fill.Statement.{statement}
 use Rattle.isis_grids.proofs.fill.Tie as tie

@@ -4,7 +4,6 @@ use Rattle.isis_grids.proofs.Grids.{filled-empty, placed-each}
 use Rattle.isis.specs.RunA.{checkA, sideA}
 use Rattle.linkstate.specs.Elements.{elements}
 use denote.Ref.{now}
-use native.Mathlib.Omega.{arith}
 use mathlib.Core.Path.{_∙_}
 use borrow.Author.Needs.{needs}
 use Rattle.isis_grids.proofs.legacy_grid.Statement.{statement}

@@ -1,5 +1,5 @@
 -- An element that is no ASLA has no list; the list of an ASLA begins in its value.
-use Rattle.isis_grids.proofs.Aslas.{list-other, list-asla, list-ends, part-headed}
+use Rattle.isis_grids.proofs.Aslas.{list-other, list-asla, list-ends, value-headed}
 use denote.Ref.{now}
 use native.Mathlib.Omega.{arith}
 use borrow.Author.Needs.{needs}
@@ -40,7 +40,7 @@ part-list-start-end : tie.Need-part-list-start-end
 part-list-start-end c = search needs
 
 list-start-requires : tie.Need-list-start-requires
-list-start-requires c κs = part-headed (c .before .before .before .before .before .args .which) (now (c .before .before .before .before .before .args .a)) (c .before .before .before .before .before .args .at) (c .before .if1 .left) (c .before .before .before .before .before .pre .1)
+list-start-requires c κs = value-headed (c .before .before .before .before .before .args .which) (now (c .before .before .before .before .before .args .a)) (c .before .before .before .before .before .args .at) (c .before .if1 .left) (c .before .before .before .before .before .pre .1)
 
 add-result-2 : tie.Need-add-result-2
 add-result-2 c = let x = c .before .before .before .before .before .before .args in omega (arith, list-ends (x .which) (now (x .a)) (x .at) (c .before .before .if1 .left) (c .before .before .before .before .before .before .pre .0) (c .before .before .before .before .before .before .pre .1) (c .list-start .result) (c .list-start .ensures))

@@ -7,7 +7,7 @@ use Rattle.isis_grids.specs.Grid.{rowOf}
 use Rattle.isis.specs.RunA.{checkA, sideA}
 use Rattle.linkstate.proofs.WalkLaws.{left}
 use Rattle.linkstate.specs.Sides.{ofLive}
-use Rattle.linkstate.specs.Elements.{Element, faults}
+use Rattle.linkstate.specs.Elements.{faults}
 use Rattle.linkstate.specs.Replies.{accepted, runA}
 use Rattle.linkstate.specs.Lists.{each}
 use denote.Ref.{now}
@@ -51,7 +51,7 @@ list-at-requires : tie.Need-list-at-requires Inv-loop μ-loop
 list-at-requires c κs = let l = c .before .before .loop in
     let x = c .before .before .before .before .args in
     let here = c .before .loop-test .taken in
-    (inside checkA 0 (now (x .a)) (l .at) here (l .inv .1), asla-headed (x .which) (now (x .a)) (l .at) here (l .inv .1))
+    (inside checkA 0 (now (x .a)) (l .at) here (l .inv .1), asla-headed (now (x .a)) (l .at) here (l .inv .1))
 
 sub-bandwidth-in : tie.Need-sub-bandwidth-in Inv-loop μ-loop
 sub-bandwidth-in c = search needs

@@ -47,7 +47,7 @@ list-at-requires : tie.Need-list-at-requires Inv-loop μ-loop
 list-at-requires c κs = let l = c .before .before .loop in
     let x = c .before .before .before .before .args in
     let here = c .before .loop-test .taken in
-    (inside checkA 0 (now (x .a)) (l .at) here (l .inv .1), asla-headed (x .which) (now (x .a)) (l .at) here (l .inv .1))
+    (inside checkA 0 (now (x .a)) (l .at) here (l .inv .1), asla-headed (now (x .a)) (l .at) here (l .inv .1))
 
 sub-fill : tie.Need-sub-fill Inv-loop μ-loop
 sub-fill c = search needs

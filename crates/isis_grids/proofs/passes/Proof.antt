@@ -1,6 +1,5 @@
 -- Each arm is one test of the definitions.
 use Rattle.isis_grids.proofs.Selects.{selects-naming, general-not, general-is, selects-not-alone, selects-alone, selects-without-l}
-use denote.Ref.{now}
 use borrow.Author.Needs.{needs}
 use Rattle.isis_grids.proofs.passes.Statement.{statement}
 use Rattle.isis_grids.proofs.passes.Tie as tie

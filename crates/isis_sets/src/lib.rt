@@ -1,0 +1,200 @@
+// What an application gets of run A: who is named and how, the sets of applications, the general set, and the link's bandwidths (document 01, "Who gets what").
+ghost use mathlib.Core.Path.{_≡_};
+ghost use Prim.Native.Nat.{_+_, _<_, _≤_};
+ghost use Rattle.linkstate.specs.Lists.{any};
+ghost use Rattle.linkstate.specs.Replies.{accepted, runA};
+ghost use Rattle.linkstate.specs.Elements.{element, elements, faults};
+ghost use Rattle.linkstate.specs.Sides.{names, named, namedWithL, applicationSet, generalSet, bandwidthKind};
+ghost use Rattle.isis.specs.RunA.{aslaAdvertisements, checkA, sideA};
+ghost use Rattle.isis_grids.specs.Grid.{rowOf, gridOf};
+ghost use Rattle.isis_grids.specs.Selected.{Headed};
+ghost use Rattle.isis_sets.specs.Sets.{namingBy, namingOf, strongerOf, rsvpTeGrid, Holds};
+use isis_grids::Which;
+
+// How the live ASLA sub-TLVs name an application.
+pub enum Naming {
+    NotNamed,
+    Named,
+    WithL,
+}
+
+// Of two, the one that decides.
+fn stronger(x: Naming, y: Naming) -> Naming
+    ensures { λ r. ⌜ r ≡ strongerOf x y ⌝ }
+{
+    match x {
+        Naming::NotNamed => y,
+        Naming::Named => match y {
+            Naming::NotNamed => Naming::Named,
+            Naming::Named => Naming::Named,
+            Naming::WithL => Naming::WithL,
+        },
+        Naming::WithL => Naming::WithL,
+    }
+}
+
+// How the ASLA with the value v names an application. Where L is set for nobody its masks are empty, so it names none.
+fn naming_of(v: &[u8], application: u32) -> Naming
+    requires { ⌜ Headed (now v) ⌝ }
+    ensures { λ r. ⌜ r ≡ namingBy application (aslaAdvertisements (element 0 16 (now (v .entry)))) ⌝ }
+{
+    let h = isis_check_a::read_header(v);
+    if isis_check_a::mask_too_long(h) {
+        return Naming::NotNamed;
+    }
+    let m = 2 + h.standard;
+    let e = m + h.user;
+    if !masks::names(&v[2..m], &v[m..e], application) {
+        return Naming::NotNamed;
+    }
+    if h.l { Naming::WithL } else { Naming::Named }
+}
+
+pub fn how_named(a: &[u8], application: u32) -> Naming
+    requires { ⌜ faults runA checkA (elements 1 0 (now a)) ≡ accepted ⌝ }
+    ensures { λ r. ⌜ r ≡ namingOf application (sideA (now (a .entry))) ⌝ }
+{
+    let mut found = Naming::NotNamed;
+    let mut at = 0;
+    while at < a.len() {
+        let n = a[at + 1] as usize;
+        let next = at + 2 + n;
+        if a[at] == 16 {
+            let here = naming_of(&a[at + 2..next], application);
+            let both = stronger(found, here);
+            found = both;
+        }
+        at = next;
+    }
+    found
+}
+
+// The set of an application other than RSVP-TE.
+pub fn application_grid(a: &[u8], application: u32) -> [[usize; 2]; 10]
+    requires { ⌜ faults runA checkA (elements 1 0 (now a)) ≡ accepted ⌝ }
+    ensures { λ r. ⌜ r ≡ gridOf (applicationSet application (sideA (now (a .entry)))) ⌝ }
+{
+    match how_named(a, application) {
+        Naming::WithL => isis_grids::legacy_grid(a),
+        Naming::Named => isis_grids::live_grid(a, Which::Naming(application)),
+        Naming::NotNamed => isis_grids::live_grid(a, Which::General),
+    }
+}
+
+// The general set.
+pub fn general_grid(a: &[u8]) -> [[usize; 2]; 10]
+    requires { ⌜ faults runA checkA (elements 1 0 (now a)) ≡ accepted ⌝ }
+    ensures { λ r. ⌜ r ≡ gridOf (generalSet (sideA (now (a .entry)))) ⌝ }
+{
+    isis_grids::live_grid(a, Which::General)
+}
+
+// Whether some live ASLA names RSVP-TE with L.
+fn rsvp_te_with_l(a: &[u8]) -> bool
+    requires { ⌜ faults runA checkA (elements 1 0 (now a)) ≡ accepted ⌝ }
+    ensures { λ r. ⌜ r ≡ namedWithL 0 (sideA (now (a .entry))) ⌝ }
+{
+    match how_named(a, 0) {
+        Naming::NotNamed => false,
+        Naming::Named => false,
+        Naming::WithL => true,
+    }
+}
+
+// The set of RSVP-TE: kind by kind of the ASLAs that name it, otherwise legacy.
+pub fn rsvp_te_grid(a: &[u8]) -> [[usize; 2]; 10]
+    requires { ⌜ faults runA checkA (elements 1 0 (now a)) ≡ accepted ⌝ }
+    ensures { λ r. ⌜ r ≡ rsvpTeGrid (sideA (now (a .entry))) ⌝ }
+{
+    if rsvp_te_with_l(a) {
+        return isis_grids::legacy_grid(a);
+    }
+    let g = isis_grids::live_grid(a, Which::Naming(0));
+    isis_grids::fill(g, a, 0)
+}
+
+// The row of maximum link bandwidth: legacy, else of any live ASLA without L.
+fn maximum_row(a: &[u8]) -> [usize; 2]
+    requires { ⌜ faults runA checkA (elements 1 0 (now a)) ≡ accepted ⌝ }
+    ensures { λ r. ⌜ r ≡ rowOf 1089 (bandwidthKind 1089 (sideA (now (a .entry)))) ⌝ }
+{
+    let row = isis_grids::bandwidth_in(a, 0, 9);
+    if row[0] != 0 {
+        return row;
+    }
+    isis_grids::live_bandwidth(a, Which::WithoutL, 9)
+}
+
+// The row of a reservable or unreserved bandwidth, by its type: of the ASLAs that name RSVP-TE alone, else legacy; legacy where RSVP-TE is named with L.
+fn reservable_row(a: &[u8], t: u8) -> [usize; 2]
+    requires { ⌜ (10 ≤ t) × (t < 12) × (faults runA checkA (elements 1 0 (now a)) ≡ accepted) ⌝ }
+    ensures { λ r. ⌜ r ≡ rowOf (t + 1080) (bandwidthKind (t + 1080) (sideA (now (a .entry)))) ⌝ }
+{
+    if rsvp_te_with_l(a) {
+        return isis_grids::bandwidth_in(a, 0, t);
+    }
+    let row = isis_grids::live_bandwidth(a, Which::RsvpTeAlone, t);
+    if row[0] != 0 {
+        return row;
+    }
+    isis_grids::bandwidth_in(a, 0, t)
+}
+
+// The row of one of the link's bandwidths.
+pub fn bandwidth_row(a: &[u8], code: usize) -> [usize; 2]
+    requires { ⌜ (1089 ≤ code) × (code ≤ 1091) × (faults runA checkA (elements 1 0 (now a)) ≡ accepted) ⌝ }
+    ensures { λ r. ⌜ r ≡ rowOf code (bandwidthKind code (sideA (now (a .entry)))) ⌝ }
+{
+    match code {
+        1089 => maximum_row(a),
+        1090 => reservable_row(a, 10),
+        _ => reservable_row(a, 11),
+    }
+}
+
+// Applications as two numbers, application n of each kind as 2 to the n.
+pub struct Masks {
+    pub standard: u64,
+    pub user: u64,
+}
+
+// The applications that the ASLA with the value v names.
+fn masks_of(v: &[u8]) -> Masks
+    requires { ⌜ Headed (now v) ⌝ }
+    ensures { λ r. ⌜ Holds (λ n. any (names n) (aslaAdvertisements (element 0 16 (now (v .entry))))) r ⌝ }
+{
+    let h = isis_check_a::read_header(v);
+    if isis_check_a::mask_too_long(h) {
+        return Masks {
+            standard: 0,
+            user: 0,
+        };
+    }
+    let m = 2 + h.standard;
+    let e = m + h.user;
+    Masks {
+        standard: masks::mask_number(&v[2..m]),
+        user: masks::mask_number(&v[m..e]),
+    }
+}
+
+// The applications that run A names.
+pub fn named_in_a(a: &[u8]) -> Masks
+    requires { ⌜ faults runA checkA (elements 1 0 (now a)) ≡ accepted ⌝ }
+    ensures { λ r. ⌜ Holds (λ n. named n (sideA (now (a .entry)))) r ⌝ }
+{
+    let mut standard: u64 = 0;
+    let mut user: u64 = 0;
+    let mut at = 0;
+    while at < a.len() {
+        let n = a[at + 1] as usize;
+        let next = at + 2 + n;
+        if a[at] == 16 {
+            let here = masks_of(&a[at + 2..next]);
+            standard = masks::joined(standard, here.standard);
+            user = masks::joined(user, here.user);
+        }
+        at = next;
+    }
+    Masks { standard, user }
+}
