@@ -109,11 +109,11 @@ module _ (p : ℕ → Bool) (k : ℕ) where
 
 -- ---- the leaders of all applications
 
--- One leader more.
-pub leads-next : (m : Meaning) (xs : List ℕ) (n x : ℕ) → n < length xs → x ≡ leadOf m n → ((k : ℕ) → k < n → getD xs k 0 ≡ leadOf m k)
-    → (k : ℕ) → k < n + 1 → getD (set xs n x) k 0 ≡ leadOf m k
-leads-next m xs n x h e all k l = go (eqb k n) refl
+-- One entry more of a table that is filled in order.
+pub set-next : {A : Type 0} (P : ℕ → A → Type 0) (d : A) (xs : List A) (n : ℕ) (x : A) → n < length xs → P n x → ((k : ℕ) → k < n → P k (getD xs k d))
+    → (k : ℕ) → k < n + 1 → P k (getD (set xs n x) k d)
+set-next P d xs n x h e all k l = go (eqb k n) refl
   where
-    go : (b : Bool) → eqb k n ≡ b → getD (set xs n x) k 0 ≡ leadOf m k
-    go true t = rw (eqb-true k n t) (getD-set-same xs n x 0 h ∙ e)
-    go false t = let f = eqb-false k n t in getD-set-other xs n k x 0 f ∙ all k (omega arith)
+    go : (b : Bool) → eqb k n ≡ b → P k (getD (set xs n x) k d)
+    go true t = rw (eqb-true k n t, getD-set-same xs n x d h) e
+    go false t = let f = eqb-false k n t in rw (getD-set-other xs n k x d f) (all k (omega arith))

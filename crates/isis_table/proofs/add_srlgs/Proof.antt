@@ -1,46 +1,43 @@
+-- `isis_table::add_srlgs` meets its contract.
+use Rattle.isis_table.proofs.Laws.{srlgs-none, srlgs-some, not-rsvp-te, added}
+use borrow.Author.Tests.{not-true, not-false}
+use native.Mathlib.Omega.{arith}
+use mathlib.Core.Path.{refl, sym, _∙_, ap}
 use borrow.Author.Needs.{needs}
 use Rattle.isis_table.proofs.add_srlgs.Statement.{statement}
 use Rattle.isis_table.proofs.add_srlgs.Tie as tie
-use Rattle.isis_table.proofs.add_srlgs.Reads as reads
-use Rattle.isis_table.proofs.add_srlgs.Lts as lts
-use Rattle.isis_table.proofs.srlgs_into.Reads as srlgs-into-reads
-use Rattle.set_groups.proofs.is_named.Reads as is-named-reads
 
--- src/lib.rt:56:9
 is-named-requires : tie.Need-is-named-requires
 is-named-requires c κs = search needs
 
--- src/lib.rt:57:9
 returns : tie.Need-returns
-returns c = ?
+returns c = let a = c .before .before .before .before .before .args in
+    record { few = omega arith; stays = refl; numbers = srlgs-none (a .b .now) (a .c .now) (a .standard) (a .user) (a .n) (sym (c .before .is-named .ensures) ∙ not-true _ (c .if1 .taken)) }
 
--- src/lib.rt:59:25
 mul-srlgs-into : tie.Need-mul-srlgs-into
 mul-srlgs-into c = search needs
 
--- src/lib.rt:59:25
 sub-srlgs-into : tie.Need-sub-srlgs-into
 sub-srlgs-into c = search needs
 
--- src/lib.rt:59:25
 part-srlgs-into-start : tie.Need-part-srlgs-into-start
 part-srlgs-into-start c = search needs
 
--- src/lib.rt:59:25
 part-srlgs-into-end : tie.Need-part-srlgs-into-end
 part-srlgs-into-end c = search needs
 
--- src/lib.rt:59:5
 srlgs-into-requires : tie.Need-srlgs-into-requires
 srlgs-into-requires c κs = search needs
 
--- src/lib.rt:52:1
 same-length : tie.Need-same-length
 same-length c = search needs
 
--- src/lib.rt:52:1
 returns-2 : tie.Need-returns-2
-returns-2 c = ?
+returns-2 c = let a = c .before .before .before .before .before .before .before .before .before .args in
+    let p = c .before .before .before .before .before .before .before .before .before .pre in
+    let r = c .before .before .srlgs-into .ensures in
+    let named = sym (c .before .before .before .before .before .is-named .ensures) ∙ not-false _ (c .before .before .before .before .if1 .left) in
+    added (a .list .now) (c .before .before .srlgs-into .last .1 .1 .1 .0) _ (a .at) _ _ (omega arith) (r .0) (rw (c .before .before .srlgs-into .kept .1 .1 .1 .0) (search needs)) (r .1 (not-rsvp-te (a .b .now) (a .c .now) (a .standard) (a .user) (a .n) (p .3) named) ∙ srlgs-some (a .b .now) (a .c .now) (a .standard) (a .user) (a .n) named)
 
 pub add-srlgs-spec : {M : Type 1} → statement M
 add-srlgs-spec =

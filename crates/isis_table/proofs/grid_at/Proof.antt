@@ -1,30 +1,27 @@
+-- `isis_table::grid_at` meets its contract.
+use Rattle.isis_table.proofs.Laws.{grid-none, grid-some}
+use borrow.Author.Tests.{not-true, not-false}
+use mathlib.Core.Path.{sym, _∙_}
 use borrow.Author.Needs.{needs}
 use Rattle.isis_table.proofs.grid_at.Statement.{statement}
 use Rattle.isis_table.proofs.grid_at.Tie as tie
-use Rattle.isis_table.proofs.grid_at.Reads as reads
-use Rattle.isis_table.proofs.grid_at.Lts as lts
-use Rattle.isis_sets.proofs.application_grid.Reads as application-grid-reads
-use Rattle.set_groups.proofs.is_named.Reads as is-named-reads
 
--- src/lib.rt:22:9
 is-named-requires : tie.Need-is-named-requires
 is-named-requires c κs = search needs
 
--- src/lib.rt:24:9
 returns : tie.Need-returns
-returns c = ?
+returns c = let a = c .before .before .before .args in
+    grid-none (a .a .now) (a .standard) (a .user) (a .n) (sym (c .before .is-named .ensures) ∙ not-true _ (c .if1 .taken))
 
--- src/lib.rt:26:36
 cast-application-grid : tie.Need-cast-application-grid
 cast-application-grid c = search needs
 
--- src/lib.rt:26:5
 application-grid-requires : tie.Need-application-grid-requires
 application-grid-requires c κs = search needs
 
--- src/lib.rt:18:1
 returns-2 : tie.Need-returns-2
-returns-2 c = ?
+returns-2 c = let a = c .before .before .before .before .args in
+    c .application-grid .ensures ∙ grid-some (a .a .now) (a .standard) (a .user) (a .n) (sym (c .before .before .is-named .ensures) ∙ not-false _ (c .before .if1 .left))
 
 pub grid-at-spec : {M : Type 1} → statement M
 grid-at-spec =

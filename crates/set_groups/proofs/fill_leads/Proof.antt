@@ -1,5 +1,5 @@
 -- `set_groups::fill_leads` meets its contract.
-use Rattle.set_groups.proofs.Laws.{leads-next}
+use Rattle.set_groups.proofs.Laws.{set-next}
 use Rattle.set_groups.specs.Table.{tableMeaning, leadOf}
 use lib.ListN.{length, getD, set, length-set}
 use borrow.Author.Needs.{needs}
@@ -34,7 +34,9 @@ loop-less : tie.Need-loop-less Inv-loop μ-loop
 loop-less c = search needs
 
 loop-again : tie.Need-loop-again Inv-loop μ-loop
-loop-again c = let l = c .before .before .loop in (omega arith, (simp length-set (omega arith)), leads-next _ (l .leads) (l .n) _ (omega arith) (c .lead-of .ensures) (l .inv .2))
+loop-again c = let l = c .before .before .loop in
+    let a = c .before .before .before .before .before .before .args in
+    (omega arith, (simp length-set (omega arith)), set-next (λ (k x : ℕ). x ≡ leadOf (tableMeaning (a .a .now) (a .standard) (a .user) (a .grids .now) (a .spans .now) (a .list .now)) k) 0 (l .leads) (l .n) _ (omega arith) (c .lead-of .ensures) (l .inv .2))
 
 same-length : tie.Need-same-length Inv-loop μ-loop
 same-length c = search needs
