@@ -49,7 +49,15 @@ fn srlgs_into(b: &[u8], c: &[u8], n: usize, out: &mut [u32]) -> usize
 }
 
 // The SRLGs of an application, none where it is not named, from a place of the list on; how many there are.
-fn add_srlgs(b: &[u8], c: &[u8], standard: u64, user: u64, n: usize, list: &mut [u32], at: usize) -> usize
+fn add_srlgs(
+    b: &[u8],
+    c: &[u8],
+    standard: u64,
+    user: u64,
+    n: usize,
+    list: &mut [u32],
+    at: usize,
+) -> usize
     requires { ⌜ Passed (now b) (now c) × (at + 512 ≤ length (now list)) × (n < 128) × (inNumbers standard user 0 ≡ false) ⌝ }
     ensures { λ r. ⌜ Added (now (list .entry)) (now (list .exit)) at r (srlgsOf (now (b .entry)) (now (c .entry)) standard user n) ⌝ }
 {
@@ -60,7 +68,14 @@ fn add_srlgs(b: &[u8], c: &[u8], standard: u64, user: u64, n: usize, list: &mut 
 }
 
 // The SRLGs of all named applications.
-pub fn fill_spans(b: &[u8], c: &[u8], standard: u64, user: u64, spans: &mut [[usize; 2]], list: &mut [u32])
+pub fn fill_spans(
+    b: &[u8],
+    c: &[u8],
+    standard: u64,
+    user: u64,
+    spans: &mut [[usize; 2]],
+    list: &mut [u32],
+)
     requires { ⌜ Passed (now b) (now c) × (inNumbers standard user 0 ≡ false) × (length (now spans) ≡ 128) × (65536 ≤ length (now list)) ⌝ }
     ensures { λ _. ⌜ Spans (now (b .entry)) (now (c .entry)) standard user (now (spans .exit)) (now (list .exit)) ⌝ }
 {

@@ -33,7 +33,14 @@ pub fn srlgs_at<'a, 'b>(spans: &'a [[usize; 2]], list: &'b [u32], n: usize) -> &
 }
 
 // Whether two applications of a table have the same set.
-fn same_entries(a: &[u8], grids: &[[[usize; 2]; 10]], spans: &[[usize; 2]], list: &[u32], k: usize, n: usize) -> bool
+fn same_entries(
+    a: &[u8],
+    grids: &[[[usize; 2]; 10]],
+    spans: &[[usize; 2]],
+    list: &[u32],
+    k: usize,
+    n: usize,
+) -> bool
     requires { ⌜ Sound (now a) (now grids) (now spans) (now list) × (k < 128) × (n < 128) ⌝ }
     ensures { λ r. ⌜ r ≡ sameRows (row (tableSet (now (a .entry)) (now (grids .entry)) (now (spans .entry)) (now (list .entry)) k)) (row (tableSet (now (a .entry)) (now (grids .entry)) (now (spans .entry)) (now (list .entry)) n)) ⌝ }
 {
@@ -43,7 +50,15 @@ fn same_entries(a: &[u8], grids: &[[[usize; 2]; 10]], spans: &[[usize; 2]], list
 }
 
 // The first named application with the same set as n, which leads n's group.
-fn leader_of(a: &[u8], standard: u64, user: u64, grids: &[[[usize; 2]; 10]], spans: &[[usize; 2]], list: &[u32], n: usize) -> usize
+fn leader_of(
+    a: &[u8],
+    standard: u64,
+    user: u64,
+    grids: &[[[usize; 2]; 10]],
+    spans: &[[usize; 2]],
+    list: &[u32],
+    n: usize,
+) -> usize
     requires { ⌜ Sound (now a) (now grids) (now spans) (now list) × (n < 128) ⌝ }
     ensures { λ r. ⌜ r ≡ leader (tableMeaning (now (a .entry)) standard user (now (grids .entry)) (now (spans .entry)) (now (list .entry))) n ⌝ }
 {
@@ -58,7 +73,15 @@ fn leader_of(a: &[u8], standard: u64, user: u64, grids: &[[[usize; 2]; 10]], spa
 }
 
 // The same, and 0 where n is not named.
-fn lead_of(a: &[u8], standard: u64, user: u64, grids: &[[[usize; 2]; 10]], spans: &[[usize; 2]], list: &[u32], n: usize) -> usize
+fn lead_of(
+    a: &[u8],
+    standard: u64,
+    user: u64,
+    grids: &[[[usize; 2]; 10]],
+    spans: &[[usize; 2]],
+    list: &[u32],
+    n: usize,
+) -> usize
     requires { ⌜ Sound (now a) (now grids) (now spans) (now list) × (n < 128) ⌝ }
     ensures { λ r. ⌜ r ≡ leadOf (tableMeaning (now (a .entry)) standard user (now (grids .entry)) (now (spans .entry)) (now (list .entry))) n ⌝ }
 {

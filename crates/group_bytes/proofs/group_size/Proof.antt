@@ -49,10 +49,12 @@ asla-size-requires c κs = let p = c .before .before .before .before .before .be
 
 returns-2 : tie.Need-returns-2
 returns-2 c = let a = c .before .before .before .before .before .before .before .before .args in
-    let r = c .asla-size .ensures in
-    (r .0, λ s list ok.
-    r .1 s (inSpan list (getD (a .spans .now) (a .n) [])) (ok .fits _) (length-span s (a .grids .now) (a .spans .now) list ok (a .n))
-    ∙ ap length (leads-group s (a .grids .now) (a .spans .now) list (a .leads .now) (a .n) _ _ (inSpan list (getD (a .spans .now) (a .n) [])) (omega arith) (c .before .before .group-of .ensures) (c .before .group-of2 .ensures) refl))
+    let r = c .asla-size .ensures in (
+      r .0,
+      λ s list ok.
+          r .1 s (inSpan list (getD (a .spans .now) (a .n) [])) (ok .fits _) (length-span s (a .grids .now) (a .spans .now) list ok (a .n))
+          ∙ ap length (leads-group s (a .grids .now) (a .spans .now) list (a .leads .now) (a .n) _ _ (inSpan list (getD (a .spans .now) (a .n) [])) (omega arith) (c .before .before .group-of .ensures) (c .before .group-of2 .ensures) refl),
+    )
 
 pub group-size-spec : {M : Type 1} → statement M
 group-size-spec =

@@ -42,12 +42,13 @@ loop-again : tie.Need-loop-again Inv-loop μ-loop
 loop-again c = let p = c .before .before .before .before .before .before .before .before .before .before .pre in
     let a = c .before .before .before .before .before .before .before .before .before .before .args in
     let l = c .before .before .before .before .before .loop in
-    let r = c .before .before .write-group .ensures in
-    (omega arith,
-    omega arith,
-    c .before .before .write-group .kept .1 .1 .1 .1 .1 .1 .0 ∙ l .inv .2,
-    place-next (a .a .now) (a .grids .now) (a .spans .now) (a .list .now) (a .leads .now) (a .out .now) (a .at) (p .2) (l .n) (l .next) (omega arith) (omega arith) (l .inv .3) _ (r .0),
-    put-next (a .a .now) (a .grids .now) (a .spans .now) (a .list .now) (a .leads .now) (a .out .now) (a .at) (p .2) (l .n) (l .next) (omega arith) (omega arith) (l .inv .3) (l .out) _ (l .inv .4) (r .1))
+    let r = c .before .before .write-group .ensures in (
+      omega arith,
+      omega arith,
+      c .before .before .write-group .kept .1 .1 .1 .1 .1 .1 .0 ∙ l .inv .2,
+      place-next (a .a .now) (a .grids .now) (a .spans .now) (a .list .now) (a .leads .now) (a .out .now) (a .at) (p .2) (l .n) (l .next) (omega arith) (omega arith) (l .inv .3) _ (r .0),
+      put-next (a .a .now) (a .grids .now) (a .spans .now) (a .list .now) (a .leads .now) (a .out .now) (a .at) (p .2) (l .n) (l .next) (omega arith) (omega arith) (l .inv .3) (l .out) _ (l .inv .4) (r .1),
+    )
 
 same-length : tie.Need-same-length Inv-loop μ-loop
 same-length c = c .before .loop .inv .2

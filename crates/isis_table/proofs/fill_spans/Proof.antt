@@ -42,9 +42,13 @@ loop-less c = search needs
 loop-again : tie.Need-loop-again Inv-loop μ-loop
 loop-again c = let l = c .before .before .before .before .before .loop in
     let a = c .before .before .before .before .before .before .before .before .before .args in
-    let r = c .before .before .add-srlgs in
-    (omega arith, omega (arith, r .ensures .few), (simp length-set (omega arith)), r .kept .1 .1 .1 .1 .1 .0 ∙ l .inv .3,
-    spans-next (l .list) _ (l .spans) (l .at) _ (l .n) (srlgsOf (a .b .now) (a .c .now) (a .standard) (a .user)) (omega arith) (r .ensures) (l .inv .4))
+    let r = c .before .before .add-srlgs in (
+      omega arith,
+      omega (arith, r .ensures .few),
+      (simp length-set (omega arith)),
+      r .kept .1 .1 .1 .1 .1 .0 ∙ l .inv .3,
+      spans-next (l .list) _ (l .spans) (l .at) _ (l .n) (srlgsOf (a .b .now) (a .c .now) (a .standard) (a .user)) (omega arith) (r .ensures) (l .inv .4),
+    )
 
 same-length : tie.Need-same-length Inv-loop μ-loop
 same-length c = search needs

@@ -47,15 +47,15 @@ loop-less c = search needs
 
 loop-again : tie.Need-loop-again Inv-loop μ-loop
 loop-again c = (
-    omega arith,
-    (let l = c .before .before .before .loop in
-    let a = c .before .before .before .before .args in
-    let p = isLed (a .leads .now) (a .from) (a .leader) in
-    ⊎-elim
-    (λ w. member-in p (l .n) (l .group) (omega arith) (l .inv .1) _ (eq-eqb _ _ (w .0 .taken)) (w .1))
-    (λ w. member-out p (l .n) (l .group) (omega arith) (l .inv .1) _ (ne-eqb _ _ (w .0 .left)) (w .1))
-    (c .if1 .came)),
-  )
+  omega arith,
+  (let l = c .before .before .before .loop in
+      let a = c .before .before .before .before .args in
+      let p = isLed (a .leads .now) (a .from) (a .leader) in
+      ⊎-elim
+      (λ w. member-in p (l .n) (l .group) (omega arith) (l .inv .1) _ (eq-eqb _ _ (w .0 .taken)) (w .1))
+      (λ w. member-out p (l .n) (l .group) (omega arith) (l .inv .1) _ (ne-eqb _ _ (w .0 .left)) (w .1))
+      (c .if1 .came)),
+)
 
 returns : tie.Need-returns Inv-loop μ-loop
 unfolding asNumber

@@ -44,13 +44,13 @@ loop-less c = search needs
 
 loop-again : tie.Need-loop-again Inv-loop μ-loop
 loop-again c = (
-    omega arith,
-    omega arith,
-    (let l = c .before .before .before .loop in
-    first-later _ (l .k) (omega arith)
-    (⊎-elim (λ w. leads-differ _ _ _ _ _ _ _ (l .k) (sym (w .1 .ensures) ∙ w .2 .left)) (λ w. leads-unnamed _ _ _ _ _ _ _ (l .k) (sym (c .before .is-named .ensures) ∙ w .left)) (c .if1 .came))
-    ∙ l .inv .2),
-  )
+  omega arith,
+  omega arith,
+  (let l = c .before .before .before .loop in
+      first-later _ (l .k) (omega arith)
+      (⊎-elim (λ w. leads-differ _ _ _ _ _ _ _ (l .k) (sym (w .1 .ensures) ∙ w .2 .left)) (λ w. leads-unnamed _ _ _ _ _ _ _ (l .k) (sym (c .before .is-named .ensures) ∙ w .left)) (c .if1 .came))
+      ∙ l .inv .2),
+)
 
 returns-2 : tie.Need-returns-2 Inv-loop μ-loop
 returns-2 c = let l = c .before .loop in first-none _ (l .k) (omega arith) ∙ l .inv .2
