@@ -17,7 +17,7 @@ use Rattle.set_groups.specs.Table.{tableSet, tableMeaning, leadOf, Leads}
 use Rattle.group_bytes.specs.Groups.{ledFrom, groupBytes, groupsBelow}
 
 -- The TLVs of those that pass the test, as a pass over all.
-each-keep : {A B C : Type 0} (g : C → List B) (h : A → C) (p : A → Bool) (xs : List A) → each g (map h (keep p xs)) ≡ each (λ x. cond (p x) (g (h x)) []) xs
+pub each-keep : {A B C : Type 0} (g : C → List B) (h : A → C) (p : A → Bool) (xs : List A) → each g (map h (keep p xs)) ≡ each (λ x. cond (p x) (g (h x)) []) xs
 unfolding each keep
 each-keep g h p [] = refl
 each-keep {B = B} g h p (x ∷ xs) = go (p x) (each-keep g h p xs)
@@ -27,18 +27,18 @@ each-keep {B = B} g h p (x ∷ xs) = go (p x) (each-keep g h p xs)
     go true e = ap (λ (l : List B). g (h x) ++ l) e
     go false e = e
 
-each-map : {A B C : Type 0} (g : C → List B) (h : A → C) (xs : List A) → each g (map h xs) ≡ each (λ x. g (h x)) xs
+pub each-map : {A B C : Type 0} (g : C → List B) (h : A → C) (xs : List A) → each g (map h xs) ≡ each (λ x. g (h x)) xs
 unfolding each
 each-map g h [] = refl
 each-map {B = B} g h (x ∷ xs) = ap (λ (l : List B). g (h x) ++ l) (each-map g h xs)
 
-each-numbers : {B : Type 0} (f g : ℕ → List B) (n from : ℕ) → ((i : ℕ) → from ≤ i → i < from + n → f i ≡ g i) → each f (numbers from n) ≡ each g (numbers from n)
+pub each-numbers : {B : Type 0} (f g : ℕ → List B) (n from : ℕ) → ((i : ℕ) → from ≤ i → i < from + n → f i ≡ g i) → each f (numbers from n) ≡ each g (numbers from n)
 unfolding each numbers
 each-numbers f g zero from h = refl
 each-numbers {B} f g (suc n) from h = ap₂ (λ (x y : List B). x ++ y) (h from (omega arith) (omega arith)) (each-numbers f g n (suc from) (λ i a b. h i (omega arith) (omega arith)))
 
 -- An ASLA depends on the 128 applications only.
-asla-same : (p q : ℕ → Bool) (f : ℕ → List ℕ) → ((n : ℕ) → n < 128 → p n ≡ q n) → aslaValue p f ≡ aslaValue q f
+pub asla-same : (p q : ℕ → Bool) (f : ℕ → List ℕ) → ((n : ℕ) → n < 128 → p n ≡ q n) → aslaValue p f ≡ aslaValue q f
 unfolding aslaValue user
 asla-same p q f h =
     let low : (n : ℕ) → n < 64 → p n ≡ q n = λ n l. h n (omega arith) in
