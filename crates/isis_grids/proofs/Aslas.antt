@@ -144,26 +144,27 @@ module _ (w : Which) (v : List ℕ) where
       (λ e. ap (λ (k : ℕ). faults runA unchecked (elements 1 (at + 2 + k) (drop k v))) (e .0) ∙ framed checkAttribute (listElements at v) (list-ok at v ok (e .2) (e .1)))
       list-cases
 
--- As the code has it, of the element at a position of the run.
+-- As the code has it, of the ASLA at a position of the run.
 module _ (w : Which) (a : List ℕ) (at : ℕ) where
-  abbrev part : List ℕ
-  part = take (at + 2 + getD a (at + 1) 0 - (at + 2)) (drop (at + 2) a)
-
+  -- anything but an ASLA has no list
   pub list-other : (getD a at 0 ≡ 16 → ⊥) → at + 2 + getD a (at + 1) 0 ≡ listAt w a at
   unfolding listAt
   list-other n = rw (ne-eqb (getD a at 0) 16 n)
 
-  module _ (asla : getD a at 0 ≡ 16) where
-    pub value-headed : (getD a at 0 ≡ 16 → Headed (bytesAt a (at + 2) (getD a (at + 1) 0))) → Headed part
-    value-headed h = subst Headed (sym (part-is a (at + 2) (getD a (at + 1) 0))) (h asla)
+  abbrev part : List ℕ
+  part = take (at + 2 + getD a (at + 1) 0 - (at + 2)) (drop (at + 2) a)
+
+  module _ (asla : getD a at 0 ≡ 16) (h : Headed (bytesAt a (at + 2) (getD a (at + 1) 0))) where
+    pub value-headed : Headed part
+    value-headed = subst Headed (sym (part-is a (at + 2) (getD a (at + 1) 0))) h
 
     pub list-asla : (k : ℕ) → k ≡ listFrom w part → at + 2 + k ≡ listAt w a at
     unfolding listAt
     list-asla k e = rw (eq-eqb (getD a at 0) 16 asla, e, part-is a (at + 2) (getD a (at + 1) 0))
 
-    pub list-ends : at + 2 + getD a (at + 1) 0 ≤ length a → (getD a at 0 ≡ 16 → Headed (bytesAt a (at + 2) (getD a (at + 1) 0))) → (k : ℕ) → k ≡ listFrom w part → at + 2 + k ≤ length a
-    list-ends l h k e =
-        omega (arith, e, list-within w part (value-headed h), ap length (part-is a (at + 2) (getD a (at + 1) 0)), length-bytesAt a (at + 2) (getD a (at + 1) 0) l)
+    pub list-ends : at + 2 + getD a (at + 1) 0 ≤ length a → (k : ℕ) → k ≡ listFrom w part → at + 2 + k ≤ length a
+    list-ends l k e =
+        omega (arith, e, list-within w part value-headed, ap length (part-is a (at + 2) (getD a (at + 1) 0)), length-bytesAt a (at + 2) (getD a (at + 1) 0) l)
 
 -- What holds of the attributes of every list that is read holds of those that are selected.
 pub all-selected : (P : Attribute → Type 0) (w : Which) (at t : ℕ) (v : List ℕ) → (t ≡ 16 → lFlag v ≡ false → maskTooLong v ≡ false → All P (each attributesOf (listElements at v))) → All P (selected w (element at t v))

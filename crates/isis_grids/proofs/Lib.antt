@@ -4,5 +4,5 @@ pub mod Walks
 pub mod Headers
 pub mod Aslas
 pub mod Selects
-pub mod Bandwidths
+pub mod Rows
 pub mod Places

@@ -1,11 +1,12 @@
 -- IS-IS types and their codes: what holds of every type, shown at the table's own types by computing and at the unknown ones.
 use mathlib.Core.Path.{_≡_, refl, sym, ap, _∙_, subst}
-use mathlib.Core.Bool.{Bool, true, false, cond, _&&_, not}
+use mathlib.Core.Bool.{Bool, true, false, cond, _&&_, _||_, not}
 use mathlib.Core.List.{List, [], _∷_, map}
 use Prim.Native.Nat.{ℕ, zero, suc, _+_, _-_, _≤_, _<_}
 use native.Mathlib.Omega.{arith}
-use borrow.Author.Tests.{eqb-true, ne-eqb}
+use borrow.Author.Tests.{eqb-true, eq-eqb, ne-eqb}
 use lib.Dec.{eqb}
+use lib.ListN.{length, getD}
 use Rattle.linkstate.specs.Lists.{all, lookup}
 use Rattle.linkstate.specs.Kinds as T
 use Rattle.linkstate.specs.Kinds.{kinds, hasType, codeOfType, wrongInA}
@@ -132,13 +133,63 @@ pub metric-type : (t : ℕ) → eqb t 18 ≡ eqb (codeOfType t) 1092
 unfolding computing testOf keyed agree
 metric-type = only-type 18 1092 refl refl (λ z. omega arith)
 
--- Each of the link's bandwidths has its own type, 9 to 11.
-pub bandwidth-type : (k : ℕ) → 9 ≤ k → k < 12 → (t : ℕ) → eqb t k ≡ eqb (codeOfType t) (k + 1080)
-unfolding computing testOf keyed agree
-bandwidth-type k h g = let e : 9 + (k - 9) ≡ k = omega arith in subst (λ (i : ℕ). (t : ℕ) → eqb t i ≡ eqb (codeOfType t) (i + 1080)) e (go (k - 9) (omega arith))
+-- A known type is the only one of its code.
+knownAlone : ℕ → Bool
+knownAlone k = eqb (codeOfType k) 0 || all (λ q. testOf (keyed k (codeOfType k)) (q .carrier)) kinds
+
+known-alone : (k : ℕ) → knownAlone k ≡ true
+unfolding computing testOf keyed agree knownAlone
+known-alone = every-type (λ k. knownAlone k ≡ true) (tested knownAlone kinds refl) (λ k e. ap (λ (c : ℕ). eqb c 0 || all (λ q. testOf (keyed k (codeOfType k)) (q .carrier)) kinds) e)
+
+pub type-code : (k : ℕ) → (codeOfType k ≡ 0 → ⊥) → (t : ℕ) → eqb t k ≡ eqb (codeOfType t) (codeOfType k)
+unfolding knownAlone
+type-code k n = only-type k (codeOfType k) (go (eqb (codeOfType k) 0) refl (known-alone k)) refl n
   where
-    go : (d : ℕ) → d < 3 → (t : ℕ) → eqb t (9 + d) ≡ eqb (codeOfType t) (9 + d + 1080)
-    go zero l = only-type 9 1089 refl refl (λ z. omega arith)
-    go (suc zero) l = only-type 10 1090 refl refl (λ z. omega arith)
-    go (suc (suc zero)) l = only-type 11 1091 refl refl (λ z. omega arith)
+    go : (b : Bool) → eqb (codeOfType k) 0 ≡ b → b || all (λ q. testOf (keyed k (codeOfType k)) (q .carrier)) kinds ≡ true → all (λ q. testOf (keyed k (codeOfType k)) (q .carrier)) kinds ≡ true
+    go true e h = absurd (n (eqb-true (codeOfType k) 0 e))
+    go false e h = h
+
+-- The codes of the link's bandwidths, types 9 to 11.
+pub bandwidth-code : (t : ℕ) → 9 ≤ t → t < 12 → codeOfType t ≡ t + 1080
+unfolding computing
+bandwidth-code t h g = let e : 9 + (t - 9) ≡ t = omega arith in subst (λ (i : ℕ). codeOfType i ≡ i + 1080) e (go (t - 9) (omega arith))
+  where
+    go : (d : ℕ) → d < 3 → codeOfType (9 + d) ≡ 9 + d + 1080
+    go zero l = refl
+    go (suc zero) l = refl
+    go (suc (suc zero)) l = refl
     go (suc (suc (suc d))) l = absurd (omega arith)
+
+-- The type of a row, as the code has it.
+pub row-type : (k : ℕ) → k < 10 → (k ≡ 0 → ⊥) → (k ≡ 1 → ⊥) → (k ≡ 9 → ⊥) → codeOfType (k + 31) ≡ getD gridCodes k 0
+unfolding computing
+row-type k h a b c = let e : 2 + (k - 2) ≡ k = omega arith in subst (λ (i : ℕ). codeOfType (i + 31) ≡ getD gridCodes i 0) e (go (k - 2) (omega arith))
+  where
+    go : (d : ℕ) → d < 7 → codeOfType (2 + d + 31) ≡ getD gridCodes (2 + d) 0
+    go zero l = refl
+    go (suc zero) l = refl
+    go (suc (suc zero)) l = refl
+    go (suc (suc (suc zero))) l = refl
+    go (suc (suc (suc (suc zero)))) l = refl
+    go (suc (suc (suc (suc (suc zero))))) l = refl
+    go (suc (suc (suc (suc (suc (suc zero)))))) l = refl
+    go (suc (suc (suc (suc (suc (suc (suc d))))))) l = absurd (omega arith)
+
+-- What holds of every code of a list by a computed test holds at each place.
+pub all-at : (p : ℕ → Bool) (cs : List ℕ) → all p cs ≡ true → (k : ℕ) → k < length cs → p (getD cs k 0) ≡ true
+unfolding all
+all-at p [] h k l = absurd (omega arith)
+all-at p (c ∷ cs) h k l = go (p c) refl h k l (all-at p cs)
+  where
+    go : (b : Bool) → p c ≡ b → b && all p cs ≡ true → (k : ℕ) → k < suc (length cs) → (all p cs ≡ true → (k : ℕ) → k < length cs → p (getD cs k 0) ≡ true) → p (getD (c ∷ cs) k 0) ≡ true
+    go true e h zero l f = e
+    go true e h (suc k) l f = f h k (omega arith)
+    go false e h k l f = absurd (let z : _≡_ {A = ℕ} 0 1 = cc in omega arith)
+
+-- A row's code is known.
+pub row-known : (k : ℕ) → k < 10 → getD gridCodes k 0 ≡ 0 → ⊥
+unfolding computing
+row-known k h e =
+    let t : not (eqb (getD gridCodes k 0) 0) ≡ true = all-at (λ c. not (eqb c 0)) gridCodes refl k h in
+    let f : not (eqb (getD gridCodes k 0) 0) ≡ false = ap not (eq-eqb (getD gridCodes k 0) 0 e) in
+    let z : _≡_ {A = ℕ} 0 1 = cc in omega arith

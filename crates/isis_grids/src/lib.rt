@@ -1,4 +1,4 @@
-// What run A holds, as grids: of its legacy attributes, and of the ASLA sub-TLVs that pass a test (document 01, "Who gets what").
+// What run A holds, as grids and as single rows: of its legacy attributes, and of the ASLA sub-TLVs that pass a test (document 01, "Who gets what").
 ghost use mathlib.Core.Path.{_≡_};
 ghost use Prim.Native.Nat.{_+_, _<_, _≤_};
 ghost use lib.ListN.{length, getD};
@@ -26,6 +26,19 @@ fn row_of(t: u8) -> usize
         Kind::Srlg => 10,
         Kind::Asla => 10,
         Kind::Unknown => 10,
+    }
+}
+
+// The type of a row.
+pub fn type_of(k: usize) -> u8
+    requires { ⌜ k < 10 ⌝ }
+    ensures { λ r. ⌜ codeOfType r ≡ getD gridCodes k 0 ⌝ }
+{
+    match k {
+        0 => 3,
+        1 => 18,
+        9 => 14,
+        _ => (k + 31) as u8,
     }
 }
 
@@ -110,16 +123,13 @@ fn list_start(v: &[u8], which: Which) -> usize
     v.len()
 }
 
-// Where in run A the list of the element at a position begins: at the element's end where it is no ASLA, or none to read.
+// Where in run A the list of the ASLA at a position begins: at the ASLA's end where there is none to read, or it is not selected.
 fn list_at(a: &[u8], at: usize, which: Which) -> usize
-    requires { ⌜ (at + 2 + getD (now a) (at + 1) 0 ≤ length (now a)) × (getD (now a) at 0 ≡ 16 → Headed (bytesAt (now a) (at + 2) (getD (now a) (at + 1) 0))) ⌝ }
+    requires { ⌜ (getD (now a) at 0 ≡ 16) × (at + 2 + getD (now a) (at + 1) 0 ≤ length (now a)) × (Headed (bytesAt (now a) (at + 2) (getD (now a) (at + 1) 0))) ⌝ }
     ensures { λ r. ⌜ r ≡ listAt which (now (a .entry)) at ⌝ }
 {
     let n = a[at + 1] as usize;
     let v = at + 2;
-    if a[at] != 16 {
-        return v + n;
-    }
     v + list_start(&a[v..v + n], which)
 }
 
@@ -133,27 +143,29 @@ pub fn live_grid(a: &[u8], which: Which) -> [[usize; 2]; 10]
     while at < a.len() {
         let n = a[at + 1] as usize;
         let next = at + 2 + n;
-        let from = list_at(a, at, which);
-        if from < next {
-            let h = fill(g, &a[from..next], from);
-            g = h;
+        if a[at] == 16 {
+            let from = list_at(a, at, which);
+            if from < next {
+                let h = fill(g, &a[from..next], from);
+                g = h;
+            }
         }
         at = next;
     }
     g
 }
 
-// The row of one of the link's bandwidths, by its type, in a list whose first byte is at an offset of run A.
-pub fn bandwidth_in(s: &[u8], base: usize, t: u8) -> [usize; 2]
-    requires { ⌜ (9 ≤ t) × (t < 12) × (base + length (now s) < 18446744073709551616) × (faults runA unchecked (elements 1 base (now s)) ≡ accepted) ⌝ }
-    ensures { λ r. ⌜ r ≡ rowOf (t + 1080) (each attributesOf (elements 1 base (now (s .entry)))) ⌝ }
+// The row of one kind, by its type, in a list whose first byte is at an offset of run A.
+pub fn row_in(s: &[u8], base: usize, t: u8) -> [usize; 2]
+    requires { ⌜ (codeOfType t ≡ 0 → ⊥) × (base + length (now s) < 18446744073709551616) × (faults runA unchecked (elements 1 base (now s)) ≡ accepted) ⌝ }
+    ensures { λ r. ⌜ r ≡ rowOf (codeOfType t) (each attributesOf (elements 1 base (now (s .entry)))) ⌝ }
 {
     let mut at = 0;
     while at < s.len() {
         let n = s[at + 1] as usize;
         if s[at] == t {
-            let row = [base + at + 2, n];
-            return row;
+            let found = [base + at + 2, n];
+            return found;
         }
         at = at + 2 + n;
     }
@@ -161,20 +173,22 @@ pub fn bandwidth_in(s: &[u8], base: usize, t: u8) -> [usize; 2]
     none
 }
 
-// The row of one of the link's bandwidths, by its type, in the live ASLA sub-TLVs that are selected.
-pub fn live_bandwidth(a: &[u8], which: Which, t: u8) -> [usize; 2]
-    requires { ⌜ (9 ≤ t) × (t < 12) × (faults runA checkA (elements 1 0 (now a)) ≡ accepted) ⌝ }
-    ensures { λ r. ⌜ r ≡ rowOf (t + 1080) (ofLive (selects which) (sideA (now (a .entry)))) ⌝ }
+// The row of one kind, by its type, in the live ASLA sub-TLVs that are selected.
+pub fn live_row(a: &[u8], which: Which, t: u8) -> [usize; 2]
+    requires { ⌜ (codeOfType t ≡ 0 → ⊥) × (faults runA checkA (elements 1 0 (now a)) ≡ accepted) ⌝ }
+    ensures { λ r. ⌜ r ≡ rowOf (codeOfType t) (ofLive (selects which) (sideA (now (a .entry)))) ⌝ }
 {
     let mut at = 0;
     while at < a.len() {
         let n = a[at + 1] as usize;
         let next = at + 2 + n;
-        let from = list_at(a, at, which);
-        if from < next {
-            let row = bandwidth_in(&a[from..next], from, t);
-            if row[0] != 0 {
-                return row;
+        if a[at] == 16 {
+            let from = list_at(a, at, which);
+            if from < next {
+                let row = row_in(&a[from..next], from, t);
+                if row[0] != 0 {
+                    return row;
+                }
             }
         }
         at = next;

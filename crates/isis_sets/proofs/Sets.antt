@@ -2,14 +2,15 @@
 use mathlib.Core.Path.{_≡_, refl, sym, ap, ap₂, _∙_, subst}
 use mathlib.Core.Bool.{Bool, true, false, cond, _&&_, _||_, not}
 use mathlib.Core.List.{List, [], _∷_, _++_, map}
-use Prim.Native.Nat.{ℕ, _+_, _≤_}
+use Prim.Native.Nat.{ℕ, _+_, _≤_, _<_}
 use native.Mathlib.Omega.{arith}
 use borrow.Author.Tests.{ne-eqb, not-true}
 use lib.Dec.{eqb}
-use lib.ListN.{getD}
+use lib.ListN.{length, getD}
 use Rattle.linkstate.specs.Lists.{all, empty, each}
 use Rattle.linkstate.specs.Replies.{accepted, runA}
 use Rattle.linkstate.specs.Elements.{elements, faults}
+use Rattle.linkstate.specs.Kinds.{codeOfType}
 use Rattle.linkstate.specs.Attributes.{Attribute, valueOf}
 use Rattle.linkstate.specs.Sides.{Side, names, named, namedWithL, ofLive, generalSet, applicationSet, rsvpTeKind, maximumBandwidth, reservableBandwidth, bandwidthKind}
 use Rattle.kinds.specs.Rules.{gridCodes}
@@ -21,11 +22,12 @@ use Rattle.isis_grids.specs.Grid.{rowOf, gridOf, filled, wrongOfCode}
 use Rattle.isis_grids.specs.Selected.{selects}
 use Rattle.isis_grids.proofs.Grids.{All, Placed, placed-each, row-append, filled-grid}
 use Rattle.isis_grids.proofs.Aslas.{placed-selected, live-all}
-use Rattle.isis_grids.proofs.Bandwidths.{first-present, first-absent}
+use Rattle.isis_grids.proofs.Types.{all-at, row-known, bandwidth-code}
+use Rattle.isis_grids.proofs.Rows.{first-present, first-absent}
 use Rattle.isis_grids.proofs.Places.{live-stands, value-none}
 use Rattle.isis_sets.specs.declared.Naming.{Naming}
 use Rattle.isis_sets.specs.declared.Naming.the-variants.{NotNamed, Named, WithL}
-use Rattle.isis_sets.specs.Sets.{namingOf, rsvpTeGrid}
+use Rattle.isis_sets.specs.Sets.{namingOf, rsvpTeGrid, selectedOrLegacy}
 
 -- ---- who is named
 
@@ -59,22 +61,23 @@ module _ (n : ℕ) (s : Side) (x : Naming) (told : x ≡ namingOf n s) where
 
   -- ---- the set of an application
 
-  module _ (g : List (List ℕ)) where
-    pub gets-legacy : x ≡ WithL → g ≡ gridOf (s .legacy) → g ≡ gridOf (applicationSet n s)
+  -- whatever is taken of it: the grid, or a row
+  module _ {G : Type 0} (F : List Attribute → G) (g : G) where
+    pub gets-legacy : x ≡ WithL → g ≡ F (s .legacy) → g ≡ F (applicationSet n s)
     unfolding applicationSet
     gets-legacy e h = let l = is-with-l e in rw (sym l) h
 
-    pub gets-named : x ≡ Named → g ≡ gridOf (ofLive (selects (W.Naming n)) s) → g ≡ gridOf (applicationSet n s)
+    pub gets-named : x ≡ Named → g ≡ F (ofLive (selects (W.Naming n)) s) → g ≡ F (applicationSet n s)
     unfolding applicationSet selects
     gets-named e h = let l = is-named e in rw (sym (l .0), sym (l .1)) h
 
-    pub gets-general : x ≡ NotNamed → g ≡ gridOf (ofLive (selects W.General) s) → g ≡ gridOf (applicationSet n s)
+    pub gets-general : x ≡ NotNamed → g ≡ F (ofLive (selects W.General) s) → g ≡ F (applicationSet n s)
     unfolding applicationSet generalSet selects
     gets-general e h = let l = is-not-named e in rw (sym (l .0), sym (l .1)) h
 
-pub general-is : (s : Side) → gridOf (ofLive (selects W.General) s) ≡ gridOf (generalSet s)
+pub general-is : {G : Type 0} (F : List Attribute → G) (s : Side) → F (ofLive (selects W.General) s) ≡ F (generalSet s)
 unfolding generalSet selects
-general-is s = refl
+general-is F s = refl
 
 -- ---- RSVP-TE
 
@@ -94,6 +97,10 @@ ofGrid c = not (eqb c 1096) && wrongOfCode c 0
 grid-codes : all ofGrid gridCodes ≡ true
 unfolding computing ofGrid wrongOfCode
 grid-codes = refl
+
+ten : length gridCodes ≡ 10
+unfolding computing
+ten = refl
 
 and-both : (a b : Bool) → a && b ≡ true → (a ≡ true) × (b ≡ true)
 and-both true b e = (refl, e)
@@ -135,37 +142,74 @@ module _ (a : List ℕ) (ok : faults runA checkA (elements 1 0 a) ≡ accepted) 
       ∙ filled-grid (ofLive (selects (W.Naming 0)) (sideA a)) ((sideA a) .legacy) (placed-live (W.Naming 0) a) (placed-legacy a)
       ∙ map-along ofGrid (λ c. rowOf c (ofLive (selects (W.Naming 0)) (sideA a) ++ (sideA a) .legacy)) (λ c. rowOf c (rsvpTeKind c (sideA a))) gridCodes grid-codes (λ c i. one-kind c i l)
 
--- ---- the link's bandwidths
+  -- one row of it
+  pub rsvp-te-row : (k : ℕ) → k < 10 → rowOf (getD gridCodes k 0) (selectedOrLegacy (W.Naming 0) (sideA a)) ≡ rowOf (getD gridCodes k 0) (rsvpTeKind (getD gridCodes k 0) (sideA a))
+  unfolding selectedOrLegacy rsvpTeKind
+  rsvp-te-row k h = go (namedWithL 0 (sideA a)) refl
+    where
+      c : ℕ
+      c = getD gridCodes k 0
+
+      go : (b : Bool) → namedWithL 0 (sideA a) ≡ b
+          → rowOf c (cond b ((sideA a) .legacy) (ofLive (selects (W.Naming 0)) (sideA a) ++ (sideA a) .legacy)) ≡ rowOf c (cond (namedWithL 0 (sideA a) || empty (valueOf c (ofLive (names 0) (sideA a)))) ((sideA a) .legacy) (ofLive (names 0) (sideA a)))
+      go true e = ap (λ (b : Bool). rowOf c (cond (b || empty (valueOf c (ofLive (names 0) (sideA a)))) ((sideA a) .legacy) (ofLive (names 0) (sideA a)))) (sym e)
+      go false e = one-kind c (all-at ofGrid gridCodes grid-codes k (omega (arith, ten))) (sym e)
+
+-- ---- rows of the link's bandwidths
+
+code-nine : codeOfType 9 ≡ 1089
+code-nine = bandwidth-code 9 (omega arith) (omega arith)
 
 module _ (a : List ℕ) (row : List ℕ) where
   abbrev legacy : List Attribute
   legacy = each attributesOf (elements 1 0 a)
 
-  pub maximum-legacy : row ≡ rowOf 1089 legacy → (getD row 0 0 ≡ 0 → ⊥) → row ≡ rowOf 1089 (bandwidthKind 1089 (sideA a))
-  unfolding bandwidthKind maximumBandwidth selects sideA
-  maximum-legacy e n = first-present 1089 legacy (ofLive (selects W.WithoutL) (sideA a)) (legacy ++ ofLive (selects W.WithoutL) (sideA a)) (placed-each (elements 1 0 a)) refl row e n
+  module _ (e : row ≡ rowOf (codeOfType 9) legacy) where
+    row-nine : row ≡ rowOf 1089 legacy
+    row-nine = e ∙ ap (λ (c : ℕ). rowOf c legacy) code-nine
 
-  pub maximum-live : row ≡ rowOf 1089 legacy → getD row 0 0 ≡ 0 → (found : List ℕ) → found ≡ rowOf 1089 (ofLive (selects W.WithoutL) (sideA a)) → found ≡ rowOf 1089 (bandwidthKind 1089 (sideA a))
-  unfolding bandwidthKind maximumBandwidth selects sideA
-  maximum-live e n found f = f ∙ first-absent 1089 legacy (ofLive (selects W.WithoutL) (sideA a)) (legacy ++ ofLive (selects W.WithoutL) (sideA a)) (placed-each (elements 1 0 a)) refl row e n
+    pub maximum-legacy : (getD row 0 0 ≡ 0 → ⊥) → row ≡ rowOf 1089 (bandwidthKind 1089 (sideA a))
+    unfolding bandwidthKind maximumBandwidth selects sideA
+    maximum-legacy n = first-present 1089 legacy (ofLive (selects W.WithoutL) (sideA a)) (legacy ++ ofLive (selects W.WithoutL) (sideA a)) (placed-each (elements 1 0 a)) refl row row-nine n
 
-  module _ (t : ℕ) (low : 10 ≤ t) where
-    other-code : eqb (t + 1080) 1089 ≡ false
-    other-code = ne-eqb (t + 1080) 1089 (λ e. omega arith)
+    pub maximum-live : getD row 0 0 ≡ 0 → (found : List ℕ) → found ≡ rowOf (codeOfType 9) (ofLive (selects W.WithoutL) (sideA a)) → found ≡ rowOf 1089 (bandwidthKind 1089 (sideA a))
+    unfolding bandwidthKind maximumBandwidth selects sideA
+    maximum-live n found f =
+        f ∙ ap (λ (c : ℕ). rowOf c (ofLive (selects W.WithoutL) (sideA a))) code-nine
+        ∙ first-absent 1089 legacy (ofLive (selects W.WithoutL) (sideA a)) (legacy ++ ofLive (selects W.WithoutL) (sideA a)) (placed-each (elements 1 0 a)) refl row row-nine n
 
-    pub reservable-with-l : true ≡ namedWithL 0 (sideA a) → row ≡ rowOf (t + 1080) legacy → row ≡ rowOf (t + 1080) (bandwidthKind (t + 1080) (sideA a))
-    unfolding bandwidthKind reservableBandwidth sideA
-    reservable-with-l l e = rw (other-code, sym l) e
+  -- of the selected ones, else legacy
+  module _ (c : ℕ) (w : Which) where
+    pub legacy-with-l : true ≡ namedWithL 0 (sideA a) → row ≡ rowOf c legacy → row ≡ rowOf c (selectedOrLegacy w (sideA a))
+    unfolding selectedOrLegacy sideA
+    legacy-with-l l e = rw (sym l) e
 
-    module _ (l : false ≡ namedWithL 0 (sideA a)) (e : row ≡ rowOf (t + 1080) (ofLive (selects W.RsvpTeAlone) (sideA a))) where
-      pub reservable-alone : (getD row 0 0 ≡ 0 → ⊥) → row ≡ rowOf (t + 1080) (bandwidthKind (t + 1080) (sideA a))
-      unfolding bandwidthKind reservableBandwidth selects sideA
-      reservable-alone n =
-          rw (other-code, sym l)
-          (first-present (t + 1080) (ofLive (selects W.RsvpTeAlone) (sideA a)) legacy (ofLive (selects W.RsvpTeAlone) (sideA a) ++ legacy) (placed-live W.RsvpTeAlone a) refl row e n)
+    module _ (l : false ≡ namedWithL 0 (sideA a)) (e : row ≡ rowOf c (ofLive (selects w) (sideA a))) where
+      pub selected-present : (getD row 0 0 ≡ 0 → ⊥) → row ≡ rowOf c (selectedOrLegacy w (sideA a))
+      unfolding selectedOrLegacy sideA
+      selected-present n = rw (sym l) (first-present c (ofLive (selects w) (sideA a)) legacy (ofLive (selects w) (sideA a) ++ legacy) (placed-live w a) refl row e n)
 
-      pub reservable-legacy : getD row 0 0 ≡ 0 → (found : List ℕ) → found ≡ rowOf (t + 1080) legacy → found ≡ rowOf (t + 1080) (bandwidthKind (t + 1080) (sideA a))
-      unfolding bandwidthKind reservableBandwidth selects sideA
-      reservable-legacy n found f =
-          rw (other-code, sym l)
-          (f ∙ first-absent (t + 1080) (ofLive (selects W.RsvpTeAlone) (sideA a)) legacy (ofLive (selects W.RsvpTeAlone) (sideA a) ++ legacy) (placed-live W.RsvpTeAlone a) refl row e n)
+      pub selected-absent : getD row 0 0 ≡ 0 → (found : List ℕ) → found ≡ rowOf c legacy → found ≡ rowOf c (selectedOrLegacy w (sideA a))
+      unfolding selectedOrLegacy sideA
+      selected-absent n found f = rw (sym l) (f ∙ first-absent c (ofLive (selects w) (sideA a)) legacy (ofLive (selects w) (sideA a) ++ legacy) (placed-live w a) refl row e n)
+
+pub reservable-row : (t : ℕ) → 10 ≤ t → t < 12 → (s : Side) → rowOf (codeOfType t) (selectedOrLegacy W.RsvpTeAlone s) ≡ rowOf (t + 1080) (bandwidthKind (t + 1080) s)
+unfolding bandwidthKind reservableBandwidth selectedOrLegacy selects
+reservable-row t h g s =
+    ap (λ (c : ℕ). rowOf c (reservableBandwidth s)) (bandwidth-code t (omega arith) g)
+    ∙ ap (λ (b : Bool). rowOf (t + 1080) (cond b (maximumBandwidth s) (reservableBandwidth s))) (sym (ne-eqb (t + 1080) 1089 (λ e. omega arith)))
+
+-- A row's type is known.
+pub type-known : (k t : ℕ) → k < 10 → codeOfType t ≡ getD gridCodes k 0 → codeOfType t ≡ 0 → ⊥
+type-known k t h e z = row-known k h (sym e ∙ z)
+
+pub bandwidth-known : (t : ℕ) → 9 ≤ t → t < 12 → codeOfType t ≡ 0 → ⊥
+bandwidth-known t h g z = omega (arith, bandwidth-code t h g, z)
+
+-- A row that was looked for by its type is that of the type's code.
+pub by-code : (t c : ℕ) (ts : List Attribute) (row : List ℕ) → codeOfType t ≡ c → row ≡ rowOf (codeOfType t) ts → row ≡ rowOf c ts
+by-code t c ts row e h = h ∙ ap (λ (x : ℕ). rowOf x ts) e
+
+pub legacy-by-code : (t c : ℕ) (a : List ℕ) (row : List ℕ) → codeOfType t ≡ c → row ≡ rowOf (codeOfType t) (each attributesOf (elements 1 0 a)) → row ≡ rowOf c ((sideA a) .legacy)
+unfolding sideA
+legacy-by-code t c a row = by-code t c (each attributesOf (elements 1 0 a)) row

@@ -1,14 +1,17 @@
 // What an application gets of run A: who is named and how, the sets of applications, the general set, and the link's bandwidths (document 01, "Who gets what").
 ghost use mathlib.Core.Path.{_≡_};
 ghost use Prim.Native.Nat.{_+_, _<_, _≤_};
+ghost use lib.ListN.{getD};
 ghost use Rattle.linkstate.specs.Lists.{any};
 ghost use Rattle.linkstate.specs.Replies.{accepted, runA};
 ghost use Rattle.linkstate.specs.Elements.{element, elements, faults};
-ghost use Rattle.linkstate.specs.Sides.{names, named, namedWithL, applicationSet, generalSet, bandwidthKind};
+ghost use Rattle.linkstate.specs.Kinds.{codeOfType};
+ghost use Rattle.linkstate.specs.Sides.{names, named, namedWithL, applicationSet, generalSet, rsvpTeKind, bandwidthKind};
+ghost use Rattle.kinds.specs.Rules.{gridCodes};
 ghost use Rattle.isis.specs.RunA.{aslaAdvertisements, checkA, sideA};
 ghost use Rattle.isis_grids.specs.Grid.{rowOf, gridOf};
 ghost use Rattle.isis_grids.specs.Selected.{Headed};
-ghost use Rattle.isis_sets.specs.Sets.{namingBy, namingOf, strongerOf, rsvpTeGrid, Holds};
+ghost use Rattle.isis_sets.specs.Sets.{namingBy, namingOf, strongerOf, rsvpTeGrid, selectedOrLegacy, Holds};
 use isis_grids::Which;
 
 // How the live ASLA sub-TLVs name an application.
@@ -113,42 +116,71 @@ pub fn rsvp_te_grid(a: &[u8]) -> [[usize; 2]; 10]
     isis_grids::fill(g, a, 0)
 }
 
+// The row of a kind, by its type, in the ASLAs that are selected, else legacy; legacy where RSVP-TE is named with L.
+fn selected_or_legacy(a: &[u8], which: Which, t: u8) -> [usize; 2]
+    requires { ⌜ (codeOfType t ≡ 0 → ⊥) × (faults runA checkA (elements 1 0 (now a)) ≡ accepted) ⌝ }
+    ensures { λ r. ⌜ r ≡ rowOf (codeOfType t) (selectedOrLegacy which (sideA (now (a .entry)))) ⌝ }
+{
+    if rsvp_te_with_l(a) {
+        return isis_grids::row_in(a, 0, t);
+    }
+    let row = isis_grids::live_row(a, which, t);
+    if row[0] != 0 {
+        return row;
+    }
+    isis_grids::row_in(a, 0, t)
+}
+
+// One row of the set of an application other than RSVP-TE.
+pub fn application_row(a: &[u8], application: u32, k: usize) -> [usize; 2]
+    requires { ⌜ (k < 10) × (faults runA checkA (elements 1 0 (now a)) ≡ accepted) ⌝ }
+    ensures { λ r. ⌜ r ≡ rowOf (getD gridCodes k 0) (applicationSet application (sideA (now (a .entry)))) ⌝ }
+{
+    let t = isis_grids::type_of(k);
+    match how_named(a, application) {
+        Naming::WithL => isis_grids::row_in(a, 0, t),
+        Naming::Named => isis_grids::live_row(a, Which::Naming(application), t),
+        Naming::NotNamed => isis_grids::live_row(a, Which::General, t),
+    }
+}
+
+// One row of the general set.
+pub fn general_row(a: &[u8], k: usize) -> [usize; 2]
+    requires { ⌜ (k < 10) × (faults runA checkA (elements 1 0 (now a)) ≡ accepted) ⌝ }
+    ensures { λ r. ⌜ r ≡ rowOf (getD gridCodes k 0) (generalSet (sideA (now (a .entry)))) ⌝ }
+{
+    isis_grids::live_row(a, Which::General, isis_grids::type_of(k))
+}
+
+// One row of the set of RSVP-TE.
+pub fn rsvp_te_row(a: &[u8], k: usize) -> [usize; 2]
+    requires { ⌜ (k < 10) × (faults runA checkA (elements 1 0 (now a)) ≡ accepted) ⌝ }
+    ensures { λ r. ⌜ r ≡ rowOf (getD gridCodes k 0) (rsvpTeKind (getD gridCodes k 0) (sideA (now (a .entry)))) ⌝ }
+{
+    selected_or_legacy(a, Which::Naming(0), isis_grids::type_of(k))
+}
+
 // The row of maximum link bandwidth: legacy, else of any live ASLA without L.
 fn maximum_row(a: &[u8]) -> [usize; 2]
     requires { ⌜ faults runA checkA (elements 1 0 (now a)) ≡ accepted ⌝ }
     ensures { λ r. ⌜ r ≡ rowOf 1089 (bandwidthKind 1089 (sideA (now (a .entry)))) ⌝ }
 {
-    let row = isis_grids::bandwidth_in(a, 0, 9);
+    let row = isis_grids::row_in(a, 0, 9);
     if row[0] != 0 {
         return row;
     }
-    isis_grids::live_bandwidth(a, Which::WithoutL, 9)
+    isis_grids::live_row(a, Which::WithoutL, 9)
 }
 
-// The row of a reservable or unreserved bandwidth, by its type: of the ASLAs that name RSVP-TE alone, else legacy; legacy where RSVP-TE is named with L.
-fn reservable_row(a: &[u8], t: u8) -> [usize; 2]
-    requires { ⌜ (10 ≤ t) × (t < 12) × (faults runA checkA (elements 1 0 (now a)) ≡ accepted) ⌝ }
-    ensures { λ r. ⌜ r ≡ rowOf (t + 1080) (bandwidthKind (t + 1080) (sideA (now (a .entry)))) ⌝ }
-{
-    if rsvp_te_with_l(a) {
-        return isis_grids::bandwidth_in(a, 0, t);
-    }
-    let row = isis_grids::live_bandwidth(a, Which::RsvpTeAlone, t);
-    if row[0] != 0 {
-        return row;
-    }
-    isis_grids::bandwidth_in(a, 0, t)
-}
-
-// The row of one of the link's bandwidths.
+// The row of one of the link's bandwidths. Those that can be reserved are taken of the ASLAs that name RSVP-TE alone, else of legacy.
 pub fn bandwidth_row(a: &[u8], code: usize) -> [usize; 2]
     requires { ⌜ (1089 ≤ code) × (code ≤ 1091) × (faults runA checkA (elements 1 0 (now a)) ≡ accepted) ⌝ }
     ensures { λ r. ⌜ r ≡ rowOf code (bandwidthKind code (sideA (now (a .entry)))) ⌝ }
 {
     match code {
         1089 => maximum_row(a),
-        1090 => reservable_row(a, 10),
-        _ => reservable_row(a, 11),
+        1090 => selected_or_legacy(a, Which::RsvpTeAlone, 10),
+        _ => selected_or_legacy(a, Which::RsvpTeAlone, 11),
     }
 }
 

@@ -1,5 +1,5 @@
--- A turn fills the grid from the element's list, if it has one that is selected.
-use Rattle.isis_grids.proofs.Aslas.{asla-headed, list-part-framed, list-part-room, live-read, live-unread, live-end, live-start, filled-nil}
+-- A turn fills the grid from the list of an ASLA, if it has one that is selected.
+use Rattle.isis_grids.proofs.Aslas.{asla-headed, list-other, list-part-framed, list-part-room, live-read, live-unread, live-end, live-start, filled-nil}
 use Rattle.isis_grids.proofs.Walks.{left-all, inside, rest-ok}
 use Rattle.isis_grids.proofs.Grids.{filled-append}
 use Rattle.isis_grids.specs.Selected.{selects, selected}
@@ -11,7 +11,7 @@ use Rattle.linkstate.specs.Elements.{faults}
 use Rattle.linkstate.specs.Replies.{accepted, runA}
 use Rattle.linkstate.specs.Lists.{each}
 use denote.Ref.{now}
-use lib.ListN.{length}
+use lib.ListN.{length, getD}
 use native.Mathlib.Omega.{arith}
 use mathlib.Core.Path.{_≡_, ap, _∙_}
 use Prim.Native.Nat.{_+_, _≤_, _-_}
@@ -43,11 +43,14 @@ add-next c = search needs
 add-next-2 : tie.Need-add-next-2 Inv-loop μ-loop
 add-next-2 c = let l = c .before .before .loop in omega (arith, inside checkA 0 (now (c .before .before .before .before .args .a)) (l .at) (c .before .loop-test .taken) (l .inv .1))
 
+shared-slice-read-if1 : tie.Need-shared-slice-read-if1 Inv-loop μ-loop
+shared-slice-read-if1 c = search needs
+
 list-at-requires : tie.Need-list-at-requires Inv-loop μ-loop
-list-at-requires c κs = let l = c .before .before .loop in
-    let x = c .before .before .before .before .args in
-    let here = c .before .loop-test .taken in
-    (inside checkA 0 (now (x .a)) (l .at) here (l .inv .1), asla-headed (now (x .a)) (l .at) here (l .inv .1))
+list-at-requires c κs = let l = c .before .before .before .before .loop in
+    let a = now (c .before .before .before .before .before .before .args .a) in
+    let here = c .before .before .before .loop-test .taken in
+    (c .if1 .taken, inside checkA 0 a (l .at) here (l .inv .1), asla-headed a (l .at) here (l .inv .1) (c .if1 .taken))
 
 sub-fill : tie.Need-sub-fill Inv-loop μ-loop
 sub-fill c = search needs
@@ -56,14 +59,14 @@ part-fill-start : tie.Need-part-fill-start Inv-loop μ-loop
 part-fill-start c = search needs
 
 part-fill-end : tie.Need-part-fill-end Inv-loop μ-loop
-part-fill-end c = let l = c .before .before .before .before .loop in inside checkA 0 (now (c .before .before .before .before .before .before .args .a)) (l .at) (c .before .before .before .loop-test .taken) (l .inv .1)
+part-fill-end c = let l = c .before .before .before .before .before .before .loop in inside checkA 0 (now (c .before .before .before .before .before .before .before .before .args .a)) (l .at) (c .before .before .before .before .before .loop-test .taken) (l .inv .1)
 
 fill-requires : tie.Need-fill-requires Inv-loop μ-loop
-fill-requires c κs = let l = c .before .before .before .before .before .loop in
-    let x = c .before .before .before .before .before .before .before .args in
-    let here = c .before .before .before .before .loop-test .taken in
+fill-requires c κs = let l = c .before .before .before .before .before .before .before .loop in
+    let x = c .before .before .before .before .before .before .before .before .before .args in
+    let here = c .before .before .before .before .before .before .loop-test .taken in
     let from = c .before .before .list-at .result in (
-      omega (arith, list-part-room (x .which) (now (x .a)) (l .at) here (l .inv .1) from (c .before .if1 .taken)),
+      omega (arith, list-part-room (x .which) (now (x .a)) (l .at) here (l .inv .1) from (c .before .if2 .taken)),
       list-part-framed (x .which) (now (x .a)) (l .at) here (l .inv .1) from (c .before .before .list-at .ensures),
     )
 
@@ -71,9 +74,9 @@ loop-less : tie.Need-loop-less Inv-loop μ-loop
 loop-less c = omega arith
 
 loop-again : tie.Need-loop-again Inv-loop μ-loop
-loop-again c = let l = c .before .before .before .before .before .before .loop in
-    let x = c .before .before .before .before .before .before .before .before .args in
-    let here = c .before .before .before .before .before .loop-test .taken in (
+loop-again c = let l = c .before .before .before .before .before .before .before .before .loop in
+    let x = c .before .before .before .before .before .before .before .before .before .before .args in
+    let here = c .before .before .before .before .before .before .before .loop-test .taken in (
       inside checkA 0 (now (x .a)) (l .at) here (l .inv .1),
       rest-ok checkA 0 (now (x .a)) (l .at) here (l .inv .1),
       live-read (x .which) (now (x .a)) (l .at) here (l .inv .1) filled filled-nil filled-append (l .g) (c .before .before .before .list-at .result) (c .before .before .before .list-at .ensures) (c .fill .result) (c .fill .ensures) ∙ l .inv .2,
@@ -83,12 +86,24 @@ loop-less-2 : tie.Need-loop-less-2 Inv-loop μ-loop
 loop-less-2 c = omega arith
 
 loop-again-2 : tie.Need-loop-again-2 Inv-loop μ-loop
-loop-again-2 c = let l = c .before .before .before .before .loop in
+loop-again-2 c = let l = c .before .before .before .before .before .before .loop in
+    let x = c .before .before .before .before .before .before .before .before .args in
+    let here = c .before .before .before .before .before .loop-test .taken in (
+      inside checkA 0 (now (x .a)) (l .at) here (l .inv .1),
+      rest-ok checkA 0 (now (x .a)) (l .at) here (l .inv .1),
+      live-unread (x .which) (now (x .a)) (l .at) here (l .inv .1) filled filled-nil filled-append (l .g) (c .before .list-at .result) (c .before .list-at .ensures) (c .if2 .left) ∙ l .inv .2,
+    )
+
+loop-less-3 : tie.Need-loop-less-3 Inv-loop μ-loop
+loop-less-3 c = omega arith
+
+loop-again-3 : tie.Need-loop-again-3 Inv-loop μ-loop
+loop-again-3 c = let l = c .before .before .before .before .loop in
     let x = c .before .before .before .before .before .before .args in
     let here = c .before .before .before .loop-test .taken in (
       inside checkA 0 (now (x .a)) (l .at) here (l .inv .1),
       rest-ok checkA 0 (now (x .a)) (l .at) here (l .inv .1),
-      live-unread (x .which) (now (x .a)) (l .at) here (l .inv .1) filled filled-nil filled-append (l .g) (c .before .list-at .result) (c .before .list-at .ensures) (c .if1 .left) ∙ l .inv .2,
+      live-unread (x .which) (now (x .a)) (l .at) here (l .inv .1) filled filled-nil filled-append (l .g) (l .at + 2 + getD (now (x .a)) (l .at + 1) 0) (list-other (x .which) (now (x .a)) (l .at) (c .if1 .left)) (omega arith) ∙ l .inv .2,
     )
 
 returns : tie.Need-returns Inv-loop μ-loop
@@ -106,6 +121,7 @@ live-grid-spec =
     cast-n
     add-next
     add-next-2
+    shared-slice-read-if1
     list-at-requires
     sub-fill
     part-fill-start
@@ -115,4 +131,6 @@ live-grid-spec =
     loop-again
     loop-less-2
     loop-again-2
+    loop-less-3
+    loop-again-3
     returns)

@@ -1,4 +1,4 @@
--- The row of a bandwidth, found by its type: the turns of the two loops that look for it.
+-- The row of one kind, found by its type: the turns of the two loops that look for it.
 use mathlib.Core.Path.{_≡_, refl, sym, ap, _∙_}
 use mathlib.Core.Bool.{Bool, true, false, cond}
 use mathlib.Core.List.{List, [], _∷_, _++_, append-assoc}
@@ -18,38 +18,38 @@ use Rattle.isis.specs.RunA.{attributesOf, checkA}
 use Rattle.isis_grids.specs.declared.Which.{Which}
 use Rattle.isis_grids.specs.Grid.{firstRow, rowOf, unchecked}
 use Rattle.isis_grids.specs.Selected.{selected, listAt}
-use Rattle.isis_grids.proofs.Types.{bandwidth-type}
+use Rattle.isis_grids.proofs.Types.{type-code}
 use Rattle.isis_grids.proofs.Grids.{All, Placed, eqb-swap, row-append, placed-each}
 use Rattle.isis_grids.proofs.Walks.{inside, turn}
 use Rattle.isis_grids.proofs.Aslas.{append-nil, listPart, live-read, live-unread}
 
 -- ---- in a list
 
-module _ (k : ℕ) (low : 9 ≤ k) (high : k < 12) (base : ℕ) (s : List ℕ) (at : ℕ) where
-  code-is : eqb (k + 1080) (codeOfType (getD s at 0)) ≡ eqb (getD s at 0) k
-  code-is = eqb-swap (k + 1080) (codeOfType (getD s at 0)) ∙ sym (bandwidth-type k low high (getD s at 0))
+module _ (k : ℕ) (known : codeOfType k ≡ 0 → ⊥) (base : ℕ) (s : List ℕ) (at : ℕ) where
+  code-is : eqb (codeOfType k) (codeOfType (getD s at 0)) ≡ eqb (getD s at 0) k
+  code-is = eqb-swap (codeOfType k) (codeOfType (getD s at 0)) ∙ sym (type-code k known (getD s at 0))
 
-  pub row-end : length s ≤ at → 0 ∷ 0 ∷ [] ≡ rowOf (k + 1080) (each attributesOf (left 1 base s at))
+  pub row-end : length s ≤ at → 0 ∷ 0 ∷ [] ≡ rowOf (codeOfType k) (each attributesOf (left 1 base s at))
   unfolding rowOf ofKind keep firstRow
-  row-end l = ap (rowOf (k + 1080)) (sym (each-end attributesOf 1 (omega arith) base s at l))
+  row-end l = ap (rowOf (codeOfType k)) (sym (each-end attributesOf 1 (omega arith) base s at l))
 
   module _ (here : at < length s) (ok : faults runA unchecked (left 1 base s at) ≡ accepted) where
     abbrev rest : List Attribute
     rest = each attributesOf (left 1 base s (at + 2 + getD s (at + 1) 0))
 
-    pub row-found : getD s at 0 ≡ k → (base + at + 2) ∷ getD s (at + 1) 0 ∷ [] ≡ rowOf (k + 1080) (each attributesOf (left 1 base s at))
+    pub row-found : getD s at 0 ≡ k → (base + at + 2) ∷ getD s (at + 1) 0 ∷ [] ≡ rowOf (codeOfType k) (each attributesOf (left 1 base s at))
     unfolding rowOf ofKind keep firstRow attributesOf attribute
     row-found e =
         let n = getD s (at + 1) 0 in
-        let m : eqb (k + 1080) (codeOfType (getD s at 0)) ≡ true = code-is ∙ eq-eqb (getD s at 0) k e in
-        sym (ap (rowOf (k + 1080)) (turn unchecked base s at here ok attributesOf)
+        let m : eqb (codeOfType k) (codeOfType (getD s at 0)) ≡ true = code-is ∙ eq-eqb (getD s at 0) k e in
+        sym (ap (rowOf (codeOfType k)) (turn unchecked base s at here ok attributesOf)
         ∙ (rw m (ap (λ (l : ℕ). (base + at + 2) ∷ l ∷ []) (length-bytesAt s (at + 2) n (inside unchecked base s at here ok)))))
 
-    pub row-next : (getD s at 0 ≡ k → ⊥) → rowOf (k + 1080) rest ≡ rowOf (k + 1080) (each attributesOf (left 1 base s at))
+    pub row-next : (getD s at 0 ≡ k → ⊥) → rowOf (codeOfType k) rest ≡ rowOf (codeOfType k) (each attributesOf (left 1 base s at))
     unfolding rowOf ofKind keep attributesOf attribute
     row-next e =
-        let m : eqb (k + 1080) (codeOfType (getD s at 0)) ≡ false = code-is ∙ ne-eqb (getD s at 0) k e in
-        sym (ap (rowOf (k + 1080)) (turn unchecked base s at here ok attributesOf) ∙ (rw m refl))
+        let m : eqb (codeOfType k) (codeOfType (getD s at 0)) ≡ false = code-is ∙ ne-eqb (getD s at 0) k e in
+        sym (ap (rowOf (codeOfType k)) (turn unchecked base s at here ok attributesOf) ∙ (rw m refl))
 
 -- ---- in the selected lists
 
