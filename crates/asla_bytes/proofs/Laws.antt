@@ -3,7 +3,6 @@ use Prim.Native.Nat.{ℕ, _+_, _-_, _≤_, _<_}
 use mathlib.Core.Path.{_≡_, refl, sym, _∙_, ap, ap₂}
 use mathlib.Core.Bool.{Bool}
 use mathlib.Core.List.{List, [], _∷_, _++_, append-assoc}
-use lib.Dec.{ltb}
 use lib.ListN.{length, length-append}
 use native.Mathlib.Omega.{arith}
 use borrow.Author.Tests.{lt-ltb, le-ltb}
@@ -11,12 +10,17 @@ use Rattle.linkstate.specs.Lists.{put}
 use Rattle.linkstate.specs.Bytes.{two}
 use Rattle.linkstate.specs.Kinds.{applicationCodes}
 use Rattle.linkstate.specs.Masks.{user, inNumber, maskSize, mask}
+use Rattle.linkstate.specs.Meaning.{row}
 use Rattle.linkstate.specs.Export.{tlv, bytesOf, aslaValue}
 use Rattle.octets.proofs.Laws.{put-then}
-use Rattle.masks.proofs.Laws.{size-same, mask-same, length-mask}
+use Rattle.masks.proofs.Laws.{size-same, size-le, mask-same, length-mask}
 use Rattle.set_bytes.specs.Sets.{inTlvs}
-use Rattle.set_bytes.proofs.Laws.{length-tlv}
+use Rattle.set_bytes.proofs.Laws.{length-tlv, tlvs-same}
 use Rattle.asla_bytes.specs.Applications.{inNumbers, aslaHead}
+
+-- A mask's length is small.
+pub small : (m r : ℕ) → r ≡ maskSize (inNumber m) → r ≤ 8
+small m r e = omega (arith, size-le (inNumber m))
 
 -- The masks of two numbers.
 module _ (s u : ℕ) where
@@ -62,10 +66,22 @@ length-asla s u f =
     length-tlv 1122 (aslaValue (inNumbers s u) f)
     ∙ omega (arith, length-value (inNumbers s u) f, length-head s u)
 
+-- The value depends on the applications below 64 of each kind, and on the values of the set.
+pub asla-same : (p q : ℕ → Bool) (f h : ℕ → List ℕ) → ((n : ℕ) → n < 64 → p n ≡ q n) → ((n : ℕ) → n < 64 → p (user n) ≡ q (user n)) → row f ≡ row h → aslaValue p f ≡ aslaValue q h
+unfolding aslaValue row
+asla-same p q f h i j e =
+    let a = size-same p q i in
+    let b = size-same (λ n. p (user n)) (λ n. q (user n)) j in
+    let c = mask-same p q i in
+    let d = mask-same (λ n. p (user n)) (λ n. q (user n)) j in
+    let t = tlvs-same f h applicationCodes e in
+    cc
+
 -- ---- an ASLA TLV written in parts
 
-pub put-sizes : (d e f : List ℕ) (at x y s u : ℕ) → e ≡ put d at (x ∷ y ∷ []) → f ≡ put e (at + 2) (0 ∷ 0 ∷ []) → x ≡ s → y ≡ u → at + 4 ≤ length d → f ≡ put d at (s ∷ u ∷ 0 ∷ 0 ∷ [])
-put-sizes d e f at x y s u p q i j h = put-then d e f at (x ∷ y ∷ []) (at + 2) (0 ∷ 0 ∷ []) p q refl (omega arith) ∙ ap (put d at) (cc)
+pub put-sizes : (d e f : List ℕ) (at x y v w s u : ℕ) → e ≡ put d at (x ∷ y ∷ []) → f ≡ put e (at + 2) (v ∷ w ∷ []) → x ≡ s → y ≡ u → v ≡ 0 → w ≡ 0 → at + 4 ≤ length d
+    → f ≡ put d at (s ∷ u ∷ 0 ∷ 0 ∷ [])
+put-sizes d e f at x y v w s u p q i j k l h = put-then d e f at (x ∷ y ∷ []) (at + 2) (v ∷ w ∷ []) p q refl (omega arith) ∙ ap (put d at) (cc)
 
 head-length : (n : ℕ) (v : List ℕ) → length (two 1122 ++ two n ++ v) ≡ 4 + length v
 unfolding two

@@ -1,6 +1,6 @@
 -- The applications of an ASLA TLV as two numbers, and the bytes before its set (rules I7, L4, L5).
 use mathlib.Core.Bool.{Bool, cond}
-use mathlib.Core.List.{List, [], _∷_, _++_}
+use mathlib.Core.List.{List, _∷_, _++_}
 use Prim.Native.Nat.{ℕ, _-_}
 use lib.Dec.{ltb}
 use Rattle.linkstate.specs.Masks.{user, inNumber, maskSize, mask}

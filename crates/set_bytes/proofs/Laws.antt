@@ -7,19 +7,18 @@ use lib.Dec.{eqb}
 use lib.ListN.{length, take, drop, getD, replicate, length-append}
 use lib.Seq.{take-add, drop-cons, drop-drop}
 use native.Mathlib.Omega.{arith}
-use native.Mathlib.Numerals.{add-one}
 use borrow.Author.Tests.{eqb-false, eq-eqb, ne-eqb}
 use Rattle.linkstate.specs.Lists.{all, each, empty, put}
 use Rattle.linkstate.specs.Bytes.{two, bytesAt, bytesOfWords}
 use Rattle.linkstate.specs.Kinds.{codes, linkCodes, applicationCodes, isLinkCode}
-use Rattle.linkstate.specs.Export.{Tlv, tlv, bytesOf, present}
+use Rattle.linkstate.specs.Meaning.{Meaning, row}
+use Rattle.linkstate.specs.Export.{tlv, bytesOf, present, topValue}
 use Rattle.kinds.specs.Rules.{gridCodes, rowIn}
 use Rattle.kinds.proofs.Computing.{computing}
 use Rattle.octets.proofs.Laws.{length-bytesAt, put-nil, put-then}
 use Rattle.srlg.proofs.Laws.{length-bytesOfWords}
 use Rattle.set_bytes.specs.Sets.{inTlvs, front, rowValue, setOf, bandwidthOf, topOf, lowCodes, highCodes, RowFits, Fits, Short, rowRead, rowFor, codesFrom}
 use Rattle.set_bytes.proofs.Codes.{other-code, code-srlg}
-use Rattle.set_bytes.specs.declared.Row.{Row}
 use Rattle.set_bytes.specs.declared.Row.the-variants.{Present, Absent}
 
 -- ---- the TLVs of a set
@@ -52,6 +51,19 @@ module _ (f : ℕ → List ℕ) where
   unfolding each present empty
   tlv-present k [] e h = absurd (omega arith)
   tlv-present k (b ∷ v) e h = rw e (append-nil (bytesOf (tlv k (b ∷ v))))
+
+-- Sets with the same values of some kinds have the same TLVs of them.
+pub tlvs-same : (f h : ℕ → List ℕ) (ks : List ℕ) → map f ks ≡ map h ks → inTlvs f ks ≡ inTlvs h ks
+unfolding each present
+tlvs-same f h [] e = refl
+tlvs-same f h (k ∷ ks) e =
+    let here : f k ≡ h k = cc in
+    let rest : map f ks ≡ map h ks = cc in
+    rw here (go (empty (h k)) (tlvs-same f h ks rest))
+  where
+    go : (b : Bool) → inTlvs f ks ≡ inTlvs h ks → each bytesOf (cond b (present ks f) (tlv k (h k) ∷ present ks f)) ≡ each bytesOf (cond b (present ks h) (tlv k (h k) ∷ present ks h))
+    go true e = e
+    go false e = ap (λ (l : List ℕ). bytesOf (tlv k (h k)) ++ l) e
 
 -- ---- the kinds from one place to another
 
@@ -288,17 +300,17 @@ put-row d e f o a at t n k p m x y z r s w h le =
 abbrev pub noRows : List (List ℕ)
 noRows = replicate 3 (0 ∷ 0 ∷ [])
 
-pub none-short : Short noRows
-none-short zero = omega arith
-none-short (suc zero) = omega arith
-none-short (suc (suc zero)) = omega arith
-none-short (suc (suc (suc k))) = omega arith
+absent-fits : (a r : List ℕ) → getD r 0 0 ≡ 0 → getD r 1 0 ≡ 0 → RowFits a r
+absent-fits a r e f = record { within = omega arith; short = omega arith; some = λ z. absurd (z e) }
 
 pub none-fit : (a : List ℕ) → Fits a noRows
-none-fit a zero = record { within = omega arith; short = omega arith; some = λ z. absurd (z refl) }
-none-fit a (suc zero) = record { within = omega arith; short = omega arith; some = λ z. absurd (z refl) }
-none-fit a (suc (suc zero)) = record { within = omega arith; short = omega arith; some = λ z. absurd (z refl) }
-none-fit a (suc (suc (suc k))) = record { within = omega arith; short = omega arith; some = λ z. absurd (z refl) }
+none-fit a zero = absent-fits a (0 ∷ 0 ∷ []) refl refl
+none-fit a (suc zero) = absent-fits a (0 ∷ 0 ∷ []) refl refl
+none-fit a (suc (suc zero)) = absent-fits a (0 ∷ 0 ∷ []) refl refl
+none-fit a (suc (suc (suc k))) = absent-fits a [] refl refl
+
+pub none-short : Short noRows
+none-short k = none-fit [] k .short
 
 -- An application's set is what stands at the top of a run with no bandwidths.
 pub set-is : (a : List ℕ) (g : List (List ℕ)) (ns : List ℕ) → inTlvs (topOf a noRows g ns) (codesFrom 0 14) ≡ inTlvs (setOf a g ns) applicationCodes
@@ -342,3 +354,16 @@ empty-is f (k ∷ ks) = go (empty (f k)) (empty-is f ks)
     go : (b : Bool) → eqb (length (inTlvs f ks)) 0 ≡ all empty (map f ks) → eqb (length (each bytesOf (cond b (present ks f) (tlv k (f k) ∷ present ks f)))) 0 ≡ b && all empty (map f ks)
     go true e = e
     go false e = ne-eqb (length (bytesOf (tlv k (f k)) ++ inTlvs f ks)) 0 (λ z. omega (arith, length-tlv k (f k), length-append (bytesOf (tlv k (f k))) (inTlvs f ks)))
+
+-- A meaning whose bandwidths and RSVP-TE set are these has the same TLVs at the top of its run.
+module _ (m : Meaning) (a : List ℕ) (l g : List (List ℕ)) (ns : List ℕ) (e : map (m .bandwidth) linkCodes ≡ map (bandwidthOf a l) linkCodes) (f : row (m .rsvpTe) ≡ row (setOf a g ns)) where
+  low-same : map (topValue m) lowCodes ≡ map (topOf a l g ns) lowCodes
+  unfolding computing topOf
+  low-same = cc
+
+  high-same : map (topValue m) highCodes ≡ map (topOf a l g ns) highCodes
+  unfolding computing topOf
+  high-same = cc
+
+  pub top-same : (inTlvs (topValue m) lowCodes ≡ inTlvs (topOf a l g ns) lowCodes) × (inTlvs (topValue m) highCodes ≡ inTlvs (topOf a l g ns) highCodes)
+  top-same = (tlvs-same (topValue m) (topOf a l g ns) lowCodes low-same, tlvs-same (topValue m) (topOf a l g ns) highCodes high-same)

@@ -44,12 +44,13 @@ lowCodes = keep (λ k. ltb k 1122) codes
 abbrev pub highCodes : List ℕ
 highCodes = keep (λ k. ltb 1122 k) codes
 
--- A row that fits: its value lies within run A and is one of an accepted link.
+-- A row that fits run A: it is absent, or its value lies within the run and has 1 to 252 bytes.
 pub record RowFits (a r : List ℕ) : Type 0 where
   pub within : getD r 0 0 + getD r 1 0 ≤ length a
   pub short : getD r 1 0 ≤ 252
   pub some : (getD r 0 0 ≡ 0 → ⊥) → 0 < getD r 1 0
 
+-- Every row of a grid fits; every row is short, which is all that a size asks.
 abbrev pub Fits : List ℕ → List (List ℕ) → Type 0
 Fits a g = (k : ℕ) → RowFits a (getD g k [])
 

@@ -10,6 +10,13 @@ ghost use Rattle.linkstate.specs.Meaning.{row};
 ghost use Rattle.linkstate.specs.Export.{tlv, bytesOf};
 ghost use Rattle.set_bytes.specs.Sets.{inTlvs, front, setOf, topOf, lowCodes, highCodes, Fits, Short, rowRead, rowFor, codesFrom};
 
+// Places among the fourteen kinds, ascending by code: that of the SRLGs, the first after the ASLA TLVs, and the end.
+const SRLGS: usize = 5;
+
+const AFTER_ASLA: usize = 13;
+
+const END: usize = 14;
+
 // The value of a kind in run A, by its row of a grid.
 pub enum Row {
     Present { place: usize, len: usize },
@@ -17,7 +24,7 @@ pub enum Row {
 }
 
 // A row of place and length, taken as such.
-pub fn read_row(row: [usize; 2]) -> Row
+fn read_row(row: [usize; 2]) -> Row
     ensures { λ r. ⌜ r ≡ rowRead row ⌝ }
 {
     let place = row[0];
@@ -32,13 +39,13 @@ fn code_at(i: usize) -> u16
     requires { ⌜ i < 14 ⌝ }
     ensures { λ r. ⌜ r ≡ getD codes i 0 ⌝ }
 {
-    if i < 5 {
+    if i < SRLGS {
         return 1088 + (i as u16);
     }
-    if i == 5 {
+    if i == SRLGS {
         return 1096;
     }
-    if i < 13 {
+    if i < AFTER_ASLA {
         return 1108 + (i as u16);
     }
     1173
@@ -89,7 +96,7 @@ fn kinds_size(l: [[usize; 2]; 3], g: [[usize; 2]; 10], n: usize, from: usize, to
 {
     let mut total: usize = 0;
     for i in from..to {
-        if i == 5 {
+        if i == SRLGS {
             total = total + srlgs_size(n);
             continue;
         }
@@ -165,7 +172,7 @@ fn write_kinds(
 {
     let mut next = at;
     for i in from..to {
-        if i == 5 {
+        if i == SRLGS {
             next = write_srlgs(srlgs, out, next);
             continue;
         }
@@ -183,7 +190,7 @@ pub fn set_size(g: [[usize; 2]; 10], srlgs: usize) -> usize
     ensures { λ r. ⌜ (r ≤ 28728) × ((a ns : List ℕ) → Fits a g → length ns ≡ srlgs → r ≡ length (inTlvs (setOf a g ns) applicationCodes)) ⌝ }
 {
     let l = [[0usize; 2]; 3];
-    kinds_size(l, g, srlgs, 0, 14)
+    kinds_size(l, g, srlgs, 0, END)
 }
 
 // Whether an application's set is empty.
@@ -200,7 +207,7 @@ pub fn write_set(a: &[u8], g: [[usize; 2]; 10], srlgs: &[u32], out: &mut [u8], a
     ensures { λ r. ⌜ (r ≡ at + length (inTlvs (setOf (now (a .entry)) g (now (srlgs .entry))) applicationCodes)) × (now (out .exit) ≡ put (now (out .entry)) at (inTlvs (setOf (now (a .entry)) g (now (srlgs .entry))) applicationCodes)) ⌝ }
 {
     let l = [[0usize; 2]; 3];
-    write_kinds(a, l, g, srlgs, 0, 14, out, at)
+    write_kinds(a, l, g, srlgs, 0, END, out, at)
 }
 
 // How many bytes the TLVs at the top of a run have, those before the ASLA TLVs and those after them.
@@ -208,7 +215,7 @@ pub fn top_size(l: [[usize; 2]; 3], g: [[usize; 2]; 10], srlgs: usize) -> usize
     requires { ⌜ (srlgs ≤ 512) × Short l × Short g ⌝ }
     ensures { λ r. ⌜ (r ≤ 28728) × ((a ns : List ℕ) → Fits a l → Fits a g → length ns ≡ srlgs → r ≡ length (inTlvs (topOf a l g ns) lowCodes) + length (inTlvs (topOf a l g ns) highCodes)) ⌝ }
 {
-    kinds_size(l, g, srlgs, 0, 14)
+    kinds_size(l, g, srlgs, 0, END)
 }
 
 // The TLVs at the top of a run that come before the ASLA TLVs, ascending; the place after them.
@@ -223,7 +230,7 @@ pub fn write_top_low(
     requires { ⌜ Fits (now a) l × Fits (now a) g × (length (now srlgs) ≤ 512) × (at + length (inTlvs (topOf (now a) l g (now srlgs)) lowCodes) ≤ length (now out)) ⌝ }
     ensures { λ r. ⌜ (r ≡ at + length (inTlvs (topOf (now (a .entry)) l g (now (srlgs .entry))) lowCodes)) × (now (out .exit) ≡ put (now (out .entry)) at (inTlvs (topOf (now (a .entry)) l g (now (srlgs .entry))) lowCodes)) ⌝ }
 {
-    write_kinds(a, l, g, srlgs, 0, 13, out, at)
+    write_kinds(a, l, g, srlgs, 0, AFTER_ASLA, out, at)
 }
 
 // Those that come after the ASLA TLVs.
@@ -238,5 +245,5 @@ pub fn write_top_high(
     requires { ⌜ Fits (now a) l × Fits (now a) g × (length (now srlgs) ≤ 512) × (at + length (inTlvs (topOf (now a) l g (now srlgs)) highCodes) ≤ length (now out)) ⌝ }
     ensures { λ r. ⌜ (r ≡ at + length (inTlvs (topOf (now (a .entry)) l g (now (srlgs .entry))) highCodes)) × (now (out .exit) ≡ put (now (out .entry)) at (inTlvs (topOf (now (a .entry)) l g (now (srlgs .entry))) highCodes)) ⌝ }
 {
-    write_kinds(a, l, g, srlgs, 13, 14, out, at)
+    write_kinds(a, l, g, srlgs, AFTER_ASLA, END, out, at)
 }

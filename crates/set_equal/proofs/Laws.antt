@@ -1,7 +1,7 @@
 -- Laws of equal values, grids and sets. Assumes nothing.
 use Prim.Native.Nat.{ℕ, zero, suc, _+_, _≤_, _<_}
 use mathlib.Core.Path.{_≡_, refl, sym, _∙_, ap}
-use mathlib.Core.Bool.{Bool, true, false, cond, _&&_}
+use mathlib.Core.Bool.{Bool, true, false, _&&_}
 use mathlib.Core.List.{List, [], _∷_, _++_, map}
 use lib.Dec.{eqb}
 use lib.ListN.{length, getD, drop, drop-of-length-le}
@@ -17,9 +17,9 @@ use Rattle.kinds.specs.Rules.{gridCodes, rowIn}
 use Rattle.kinds.proofs.Computing.{computing}
 use Rattle.octets.proofs.Laws.{same-complete, same-sound, same-not, same-lengths}
 use Rattle.srlg.proofs.Laws.{words-bytesOfWords}
-use Rattle.set_bytes.specs.Sets.{front, rowValue, setOf, RowFits, Fits}
+use Rattle.set_bytes.specs.Sets.{front, rowValue, setOf, RowFits}
 use Rattle.set_bytes.proofs.Laws.{length-value}
-use Rattle.set_equal.specs.Grids.{gridOf}
+use Rattle.set_equal.specs.Grids.{gridValue}
 
 -- ---- rows
 
@@ -82,24 +82,24 @@ row-of (suc (suc (suc (suc (suc (suc (suc (suc zero)))))))) h = refl
 row-of (suc (suc (suc (suc (suc (suc (suc (suc (suc zero))))))))) h = refl
 row-of (suc (suc (suc (suc (suc (suc (suc (suc (suc (suc k)))))))))) h = absurd (omega arith)
 
-grid-at : (a : List ℕ) (g : List (List ℕ)) (k : ℕ) → k < 10 → gridOf a g (getD gridCodes k 0) ≡ rowValue a (getD gridCodes k 0) (getD g k [])
-unfolding gridOf
+grid-at : (a : List ℕ) (g : List (List ℕ)) (k : ℕ) → k < 10 → gridValue a g (getD gridCodes k 0) ≡ rowValue a (getD gridCodes k 0) (getD g k [])
+unfolding gridValue
 grid-at a g k h = ap (λ (j : ℕ). rowValue a (getD gridCodes k 0) (getD g j [])) (row-of k h)
 
 -- Two grids from a row on.
 module _ (a : List ℕ) (g h : List (List ℕ)) (k : ℕ) where
   abbrev pub From : Bool
-  From = sameRows (map (gridOf a g) (drop k gridCodes)) (map (gridOf a h) (drop k gridCodes))
+  From = sameRows (map (gridValue a g) (drop k gridCodes)) (map (gridValue a h) (drop k gridCodes))
 
   pub grids-end : 10 ≤ k → true ≡ From
   unfolding sameRows
   grids-end l = rw (drop-of-length-le gridCodes {i = k} (omega (arith, ten)))
 
   module _ (l : k < 10) (r : Bool) (is : (c : ℕ) → r ≡ sameBytes (rowValue a c (getD g k [])) (rowValue a c (getD h k []))) where
-    here : sameBytes (gridOf a g (getD gridCodes k 0)) (gridOf a h (getD gridCodes k 0)) ≡ r
+    here : sameBytes (gridValue a g (getD gridCodes k 0)) (gridValue a h (getD gridCodes k 0)) ≡ r
     here = rw (grid-at a g k l, grid-at a h k l) (sym (is (getD gridCodes k 0)))
 
-    pub grids-next : r ≡ true → From ≡ sameRows (map (gridOf a g) (drop (k + 1) gridCodes)) (map (gridOf a h) (drop (k + 1) gridCodes))
+    pub grids-next : r ≡ true → From ≡ sameRows (map (gridValue a g) (drop (k + 1) gridCodes)) (map (gridValue a h) (drop (k + 1) gridCodes))
     unfolding sameRows
     grids-next t = rw (add-one k, drop-cons gridCodes k 0 (omega (arith, ten)), here ∙ t)
 
@@ -127,11 +127,11 @@ third-first false q true t = refl
 third-first false q false t = refl
 
 module _ (a : List ℕ) (g h : List (List ℕ)) (xs ys : List ℕ) where
-  sets-are : sameRows (row (setOf a g xs)) (row (setOf a h ys)) ≡ sameBytes (bytesOfWords xs) (bytesOfWords ys) && sameRows (map (gridOf a g) gridCodes) (map (gridOf a h) gridCodes)
-  unfolding row setOf gridOf applicationCodes gridCodes computing
-  sets-are = third-first (sameBytes (gridOf a g 1088) (gridOf a h 1088)) (sameBytes (gridOf a g 1092) (gridOf a h 1092)) (sameBytes (bytesOfWords xs) (bytesOfWords ys)) _
+  sets-are : sameRows (row (setOf a g xs)) (row (setOf a h ys)) ≡ sameBytes (bytesOfWords xs) (bytesOfWords ys) && sameRows (map (gridValue a g) gridCodes) (map (gridValue a h) gridCodes)
+  unfolding row setOf gridValue applicationCodes gridCodes computing
+  sets-are = third-first (sameBytes (gridValue a g 1088) (gridValue a h 1088)) (sameBytes (gridValue a g 1092) (gridValue a h 1092)) (sameBytes (bytesOfWords xs) (bytesOfWords ys)) _
 
-  pub sets-same : (p q : Bool) → p ≡ sameBytes xs ys → p ≡ true → q ≡ sameRows (map (gridOf a g) gridCodes) (map (gridOf a h) gridCodes) → q ≡ sameRows (row (setOf a g xs)) (row (setOf a h ys))
+  pub sets-same : (p q : Bool) → p ≡ sameBytes xs ys → p ≡ true → q ≡ sameRows (map (gridValue a g) gridCodes) (map (gridValue a h) gridCodes) → q ≡ sameRows (row (setOf a g xs)) (row (setOf a h ys))
   sets-same p q e t f = rw (sets-are, same-words xs ys, sym e ∙ t) f
 
   pub sets-differ : (p : Bool) → p ≡ sameBytes xs ys → p ≡ false → false ≡ sameRows (row (setOf a g xs)) (row (setOf a h ys))

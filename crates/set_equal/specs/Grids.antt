@@ -5,5 +5,5 @@ use lib.ListN.{getD}
 use Rattle.kinds.specs.Rules.{gridCodes, rowIn}
 use Rattle.set_bytes.specs.Sets.{rowValue}
 
-unfoldable pub gridOf : List ℕ → List (List ℕ) → ℕ → List ℕ
-gridOf a g c = rowValue a c (getD g (rowIn gridCodes c) [])
+unfoldable pub gridValue : List ℕ → List (List ℕ) → ℕ → List ℕ
+gridValue a g c = rowValue a c (getD g (rowIn gridCodes c) [])

@@ -6,7 +6,7 @@ ghost use Rattle.linkstate.specs.Lists.{sameBytes, sameRows};
 ghost use Rattle.linkstate.specs.Meaning.{row};
 ghost use Rattle.kinds.specs.Rules.{gridCodes};
 ghost use Rattle.set_bytes.specs.Sets.{rowValue, setOf, RowFits, Fits};
-ghost use Rattle.set_equal.specs.Grids.{gridOf};
+ghost use Rattle.set_equal.specs.Grids.{gridValue};
 
 // Whether two lists of numbers are equal. The loop has no early return, so it compiles to compares of many numbers at a time.
 fn same_numbers(x: &[u32], y: &[u32]) -> bool
@@ -50,7 +50,7 @@ fn same_row(a: &[u8], x: [usize; 2], y: [usize; 2]) -> bool
 // Whether two grids stand for the same values.
 fn same_grids(a: &[u8], g: [[usize; 2]; 10], h: [[usize; 2]; 10]) -> bool
     requires { ⌜ Fits (now a) g × Fits (now a) h ⌝ }
-    ensures { λ r. ⌜ r ≡ sameRows (map (gridOf (now (a .entry)) g) gridCodes) (map (gridOf (now (a .entry)) h) gridCodes) ⌝ }
+    ensures { λ r. ⌜ r ≡ sameRows (map (gridValue (now (a .entry)) g) gridCodes) (map (gridValue (now (a .entry)) h) gridCodes) ⌝ }
 {
     for k in 0..10 {
         if !same_row(a, g[k], h[k]) {

@@ -1,8 +1,6 @@
 -- `set_bytes::kinds_size` meets its contract: what is counted so far are the TLVs of the kinds passed. Assumes nothing.
 use Rattle.set_bytes.proofs.Laws.{tlvs-none, codes-none, row-is, every-row, here-absent, here-size, here-srlgs, length-next}
 use Rattle.set_bytes.specs.Sets.{inTlvs, topOf, Fits, rowFor, codesFrom}
-use Rattle.linkstate.specs.Export.{bytesOf, present}
-use Rattle.linkstate.specs.Lists.{each}
 use borrow.Author.Needs.{needs}
 use lib.ListN.{length, getD}
 use Rattle.linkstate.specs.Kinds.{codes}

@@ -6,7 +6,7 @@ use Rattle.linkstate.specs.Lists.{put}
 use denote.Ref.{now}
 use lib.ListN.{length}
 use native.Mathlib.Omega.{arith}
-use mathlib.Core.Path.{_≡_, sym, _∙_, ap}
+use mathlib.Core.Path.{sym, _∙_, ap}
 use borrow.Author.Needs.{needs}
 use Rattle.set_bytes.proofs.write_srlgs.Statement.{statement}
 use Rattle.set_bytes.proofs.write_srlgs.Tie as tie

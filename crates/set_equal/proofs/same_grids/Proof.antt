@@ -1,6 +1,6 @@
 -- `set_equal::same_grids` meets its contract: the rows passed are the same, and those left decide. Assumes nothing.
 use Rattle.set_equal.proofs.Laws.{From, grids-end, grids-next, grids-differ}
-use Rattle.set_equal.specs.Grids.{gridOf}
+use Rattle.set_equal.specs.Grids.{gridValue}
 use Rattle.kinds.specs.Rules.{gridCodes}
 use Rattle.linkstate.specs.Lists.{sameRows}
 use borrow.Author.Tests.{not-true, not-false}
@@ -14,7 +14,7 @@ use Rattle.set_equal.proofs.same_grids.Statement.{statement}
 use Rattle.set_equal.proofs.same_grids.Tie as tie
 
 abbrev Inv-loop : tie.InvT-loop
-Inv-loop a g h k₀ k = (k ≤ 10) × (From a g h k ≡ sameRows (map (gridOf a g) gridCodes) (map (gridOf a h) gridCodes))
+Inv-loop a g h k₀ k = (k ≤ 10) × (From a g h k ≡ sameRows (map (gridValue a g) gridCodes) (map (gridValue a h) gridCodes))
 
 abbrev μ-loop : tie.MeasureT-loop
 μ-loop a g h k₀ k = 10 - k
