@@ -1,12 +1,12 @@
 -- The verdict on a link, check by check: the refusals of the call, then run A, then run B.
-use mathlib.Core.Path.{_≡_, refl, sym, ap, _∙_}
-use mathlib.Core.Bool.{Bool, true, false, cond, _||_, not}
+use mathlib.Core.Path.{_≡_}
+use mathlib.Core.Bool.{Bool, true, false, _||_}
 use mathlib.Core.List.{List}
 use Prim.Native.Nat.{ℕ, _%_}
 use borrow.Author.Tests.{ne-eqb, eq-eqb}
-use lib.Dec.{eqb, ltb}
+use lib.Dec.{ltb}
 use lib.ListN.{length}
-use Rattle.linkstate.specs.Replies.{Verdict, accepted, refused, Refusal, refusalAt, fault, faultOfCall, refusedIf, _then_, runA, runB}
+use Rattle.linkstate.specs.Replies.{refused, refusalAt, fault, faultOfCall, refusedIf, _then_, runA, runB}
 use Rattle.linkstate.specs.Elements.{elements, faults}
 use Rattle.isis.specs.RunA.{checkA}
 use Rattle.isis.specs.RunB.{checkB}
@@ -25,11 +25,6 @@ module _ (a b c : List ℕ) where
     unfolding linkVerdict refusedIf faultOfCall fault _then_
     link-odd n = rw (t, ne-eqb (length c % 4) 0 n)
 
-    module _ (e : length c % 4 ≡ 0) where
-      pub link-a : (r : Refusal) → refused r ≡ faults runA checkA (elements 1 0 a) → refused r ≡ linkVerdict a b c
-      unfolding linkVerdict refusedIf _then_
-      link-a r f = rw (t, eq-eqb (length c % 4) 0 e, sym f)
-
-      pub link-b : accepted ≡ faults runA checkA (elements 1 0 a) → faults runB checkB (elements 1 0 b) ≡ linkVerdict a b c
-      unfolding linkVerdict refusedIf _then_
-      link-b f = rw (t, eq-eqb (length c % 4) 0 e, sym f)
+    pub link-runs : length c % 4 ≡ 0 → (faults runA checkA (elements 1 0 a) then faults runB checkB (elements 1 0 b)) ≡ linkVerdict a b c
+    unfolding linkVerdict refusedIf _then_
+    link-runs e = rw (t, eq-eqb (length c % 4) 0 e)

@@ -2,6 +2,7 @@
 ghost use mathlib.Core.Path.{_≡_};
 ghost use mathlib.Core.Bool.{_||_};
 ghost use lib.Dec.{ltb};
+ghost use Rattle.linkstate.specs.Replies.{_then_};
 ghost use Rattle.isis.specs.Link.{linkVerdict};
 ghost use Rattle.replies.specs.Told.{toldChecked};
 use replies::Checked;
@@ -19,6 +20,16 @@ fn too_long(a: usize, b: usize, c: usize) -> bool
     1024 < c
 }
 
+// The first refusal of two checks.
+fn first_refusal(x: Checked, y: Checked) -> Checked
+    ensures { λ r. ⌜ toldChecked r ≡ (toldChecked x then toldChecked y) ⌝ }
+{
+    match x {
+        Checked::Accepted => y,
+        Checked::Refused(r) => Checked::Refused(r),
+    }
+}
+
 // Checks a link before anything is read from it. `a` holds the sub-TLVs of its neighbour entry, `b` its TLVs 238, `c` its legacy SRLG values.
 // Takes any bytes, walks each run once, and keeps nothing.
 // Accepted: every question to the link and its export can be answered from these runs.
@@ -33,8 +44,7 @@ pub fn check_link(a: &[u8], b: &[u8], c: &[u8]) -> Checked
     if c.len() % 4 != 0 {
         return Checked::Refused(replies::refuse_call(2));
     }
-    if let Checked::Refused(r) = isis_check_a::check_a(a) {
-        return Checked::Refused(r);
-    }
-    isis_check_b::check_b(b)
+    let of_a = isis_check_a::check_a(a);
+    let of_b = isis_check_b::check_b(b);
+    first_refusal(of_a, of_b)
 }

@@ -1,94 +1,100 @@
 -- What framing at a position says of the elements that are left there, and one turn of a loop that checks them.
-use mathlib.Core.Path.{_≡_, refl, sym, ap, ap₂, _∙_}
+use mathlib.Core.Path.{_≡_, refl, sym, ap, ap₂, _∙_, subst}
 use mathlib.Core.Logic.{_⊎_, inl, inr}
 use mathlib.Core.Bool.{Bool, true, false, cond, _&&_}
-use mathlib.Core.List.{List, [], _∷_}
+use mathlib.Core.List.{List}
 use Prim.Native.Nat.{ℕ, _+_, _-_, _≤_, _<_}
 use native.Mathlib.Omega.{arith}
-use borrow.Author.Tests.{le-leb, lt-leb, leb-true, leb-false, lt-ltb, le-ltb, ne-eqb}
-use lib.Dec.{leb}
+use borrow.Author.Tests.{le-leb, lt-leb, leb-true, leb-false, lt-ltb, le-ltb, ltb-true, ltb-false, ne-eqb}
+use lib.Dec.{leb, ltb}
 use lib.ListN.{length, take, drop, getD, length-drop}
 use lib.Seq.{take-all}
 use Rattle.linkstate.specs.Bytes.{bytesAt}
 use Rattle.linkstate.specs.Kinds.{wrongInA}
-use Rattle.linkstate.specs.Replies.{Run, runA, Verdict, accepted, refused, Refusal, fault, _then_}
+use Rattle.linkstate.specs.Replies.{Run, runA, Verdict, accepted, refused, Refusal, fault}
 use Rattle.linkstate.specs.Elements.{elements, faults}
-use Rattle.linkstate.proofs.WalkLaws.{left, typeAt, lengthAt, type-one, length-one, faults-cut, faults-turn, faults-pass, faults-stop}
+use Rattle.linkstate.proofs.WalkLaws.{left, typeAt, type-one, length-one, faults-end, faults-cut, faults-pass, faults-stop}
 use Rattle.octets.proofs.Laws.{length-bytesAt, part-is}
 use Rattle.replies.specs.declared.Refusal.{Refusal as Told}
 use Rattle.replies.specs.declared.Checked.{Checked}
-use Rattle.replies.specs.declared.Checked.the-variants as Checks
 use Rattle.replies.specs.Told.{toldChecked, toldRefusal}
+use Rattle.replies.specs.declared.Checked.the-variants as Checks
 use Rattle.isis.specs.MaskHeader.{lFlag, headerLength, maskTooLong, lForNobody}
 use Rattle.isis.specs.RunA.{listElements, checkAttribute, checkAsla, checkA}
 use Rattle.isis_check_a.specs.declared.Frame.{Frame}
-use Rattle.isis_check_a.specs.declared.Frame.the-variants.{Cut, Whole}
+use Rattle.isis_check_a.specs.declared.Frame.the-variants.{End, Cut, Whole}
 use Rattle.isis_check_a.specs.declared.Header.{Header}
+use Rattle.isis_check_a.specs.declared.Masks.{Masks}
 use Rattle.isis_check_a.specs.Frames.{frameAt}
-use Rattle.isis_check_a.specs.Headers.{headerOf, tooLong, forNobody, bytesBefore}
+use Rattle.isis_check_a.specs.Headers.{headerOf, tooLong, forNobody, bytesBefore, masksIn}
+use Rattle.isis_check_a.specs.declared.Masks.the-variants as Masks
 
 -- ---- framing
 
 module _ (s : List ℕ) (at : ℕ) where
-  pub frame-cut : length s < at + 2 + getD s (at + 1) 0 → Cut ≡ frameAt s at
-  unfolding frameAt
-  frame-cut h = rw (lt-leb (at + 2 + getD s (at + 1) 0) (length s) h)
+  abbrev size : ℕ
+  size = at + 2 + getD s (at + 1) 0
 
-  pub frame-whole : at + 2 + getD s (at + 1) 0 ≤ length s → Whole (getD s (at + 1) 0) ≡ frameAt s at
+  pub frame-end : length s ≤ at → End ≡ frameAt s at
   unfolding frameAt
-  frame-whole h = rw (le-leb (at + 2 + getD s (at + 1) 0) (length s) h)
+  frame-end h = rw (le-leb (length s) at h)
 
-  -- and back
-  pub cut-past : frameAt s at ≡ Cut → length s < at + 2 + getD s (at + 1) 0
+  pub frame-cut : at < length s → length s < size → Cut ≡ frameAt s at
   unfolding frameAt
-  cut-past e = go (leb (at + 2 + getD s (at + 1) 0) (length s)) refl e
+  frame-cut h g = rw (lt-leb (length s) at h, lt-leb size (length s) g)
+
+  pub frame-whole : size ≤ length s → Whole (getD s (at + 1) 0) ≡ frameAt s at
+  unfolding frameAt
+  frame-whole h = rw (lt-leb (length s) at (omega arith), le-leb size (length s) h)
+
+  -- and back: what each answer says
+  abbrev Says : Frame → Type 0
+  Says End = length s ≤ at
+  Says Cut = (at < length s) × (length s < size)
+  Says (Whole n) = (getD s (at + 1) 0 ≡ n) × (at + 2 + n ≤ length s)
+
+  pub frame-says : (f : Frame) → frameAt s at ≡ f → Says f
+  unfolding frameAt
+  frame-says f e = subst Says e (go (leb (length s) at) refl (leb size (length s)) refl)
     where
-      go : (b : Bool) → leb (at + 2 + getD s (at + 1) 0) (length s) ≡ b → cond b (Whole (getD s (at + 1) 0)) Cut ≡ Cut → length s < at + 2 + getD s (at + 1) 0
-      go true f e = let z : _≡_ {A = ℕ} 0 1 = cc in absurd (omega arith)
-      go false f e = leb-false (at + 2 + getD s (at + 1) 0) (length s) f
-
-  pub whole-within : (n : ℕ) → frameAt s at ≡ Whole n → (getD s (at + 1) 0 ≡ n) × (at + 2 + n ≤ length s)
-  unfolding frameAt
-  whole-within n e = go (leb (at + 2 + getD s (at + 1) 0) (length s)) refl e
-    where
-      go : (b : Bool) → leb (at + 2 + getD s (at + 1) 0) (length s) ≡ b → cond b (Whole (getD s (at + 1) 0)) Cut ≡ Whole n → (getD s (at + 1) 0 ≡ n) × (at + 2 + n ≤ length s)
-      go true f e = let z : getD s (at + 1) 0 ≡ n = cc in (z, omega (arith, leb-true (at + 2 + getD s (at + 1) 0) (length s) f))
-      go false f e = let z : _≡_ {A = ℕ} 0 1 = cc in absurd (omega arith)
+      go : (b : Bool) → leb (length s) at ≡ b → (c : Bool) → leb size (length s) ≡ c → Says (cond b End (cond c (Whole (getD s (at + 1) 0)) Cut))
+      go true h c g = leb-true (length s) at h
+      go false h true g = (refl, leb-true size (length s) g)
+      go false h false g = (leb-false (length s) at h, leb-false size (length s) g)
 
 pub part-length : (s : List ℕ) (p n : ℕ) → p + n ≤ length s → length (take (p + n - p) (drop p s)) ≡ n
 part-length s p n h = ap length (part-is s p n) ∙ length-bytesAt s p n h
 
 -- ---- one turn, at the offset o of the run
 
-module _ (run : Run) (check : ℕ → ℕ → List ℕ → Verdict) (base : ℕ) (s : List ℕ) (at o : ℕ) (z : o ≡ base + at) where
-  pub turn-cut : at < length s → frameAt s at ≡ Cut → fault 3 run o ≡ faults run check (left 1 base s at)
-  turn-cut h e = ap (fault 3 run) z ∙ sym (faults-cut run check 1 (omega arith) base s at h (omega (arith, cut-past s at e, length-one s at)))
+module _ (run : Run) (check : ℕ → ℕ → List ℕ → Verdict) (base : ℕ) (s : List ℕ) (at : ℕ) where
+  pub turn-end : frameAt s at ≡ End → accepted ≡ faults run check (left 1 base s at)
+  turn-end e = sym (faults-end run check 1 (omega arith) base s at (frame-says s at End e))
 
-  module _ (n : ℕ) (e : frameAt s at ≡ Whole n) where
-    here : (v : Verdict) → check o (getD s at 0) (bytesAt s (at + 2) n) ≡ v → check (base + at) (typeAt 1 s at) (bytesAt s (at + 2) n) ≡ v
-    here v a = ap₂ (λ (i t : ℕ). check i t (bytesAt s (at + 2) n)) (sym z) (type-one s at) ∙ a
+  module _ (o : ℕ) (z : o ≡ base + at) where
+    pub turn-cut : frameAt s at ≡ Cut → fault 3 run o ≡ faults run check (left 1 base s at)
+    turn-cut e = let h = frame-says s at Cut e in ap (fault 3 run) z ∙ sym (faults-cut run check 1 (omega arith) base s at (h .0) (omega (arith, h .1, length-one s at)))
 
-    pub turn-passed : check o (getD s at 0) (bytesAt s (at + 2) n) ≡ accepted → faults run check (left 1 base s (at + 2 + n)) ≡ faults run check (left 1 base s at)
-    turn-passed a = faults-pass run check 1 (omega arith) base s at n (length-one s at ∙ whole-within s at n e .0) (whole-within s at n e .1) (here accepted a)
+    module _ (n : ℕ) (e : frameAt s at ≡ Whole n) where
+      here : (v : Verdict) → check o (getD s at 0) (bytesAt s (at + 2) n) ≡ v → check (base + at) (typeAt 1 s at) (bytesAt s (at + 2) n) ≡ v
+      here v a = ap₂ (λ (i t : ℕ). check i t (bytesAt s (at + 2) n)) (sym z) (type-one s at) ∙ a
 
-    pub turn-refused : (r : Refusal) → check o (getD s at 0) (bytesAt s (at + 2) n) ≡ refused r → refused r ≡ faults run check (left 1 base s at)
-    turn-refused r a = faults-stop run check 1 (omega arith) base s at n r (length-one s at ∙ whole-within s at n e .0) (whole-within s at n e .1) (here (refused r) a)
+      pub turn-passed : check o (getD s at 0) (bytesAt s (at + 2) n) ≡ accepted → faults run check (left 1 base s (at + 2 + n)) ≡ faults run check (left 1 base s at)
+      turn-passed a = faults-pass run check 1 (omega arith) base s at n (length-one s at ∙ frame-says s at (Whole n) e .0) (frame-says s at (Whole n) e .1) (here accepted a)
 
-    pub turn-then : faults run check (left 1 base s at) ≡ check o (getD s at 0) (bytesAt s (at + 2) n) then faults run check (left 1 base s (at + 2 + n))
-    turn-then =
-        faults-turn run check 1 (omega arith) base s at n (length-one s at ∙ whole-within s at n e .0) (whole-within s at n e .1)
-        ∙ ap (λ (v : Verdict). v then faults run check (left 1 base s (at + 2 + n))) (here (check o (getD s at 0) (bytesAt s (at + 2) n)) refl)
+      pub turn-refused : (r : Refusal) → check o (getD s at 0) (bytesAt s (at + 2) n) ≡ refused r → refused r ≡ faults run check (left 1 base s at)
+      turn-refused r a = faults-stop run check 1 (omega arith) base s at n r (length-one s at ∙ frame-says s at (Whole n) e .0) (frame-says s at (Whole n) e .1) (here (refused r) a)
 
-    -- with the answer of a function that checks the element by its value, a part of the list
-    module _ (c : Checked) (told : toldChecked c ≡ check o (getD s at 0) (take (at + 2 + n - (at + 2)) (drop (at + 2) s))) where
-      value-told : toldChecked c ≡ check o (getD s at 0) (bytesAt s (at + 2) n)
-      value-told = told ∙ ap (check o (getD s at 0)) (part-is s (at + 2) n)
+      -- with the answer of a function that checks the element by its value, a part of the list
+      module _ (c : Checked) (told : toldChecked c ≡ check o (getD s at 0) (take (at + 2 + n - (at + 2)) (drop (at + 2) s))) where
+        value-told : toldChecked c ≡ check o (getD s at 0) (bytesAt s (at + 2) n)
+        value-told = told ∙ ap (check o (getD s at 0)) (part-is s (at + 2) n)
 
-      pub turn-told-passed : c ≡ Checks.Accepted → faults run check (left 1 base s (at + 2 + n)) ≡ faults run check (left 1 base s at)
-      turn-told-passed a = turn-passed (sym value-told ∙ ap toldChecked a)
+        pub turn-told-passed : c ≡ Checks.Accepted → faults run check (left 1 base s (at + 2 + n)) ≡ faults run check (left 1 base s at)
+        turn-told-passed a = turn-passed (sym value-told ∙ ap toldChecked a)
 
-      pub turn-told-refused : (r : Told) → c ≡ Checks.Refused r → refused (toldRefusal r) ≡ faults run check (left 1 base s at)
-      turn-told-refused r a = turn-refused (toldRefusal r) (sym value-told ∙ ap toldChecked a)
+        pub turn-told-refused : (r : Told) → c ≡ Checks.Refused r → refused (toldRefusal r) ≡ faults run check (left 1 base s at)
+        turn-told-refused r a = turn-refused (toldRefusal r) (sym value-told ∙ ap toldChecked a)
 
 -- ---- an attribute's length
 
@@ -103,11 +109,11 @@ module _ (at t : ℕ) (v : List ℕ) (n : ℕ) (l : length v ≡ n) where
 
 module _ (base : ℕ) (s : List ℕ) (at n : ℕ) (e : frameAt s at ≡ Whole n) where
   pub list-passed : wrongInA (getD s at 0) n ≡ false → faults runA checkAttribute (left 1 base s (at + 2 + n)) ≡ faults runA checkAttribute (left 1 base s at)
-  list-passed w = turn-passed runA checkAttribute base s at (base + at) refl n e (attribute-fits _ _ _ n (length-bytesAt s (at + 2) n (whole-within s at n e .1)) w)
+  list-passed w = turn-passed runA checkAttribute base s at (base + at) refl n e (attribute-fits _ _ _ n (length-bytesAt s (at + 2) n (frame-says s at (Whole n) e .1)) w)
 
   pub list-refused : wrongInA (getD s at 0) n ≡ true → fault 4 runA (base + at) ≡ faults runA checkAttribute (left 1 base s at)
   unfolding fault
-  list-refused w = turn-refused runA checkAttribute base s at (base + at) refl n e _ (attribute-wrong _ _ _ n (length-bytesAt s (at + 2) n (whole-within s at n e .1)) w)
+  list-refused w = turn-refused runA checkAttribute base s at (base + at) refl n e _ (attribute-wrong _ _ _ n (length-bytesAt s (at + 2) n (frame-says s at (Whole n) e .1)) w)
 
 -- ---- the mask header
 
@@ -127,9 +133,42 @@ module _ (h : Header) (v : List ℕ) (e : h ≡ headerOf v) where
   unfolding headerLength
   header-bytes = ap bytesBefore e
 
+-- where its masks end in n bytes
+module _ (h : Header) (n : ℕ) where
+  pub masks-ignored : tooLong h ≡ true → Masks.Ignored ≡ masksIn h n
+  unfolding masksIn
+  masks-ignored t = rw t
+
+  pub masks-past : tooLong h ≡ false → n < bytesBefore h → Masks.Past ≡ masksIn h n
+  unfolding masksIn
+  masks-past t p = rw (t, lt-ltb n (bytesBefore h) p)
+
+  pub masks-end : tooLong h ≡ false → bytesBefore h ≤ n → Masks.End (bytesBefore h) ≡ masksIn h n
+  unfolding masksIn
+  masks-end t p = rw (t, le-ltb n (bytesBefore h) p)
+
+  -- and back, of the bytes v that have the header
+  module _ (v : List ℕ) (is : h ≡ headerOf v) where
+    abbrev Ends : Masks → Type 0
+    Ends Masks.Ignored = maskTooLong v ≡ true
+    Ends Masks.Past = (maskTooLong v ≡ false) × (n < headerLength v)
+    Ends (Masks.End e) = (maskTooLong v ≡ false) × (e ≡ headerLength v) × (e ≤ n)
+
+    pub masks-say : (m : Masks) → masksIn h n ≡ m → Ends m
+    unfolding masksIn
+    masks-say m e = subst Ends e (go (tooLong h) refl (ltb n (bytesBefore h)) refl)
+      where
+        go : (b : Bool) → tooLong h ≡ b → (c : Bool) → ltb n (bytesBefore h) ≡ c → Ends (cond b Masks.Ignored (cond c Masks.Past (Masks.End (bytesBefore h))))
+        go true t c p = sym (header-too-long h v is) ∙ t
+        go false t true p = (sym (header-too-long h v is) ∙ t, omega (arith, ltb-true n (bytesBefore h) p, header-bytes h v is))
+        go false t false p = (sym (header-too-long h v is) ∙ t, header-bytes h v is, ltb-false n (bytesBefore h) p)
+
 -- what follows an offset
 pub rest-is : (v : List ℕ) (n : ℕ) → n ≤ length v → take (length v - n) (drop n v) ≡ drop n v
 rest-is v n h = take-all (length v - n) (drop n v) (omega (arith, length-drop n v))
+
+pub rest-length : (v : List ℕ) (n : ℕ) → n ≤ length v → length (take (length v - n) (drop n v)) ≡ length v - n
+rest-length v n h = ap length (rest-is v n h) ∙ length-drop n v
 
 -- ---- an ASLA sub-TLV, check by check
 
@@ -148,19 +187,23 @@ module _ (at : ℕ) (v : List ℕ) where
       unfolding checkAsla
       asla-past p = rw (le-ltb (length v) 2 h, m, lt-ltb (length v) (headerLength v) p)
 
-      module _ (p : headerLength v ≤ length v) where
+      -- the list begins at this offset
+      module _ (list : ℕ) (is : list ≡ headerLength v) (p : list ≤ length v) where
         -- with L nothing else is read, whoever it names
         pub asla-l : lFlag v ≡ true → accepted ≡ checkAsla at v
         unfolding checkAsla
-        asla-l l = rw (le-ltb (length v) 2 h, m, le-ltb (length v) (headerLength v) p, l) (go (lForNobody v))
+        asla-l l = rw (le-ltb (length v) 2 h, m, le-ltb (length v) (headerLength v) (omega arith), l) (go (lForNobody v))
           where
             go : (b : Bool) → accepted ≡ cond b accepted accepted
             go true = refl
             go false = refl
 
-        pub asla-list : lFlag v ≡ false → faults runA checkAttribute (elements 1 (at + 2 + headerLength v) (drop (headerLength v) v)) ≡ checkAsla at v
+        pub asla-list : lFlag v ≡ false → faults runA checkAttribute (elements 1 (at + 2 + list) (take (length v - list) (drop list v))) ≡ checkAsla at v
         unfolding checkAsla lForNobody listElements
-        asla-list l = rw (le-ltb (length v) 2 h, m, le-ltb (length v) (headerLength v) p, l)
+        asla-list l =
+            ap (λ (s : List ℕ). faults runA checkAttribute (elements 1 (at + 2 + list) s)) (rest-is v list p)
+            ∙ ap (λ (n : ℕ). faults runA checkAttribute (elements 1 (at + 2 + n) (drop n v))) is
+            ∙ rw (le-ltb (length v) 2 h, m, le-ltb (length v) (headerLength v) (omega arith), l)
 
 -- ---- a sub-TLV
 

@@ -5,7 +5,7 @@ use Prim.Native.Nat.{ℕ, _+_}
 use lib.Dec.{leb}
 use lib.ListN.{length, getD}
 use Rattle.isis_check_a.specs.declared.Frame.{Frame}
-use Rattle.isis_check_a.specs.declared.Frame.the-variants.{Cut, Whole}
+use Rattle.isis_check_a.specs.declared.Frame.the-variants.{End, Cut, Whole}
 
 unfoldable pub frameAt : List ℕ → ℕ → Frame
-frameAt s at = cond (leb (at + 2 + getD s (at + 1) 0) (length s)) (Whole (getD s (at + 1) 0)) Cut
+frameAt s at = cond (leb (length s) at) End (cond (leb (at + 2 + getD s (at + 1) 0) (length s)) (Whole (getD s (at + 1) 0)) Cut)

@@ -1,15 +1,14 @@
 // The checks of run A: framing, the mask header of an ASLA sub-TLV, and the lengths of attributes (document 01, "Advertisements in A").
 ghost use mathlib.Core.Path.{_≡_};
-ghost use mathlib.Core.Bool.{cond};
-ghost use Prim.Native.Nat.{_+_, _≤_, _<_};
+ghost use Prim.Native.Nat.{_+_, _^_, _≤_, _<_};
 ghost use lib.ListN.{length};
-ghost use Rattle.linkstate.specs.Replies.{runA, fault, accepted};
+ghost use Rattle.linkstate.specs.Replies.{runA, fault};
 ghost use Rattle.linkstate.specs.Elements.{elements, faults};
 ghost use Rattle.linkstate.specs.Kinds.{wrongInA};
 ghost use Rattle.replies.specs.Told.{toldRun, toldChecked};
 ghost use Rattle.isis.specs.RunA.{checkAttribute, checkAsla, checkA};
 ghost use Rattle.isis_check_a.specs.Frames.{frameAt};
-ghost use Rattle.isis_check_a.specs.Headers.{headerOf, tooLong, forNobody, bytesBefore};
+ghost use Rattle.isis_check_a.specs.Headers.{headerOf, tooLong, forNobody, bytesBefore, masksIn};
 use replies::Checked;
 use replies::Run;
 
@@ -55,21 +54,50 @@ pub fn header_length(h: Header) -> usize
     2 + h.standard + h.user
 }
 
-// What begins at a position of a list of elements: one that is cut off, or a whole one, by the number of its value bytes.
+// Where the masks end in a value: nowhere, since the advertisement is ignored; past the value's end; or at this offset.
+pub enum Masks {
+    Ignored,
+    Past,
+    End(usize),
+}
+
+// The masks of a header in a value of n bytes, its two length bytes among them.
+pub fn masks_within(h: Header, n: usize) -> Masks
+    requires { ⌜ (h .standard < 128) × (h .user < 128) ⌝ }
+    ensures { λ r. ⌜ r ≡ masksIn h n ⌝ }
+{
+    let end = header_length(h);
+    let ignored = mask_too_long(h);
+    let past = n < end;
+    if ignored {
+        return Masks::Ignored;
+    }
+    if past {
+        return Masks::Past;
+    }
+    Masks::End(end)
+}
+
+// What begins at a position of a list of elements: nothing more, one that is cut off, or a whole one, by the number of its value bytes.
 pub enum Frame {
+    End,
     Cut,
     Whole(usize),
 }
 
 pub fn frame_at(s: &[u8], at: usize) -> Frame
-    requires { ⌜ at < length (now s) ⌝ }
+    requires { ⌜ at ≤ length (now s) ⌝ }
     ensures { λ r. ⌜ r ≡ frameAt (now (s .entry)) at ⌝ }
 {
-    if s.len() - at < 2 {
+    let left = s.len() - at;
+    if left < 2 {
+        if left == 0 {
+            return Frame::End;
+        }
         return Frame::Cut;
     }
     let n = s[at + 1] as usize;
-    if s.len() - at - 2 < n {
+    if left - 2 < n {
         return Frame::Cut;
     }
     Frame::Whole(n)
@@ -93,47 +121,49 @@ fn wrong_length(t: u8, n: usize) -> bool
 
 // An attribute list whose first byte is at an offset of run A.
 pub fn check_attributes(s: &[u8], base: usize) -> Checked
-    requires { ⌜ base + length (now s) < 18446744073709551616 ⌝ }
+    requires { ⌜ base + length (now s) < 2 ^ 64 ⌝ }
     ensures { λ r. ⌜ toldChecked r ≡ faults runA checkAttribute (elements 1 base (now (s .entry))) ⌝ }
 {
     let mut at = 0;
-    while at < s.len() {
-        let Frame::Whole(n) = frame_at(s, at) else {
-            return refused(3, Run::A, base + at);
-        };
-        if wrong_length(s[at], n) {
-            return refused(4, Run::A, base + at);
+    loop {
+        match frame_at(s, at) {
+            Frame::End => return Checked::Accepted,
+            Frame::Cut => return refused(3, Run::A, base + at),
+            Frame::Whole(n) => {
+                if wrong_length(s[at], n) {
+                    return refused(4, Run::A, base + at);
+                }
+                at = at + 2 + n;
+            }
         }
-        at = at + 2 + n;
     }
-    Checked::Accepted
 }
 
-// An ASLA sub-TLV by its value; its first byte is at an offset of run A.
+// An ASLA sub-TLV by its value; its first byte is at an offset of run A. With L its list is not read, whoever it names.
 pub fn check_asla(v: &[u8], at: usize) -> Checked
-    requires { ⌜ at + 2 + length (now v) < 18446744073709551616 ⌝ }
+    requires { ⌜ at + 2 + length (now v) < 2 ^ 64 ⌝ }
     ensures { λ r. ⌜ toldChecked r ≡ checkAsla at (now (v .entry)) ⌝ }
 {
     if v.len() < 2 {
         return refused(3, Run::A, at);
     }
     let h = read_header(v);
-    if mask_too_long(h) {
-        return Checked::Accepted;
+    match masks_within(h, v.len()) {
+        Masks::Ignored => return Checked::Accepted,
+        Masks::Past => return refused(3, Run::A, at),
+        Masks::End(list) => {
+            let l = h.l;
+            if l {
+                return Checked::Accepted;
+            }
+            return check_attributes(&v[list..], at + 2 + list);
+        }
     }
-    let list = header_length(h);
-    if v.len() < list {
-        return refused(3, Run::A, at);
-    }
-    if h.l {
-        return Checked::Accepted;
-    }
-    check_attributes(&v[list..], at + 2 + list)
 }
 
 // A sub-TLV of run A by its type and value.
 fn check_element(t: u8, v: &[u8], at: usize) -> Checked
-    requires { ⌜ at + 2 + length (now v) < 18446744073709551616 ⌝ }
+    requires { ⌜ at + 2 + length (now v) < 2 ^ 64 ⌝ }
     ensures { λ r. ⌜ toldChecked r ≡ checkA at t (now (v .entry)) ⌝ }
 {
     if t == 16 {
@@ -150,16 +180,18 @@ pub fn check_a(a: &[u8]) -> Checked
     ensures { λ r. ⌜ toldChecked r ≡ faults runA checkA (elements 1 0 (now (a .entry))) ⌝ }
 {
     let mut at = 0;
-    while at < a.len() {
-        let Frame::Whole(n) = frame_at(a, at) else {
-            return refused(3, Run::A, at);
-        };
-        let value = at + 2;
-        let end = value + n;
-        if let Checked::Refused(r) = check_element(a[at], &a[value..end], at) {
-            return Checked::Refused(r);
+    loop {
+        match frame_at(a, at) {
+            Frame::End => return Checked::Accepted,
+            Frame::Cut => return refused(3, Run::A, at),
+            Frame::Whole(n) => {
+                let value = at + 2;
+                let end = value + n;
+                if let Checked::Refused(r) = check_element(a[at], &a[value..end], at) {
+                    return Checked::Refused(r);
+                }
+                at = end;
+            }
         }
-        at = end;
     }
-    Checked::Accepted
 }

@@ -1,25 +1,25 @@
 -- Link identifiers: the code's classification against the definitions, the tally of types, and what a turn of the walk does to both.
-use mathlib.Core.Path.{_≡_, refl, sym, ap, ap₂, _∙_, subst}
+use mathlib.Core.Path.{_≡_, refl, sym, ap, _∙_, subst}
 use mathlib.Core.Bool.{Bool, true, false, cond, _&&_, _||_, not}
 use mathlib.Core.List.{List, [], _∷_, map}
-use Prim.Native.Nat.{ℕ, zero, suc, pred, _+_, _-_, _*_, _/_, _%_, _≤_, _<_}
+use Prim.Native.Nat.{ℕ, zero, suc, pred, _+_, _*_, _/_, _%_, _≤_, _<_}
 use native.Mathlib.Omega.{arith}
 use borrow.Author.Tests.{eqb-true, ne-eqb, eq-eqb, lt-ltb, le-ltb}
 use lib.Dec.{eqb, ltb, leb}
-use lib.ListN.{length, take, drop, getD}
+use lib.ListN.{length, getD}
 use Rattle.linkstate.specs.Lists.{any, count}
 use Rattle.linkstate.specs.Bytes.{bytesAt}
-use Rattle.linkstate.specs.Replies.{Verdict, accepted, refused, fault, _then_, runB}
+use Rattle.linkstate.specs.Replies.{accepted, fault, runB}
 use Rattle.linkstate.specs.Elements.{Element, element, cut, sizeOf, elementsAfter, elements, faults}
 use Rattle.linkstate.proofs.ElementLaws.{moved, elements-moved}
 use Rattle.linkstate.proofs.WalkLaws.{left, left-end, left-cut, left-whole, type-one, length-one}
 use Rattle.octets.proofs.Laws.{length-bytesAt}
-use Rattle.isis.specs.RunB.{Identifier, identifier, knownIdentifiers, checkIdentifier, isOfType, times, repeats, identifies}
-use Rattle.isis_check_a.specs.declared.Frame.the-variants.{Cut, Whole}
+use Rattle.isis.specs.RunB.{identifier, knownIdentifiers, checkIdentifier, isOfType, times, repeats, identifies}
+use Rattle.isis_check_a.specs.declared.Frame.the-variants.{End, Cut, Whole}
 use Rattle.isis_check_a.specs.Frames.{frameAt}
-use Rattle.isis_check_a.proofs.Laws.{cut-past, whole-within, turn-then}
+use Rattle.isis_check_a.proofs.Laws.{frame-says, turn-passed, turn-refused}
 use Rattle.isis_check_b.specs.declared.Known.{Known}
-use Rattle.isis_check_b.specs.Identifiers.{knownOf, wrongBy, tallyOf, identifiedBy, identifiedIn}
+use Rattle.isis_check_b.specs.Identifiers.{knownOf, wrongIdentifier, tallyOf, identifiedBy, onceAndPaired}
 
 -- ---- the five types
 
@@ -39,13 +39,20 @@ or-false : (b : Bool) → b ≡ b || false
 or-false true = refl
 or-false false = refl
 
--- A wrong length by the classification is one by the table.
-wrong-known : (n t : ℕ) → wrongBy (knownOf t) n ≡ any (λ q. eqb t (q .type) && not (eqb n (q .len))) knownIdentifiers
-unfolding wrongBy knownOf any knownIdentifiers identifier
-wrong-known n =
-    by-type (λ t. wrongBy (knownOf t) n ≡ any (λ q. eqb t (q .type) && not (eqb n (q .len))) knownIdentifiers)
-    (or-false (not (eqb n 8))) (or-false (not (eqb n 4))) (or-false (not (eqb n 4))) (or-false (not (eqb n 16))) (or-false (not (eqb n 16)))
+-- The table's lengths by the classification: an unknown type has no wrong one.
+by-known : (n t : ℕ) → wrongIdentifier t n ≡ not (eqb ((knownOf t) .weight) 0) && not (eqb n ((knownOf t) .length))
+unfolding wrongIdentifier knownOf any knownIdentifiers identifier
+by-known n =
+    by-type (λ t. wrongIdentifier t n ≡ not (eqb ((knownOf t) .weight) 0) && not (eqb n ((knownOf t) .length)))
+    (sym (or-false (not (eqb n 8)))) (sym (or-false (not (eqb n 4)))) (sym (or-false (not (eqb n 4)))) (sym (or-false (not (eqb n 16)))) (sym (or-false (not (eqb n 16))))
     (λ t n4 n6 n8 n12 n13. simp (n4, n6, n8, n12, n13))
+
+module _ (t n : ℕ) (k : Known) (is : k ≡ knownOf t) where
+  pub identifier-unknown : k .weight ≡ 0 → false ≡ wrongIdentifier t n
+  identifier-unknown e = let z : (knownOf t) .weight ≡ 0 = sym (ap (λ (q : Known). q .weight) is) ∙ e in sym (by-known n t ∙ rw z)
+
+  pub identifier-known : (k .weight ≡ 0 → ⊥) → not (eqb n (k .length)) ≡ wrongIdentifier t n
+  identifier-known e = sym (by-known n t ∙ rw (sym is, ne-eqb (k .weight) 0 e))
 
 -- ---- counts
 
@@ -90,7 +97,7 @@ count-moved k d [] = refl
 count-moved k d (element at t v ∷ es) = ap (λ (n : ℕ). cond (eqb t k) (suc n) n) (count-moved k d es)
 count-moved k d (cut at ∷ es) = count-moved k d es
 
-pub tally-anywhere : (at : ℕ) (s : List ℕ) → tallyOf (elements 1 at s) ≡ tallyOf (elements 1 0 s)
+tally-anywhere : (at : ℕ) (s : List ℕ) → tallyOf (elements 1 at s) ≡ tallyOf (elements 1 0 s)
 unfolding tallyOf times
 tally-anywhere at s =
     let z : at ≡ at + 0 = omega arith in
@@ -121,10 +128,13 @@ tally-small at s h = omega (arith, times-le 4 at s, times-le 6 at s, times-le 8 
 
 -- ---- what a tally says
 
+-- Whether the counts that are a tally's digits are those of a list that identifies the link.
+abbrev identifiedIn : ℕ → Bool
+identifiedIn n = identifiedBy (n % 256) (n / 256 % 256) (n / 65536 % 256) (n / 16777216 % 256) (n / 4294967296 % 256)
+
 -- The digits of a tally are the counts.
 module _ (a b c d e n : ℕ) (is : n ≡ a + 256 * b + 65536 * c + 16777216 * d + 4294967296 * e) (small : (a < 256) × (b < 256) × (c < 256) × (d < 256) × (e < 256)) where
   digits : identifiedIn n ≡ identifiedBy a b c d e
-  unfolding identifiedIn
   digits =
       let qb : n / 256 ≡ b + 256 * c + 65536 * d + 16777216 * e = omega arith in
       let qc : n / 65536 ≡ c + 256 * d + 65536 * e = omega arith in
@@ -143,13 +153,13 @@ unfolding identifiedBy repeats identifies times knownIdentifiers identifier any
 counts-say es =
     rw (any-count (isOfType 4) es, any-count (isOfType 6) es, any-count (isOfType 8) es, any-count (isOfType 12) es, any-count (isOfType 13) es, ← or-false (ltb 1 (count (isOfType 13) es)))
 
--- A short list's tally says whether its identifiers repeat, and whether they identify.
-pub tally-says : (at : ℕ) (s : List ℕ) → length s < 256 → identifiedIn (tallyOf (elements 1 at s)) ≡ not (repeats (elements 1 at s)) && identifies (elements 1 at s)
+-- A short list's tally says whether it identifies the link, wherever it begins.
+pub tally-says : (s : List ℕ) (n : ℕ) → length s < 256 → n ≡ tallyOf (elements 1 0 s) → (base : ℕ) → identifiedIn n ≡ onceAndPaired (elements 1 base s)
 unfolding tallyOf
-tally-says at s h =
-    digits (times 4 (elements 1 at s)) (times 6 (elements 1 at s)) (times 8 (elements 1 at s)) (times 12 (elements 1 at s)) (times 13 (elements 1 at s)) (tallyOf (elements 1 at s)) refl
-    (omega (arith, times-le 4 at s), omega (arith, times-le 6 at s), omega (arith, times-le 8 at s), omega (arith, times-le 12 at s), omega (arith, times-le 13 at s))
-    ∙ counts-say (elements 1 at s)
+tally-says s n h e base =
+    digits (times 4 (elements 1 base s)) (times 6 (elements 1 base s)) (times 8 (elements 1 base s)) (times 12 (elements 1 base s)) (times 13 (elements 1 base s)) n (e ∙ sym (tally-anywhere base s))
+    (omega (arith, times-le 4 base s), omega (arith, times-le 6 base s), omega (arith, times-le 8 base s), omega (arith, times-le 12 base s), omega (arith, times-le 13 base s))
+    ∙ counts-say (elements 1 base s)
 
 -- Where no type is there twice, sums tell the pairs.
 both : (b c : ℕ) → b ≤ 1 → c ≤ 1 → (ltb 0 b && ltb 0 c) ≡ eqb (b + c) 2
@@ -166,45 +176,31 @@ unfolding identifiedBy
 once a b c d e ha hb hc hd he =
     rw (le-ltb 1 a ha, le-ltb 1 b hb, le-ltb 1 c hc, le-ltb 1 d hd, le-ltb 1 e he, some a ha, both b c hb hc, both d e hd he)
 
--- ---- one turn of the walk
-
--- A refusal that stands stays, whatever follows.
-pub then-then : (u v w : Verdict) → (u then (v then w)) ≡ ((u then v) then w)
-unfolding _then_
-then-then accepted v w = refl
-then-then (refused r) v w = refl
-
--- The end, and an element that is cut off.
-pub then-accepted : (u : Verdict) → (u then accepted) ≡ u
-unfolding _then_
-then-accepted accepted = refl
-then-accepted (refused r) = refl
+-- ---- one turn of a walk
 
 module _ (base : ℕ) (s : List ℕ) (at : ℕ) where
-  pub tally-end : length s ≤ at → tallyOf (left 1 base s at) ≡ 0
-  tally-end h = ap tallyOf (left-end 1 (omega arith) base s at h) ∙ tally-nil
+  pub tally-end : frameAt s at ≡ End → tallyOf (left 1 base s at) ≡ 0
+  tally-end e = ap tallyOf (left-end 1 (omega arith) base s at (frame-says s at End e)) ∙ tally-nil
 
-  pub tally-past : at < length s → frameAt s at ≡ Cut → tallyOf (left 1 base s at) ≡ 0
-  tally-past h e = ap tallyOf (left-cut 1 (omega arith) base s at h (omega (arith, cut-past s at e, length-one s at))) ∙ tally-cut (base + at)
+  pub tally-past : frameAt s at ≡ Cut → tallyOf (left 1 base s at) ≡ 0
+  tally-past e = let h = frame-says s at Cut e in ap tallyOf (left-cut 1 (omega arith) base s at (h .0) (omega (arith, h .1, length-one s at))) ∙ tally-cut (base + at)
 
-  module _ (n : ℕ) (e : frameAt s at ≡ Whole n) (k : Known) (is : k ≡ knownOf (getD s at 0)) where
+  module _ (n : ℕ) (e : frameAt s at ≡ Whole n) where
     -- the type's weight, and what is left behind it
-    pub tally-turn : tallyOf (left 1 base s at) ≡ k .weight + tallyOf (left 1 base s (at + 2 + n))
-    tally-turn =
-        ap tallyOf (left-whole 1 (omega arith) base s at n (length-one s at ∙ whole-within s at n e .0) (whole-within s at n e .1))
+    pub tally-turn : (k : Known) → k ≡ knownOf (getD s at 0) → tallyOf (left 1 base s at) ≡ k .weight + tallyOf (left 1 base s (at + 2 + n))
+    tally-turn k is =
+        ap tallyOf (left-whole 1 (omega arith) base s at n (length-one s at ∙ frame-says s at (Whole n) e .0) (frame-says s at (Whole n) e .1))
         ∙ tally-element (base + at) (bytesAt s (at + 2) n) (left 1 base s (at + 2 + n)) _
         ∙ ap (λ (q : Known). q .weight + tallyOf (left 1 base s (at + 2 + n))) (ap knownOf (type-one s at) ∙ sym is)
 
-    identifier-check : checkIdentifier (base + at) (getD s at 0) (bytesAt s (at + 2) n) ≡ cond (wrongBy k n) (fault 4 runB (base + at)) accepted
-    unfolding checkIdentifier
-    identifier-check = rw (length-bytesAt s (at + 2) n (whole-within s at n e .1), is, wrong-known n (getD s at 0))
+    -- the length of this identifier
+    identifier-check : (b : Bool) → wrongIdentifier (getD s at 0) n ≡ b → checkIdentifier (base + at) (getD s at 0) (bytesAt s (at + 2) n) ≡ cond b (fault 4 runB (base + at)) accepted
+    unfolding checkIdentifier wrongIdentifier
+    identifier-check b w = rw (length-bytesAt s (at + 2) n (frame-says s at (Whole n) e .1), w)
 
-    -- the check so far, with this element's
-    pub check-turn : (u v x : Verdict) → v ≡ cond (wrongBy k n) (fault 4 runB (base + at)) accepted → x ≡ (u then v)
-        → (x then faults runB checkIdentifier (left 1 base s (at + 2 + n))) ≡ (u then faults runB checkIdentifier (left 1 base s at))
-    check-turn u v x f g =
-        ap (λ (w : Verdict). w then faults runB checkIdentifier (left 1 base s (at + 2 + n))) g
-        ∙ sym (then-then u v _)
-        ∙ ap (λ (w : Verdict). u then w)
-        (ap (λ (w : Verdict). w then faults runB checkIdentifier (left 1 base s (at + 2 + n))) (f ∙ sym identifier-check)
-        ∙ sym (turn-then runB checkIdentifier base s at (base + at) refl n e))
+    pub list-passed : wrongIdentifier (getD s at 0) n ≡ false → faults runB checkIdentifier (left 1 base s (at + 2 + n)) ≡ faults runB checkIdentifier (left 1 base s at)
+    list-passed w = turn-passed runB checkIdentifier base s at (base + at) refl n e (identifier-check false w)
+
+    pub list-refused : wrongIdentifier (getD s at 0) n ≡ true → fault 4 runB (base + at) ≡ faults runB checkIdentifier (left 1 base s at)
+    unfolding fault
+    list-refused w = turn-refused runB checkIdentifier base s at (base + at) refl n e _ (identifier-check true w)

@@ -5,21 +5,20 @@ use mathlib.Core.List.{List, []}
 use mathlib.Core.Logic.{_⊎_, inl, inr}
 use Prim.Native.Nat.{ℕ, _+_, _-_, _%_, _≤_, _<_}
 use native.Mathlib.Omega.{arith}
-use borrow.Author.Tests.{lt-ltb, le-ltb, ne-eqb}
-use lib.Dec.{eqb, ltb}
+use borrow.Author.Tests.{lt-ltb, le-ltb, eq-eqb, ne-eqb}
+use lib.Dec.{eqb}
 use lib.ListN.{length, take, drop, getD, length-drop, drop-of-length-le}
 use lib.Seq.{length-take-le, take-all, take-nil}
 use Rattle.linkstate.specs.Lists.{any, count}
 use Rattle.linkstate.specs.Replies.{Verdict, accepted, refused, Refusal, fault, _then_, runB}
 use Rattle.linkstate.specs.Elements.{Element, elements, faults}
 use Rattle.linkstate.proofs.ElementLaws.{none-left}
-use Rattle.isis.specs.MaskHeader.{lFlag, headerLength, maskTooLong, lForNobody}
-use Rattle.isis.specs.RunB.{identifierBytes, identifiers, srlgValues, checkIdentifier, Identifier, identifier, knownIdentifiers, times, repeats, identifies, ignored, liveSrlg, checkSrlg, checkB, afterNeighbour}
+use Rattle.isis.specs.MaskHeader.{headerLength, maskTooLong, lForNobody}
+use Rattle.isis.specs.RunB.{identifierBytes, identifiers, srlgValues, checkIdentifier, identifier, knownIdentifiers, times, repeats, identifies, ignored, liveSrlg, checkSrlg, checkB, afterNeighbour}
 use Rattle.isis_check_a.specs.declared.Header.{Header}
 use Rattle.isis_check_a.proofs.Laws.{header-l, rest-is}
-use Rattle.isis_check_b.specs.Identifiers.{tallyOf, identifiedIn}
+use Rattle.isis_check_b.specs.Identifiers.{onceAndPaired}
 use Rattle.isis_check_b.specs.Parts.{partsVerdict, Within}
-use Rattle.isis_check_b.proofs.Laws.{tally-says, tally-anywhere}
 
 -- What repeats or does not identify is what does not identify once.
 judged : (r i b : Bool) → not r && i ≡ b → (r || not i) ≡ not b
@@ -51,42 +50,51 @@ module _ (at : ℕ) (v : List ℕ) (h : Header) (from to : ℕ) (w : Within v h 
     passed : faults runB checkIdentifier (identifiers at v) ≡ accepted
     passed = sym (ap (faults runB checkIdentifier) lent-is) ∙ sym p
 
-    -- with L the values are not read, whether or not it is ignored
-    pub parts-l : h .l ≡ true → accepted ≡ partsVerdict at v
-    unfolding partsVerdict _then_
-    parts-l l = rw (passed, sym (header-l h v (w .header)) ∙ l) (go (ignored v (identifiers at v)))
+    -- what is left of the verdict, whether the 238 is ignored and has L or not
+    behind-lists : Bool → Bool → Bool → Verdict
+    behind-lists ignored l fours = cond ignored accepted (cond l accepted (cond fours accepted (fault 4 runB at)))
+
+    rest : length (srlgValues v) ≡ length v - to
+    unfolding srlgValues
+    rest = let e : headerLength v + 1 + identifierBytes v ≡ to = omega (arith, w .list, w .values) in rw e (length-drop to v)
+
+    parts-is : (f : Bool) → eqb ((length v - to) % 4) 0 ≡ f → behind-lists (ignored v (identifiers at v)) (h .l) f ≡ partsVerdict at v
+    unfolding partsVerdict _then_ behind-lists
+    parts-is f e = rw (passed, sym (header-l h v (w .header)), rest, e)
+
+    -- a rest of whole values
+    pub parts-fours : (length v - to) % 4 ≡ 0 → accepted ≡ partsVerdict at v
+    unfolding behind-lists
+    parts-fours e = go (ignored v (identifiers at v)) (h .l) ∙ parts-is true (eq-eqb ((length v - to) % 4) 0 e)
       where
-        go : (b : Bool) → accepted ≡ cond b accepted accepted
-        go true = refl
-        go false = refl
+        go : (i l : Bool) → accepted ≡ behind-lists i l true
+        go true l = refl
+        go false true = refl
+        go false false = refl
+
+    -- with L the values are not read
+    pub parts-l : h .l ≡ true → accepted ≡ partsVerdict at v
+    unfolding behind-lists
+    parts-l l = go (ignored v (identifiers at v)) (h .l) l ∙ parts-is (eqb ((length v - to) % 4) 0) refl
+      where
+        go : (i l : Bool) → l ≡ true → accepted ≡ behind-lists i l (eqb ((length v - to) % 4) 0)
+        go true l e = refl
+        go false l e = rw e
 
     module _ (l : h .l ≡ false) where
-      no-l : lFlag v ≡ false
-      no-l = sym (header-l h v (w .header)) ∙ l
-
       -- without L an advertisement is ignored where its identifiers do not identify the link
-      decided : (b : Bool) → identifiedIn (tallyOf lent) ≡ b → ignored v (identifiers at v) ≡ not b
+      decided : (b : Bool) → onceAndPaired lent ≡ b → ignored v (identifiers at v) ≡ not b
       unfolding ignored lForNobody
       decided b t =
-          rw no-l
-          (judged (repeats (identifiers at v)) (identifies (identifiers at v)) b
-          (sym (tally-says (at + 9 + from) (take (to - from) (drop from v)) (omega (arith, w .small, lent-length)) ∙ ap (λ (es : List Element). not (repeats es) && identifies es) lent-is) ∙ t))
+          rw (sym (header-l h v (w .header)) ∙ l) (judged (repeats (identifiers at v)) (identifies (identifiers at v)) b (sym (ap onceAndPaired lent-is) ∙ t))
 
-      pub parts-ignored : identifiedIn (tallyOf lent) ≡ false → accepted ≡ partsVerdict at v
-      unfolding partsVerdict _then_
-      parts-ignored t = rw (passed, decided false t)
+      pub parts-ignored : onceAndPaired lent ≡ false → accepted ≡ partsVerdict at v
+      unfolding behind-lists
+      parts-ignored t = sym (ap (λ (i : Bool). behind-lists i (h .l) (eqb ((length v - to) % 4) 0)) (decided false t)) ∙ parts-is (eqb ((length v - to) % 4) 0) refl
 
-      rest : length (srlgValues v) ≡ length v - to
-      unfolding srlgValues
-      rest = let e : headerLength v + 1 + identifierBytes v ≡ to = omega (arith, w .list, w .values) in rw e (length-drop to v)
-
-      pub parts-values : identifiedIn (tallyOf lent) ≡ true → (length v - to) % 4 ≡ 0 → accepted ≡ partsVerdict at v
-      unfolding partsVerdict _then_
-      parts-values t e = rw (passed, decided true t, no-l, rest, e)
-
-      pub parts-rest : identifiedIn (tallyOf lent) ≡ true → ((length v - to) % 4 ≡ 0 → ⊥) → fault 4 runB at ≡ partsVerdict at v
-      unfolding partsVerdict _then_
-      parts-rest t e = rw (passed, decided true t, no-l, rest, ne-eqb ((length v - to) % 4) 0 e)
+      pub parts-odd : onceAndPaired lent ≡ true → ((length v - to) % 4 ≡ 0 → ⊥) → fault 4 runB at ≡ partsVerdict at v
+      unfolding behind-lists
+      parts-odd t e = sym (ap₂ (λ (i j : Bool). behind-lists i j false) (decided true t) l) ∙ parts-is false (ne-eqb ((length v - to) % 4) 0 e)
 
 -- ---- a TLV 238
 
@@ -176,16 +184,13 @@ module _ (v : List ℕ) (at : ℕ) where
       go true = refl
       go false = refl
 
-  -- as the tally of the identifiers says
-  pub live-says : (s : List ℕ) → maskTooLong v ≡ false → lForNobody v ≡ false → s ≡ take (identifierBytes v) (drop (headerLength v + 1) v) → length s < 256
-      → identifiedIn (tallyOf (elements 1 0 s)) ≡ liveSrlg at v
+  -- as its identifiers say
+  pub live-says : (s : List ℕ) (r : Bool) → maskTooLong v ≡ false → lForNobody v ≡ false → s ≡ take (identifierBytes v) (drop (headerLength v + 1) v)
+      → ((base : ℕ) → r ≡ onceAndPaired (elements 1 base s)) → r ≡ liveSrlg at v
   unfolding liveSrlg ignored identifiers
-  live-says s m n e h =
-      let base : ℕ = at + 2 + 7 + headerLength v + 1 in
-      ap identifiedIn (sym (tally-anywhere base s))
-      ∙ rw (m, n, sym e)
-      (sym (ap not (judged (repeats (elements 1 base s)) (identifies (elements 1 base s)) _ (sym (tally-says base s h)))
-      ∙ not-not (identifiedIn (tallyOf (elements 1 base s)))))
+  live-says s r m n e f =
+      let es : List Element = elements 1 (at + 2 + 7 + headerLength v + 1) s in
+      rw (m, n, sym e) (sym (ap not (judged (repeats es) (identifies es) r (sym (f (at + 2 + 7 + headerLength v + 1)))) ∙ not-not r))
     where
       not-not : (b : Bool) → not (not b) ≡ b
       not-not true = refl

@@ -1,8 +1,8 @@
 -- A TLV 238 whose identifier list lies within it: what `checkSrlg` says from there on.
 use mathlib.Core.Bool.{cond}
 use mathlib.Core.List.{List}
-use Prim.Native.Nat.{ℕ, _+_, _%_, _≤_, _<_}
 use mathlib.Core.Path.{_≡_}
+use Prim.Native.Nat.{ℕ, _+_, _%_, _≤_, _<_}
 use lib.Dec.{eqb}
 use lib.ListN.{length}
 use Rattle.linkstate.specs.Replies.{Verdict, accepted, fault, _then_, runB}

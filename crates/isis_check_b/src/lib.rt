@@ -1,17 +1,17 @@
 // The checks of run B: TLVs 238, Application-Specific SRLG (document 01, "Advertisements in B").
 ghost use mathlib.Core.Path.{_≡_};
-ghost use mathlib.Core.Bool.{cond};
 ghost use mathlib.Core.Logic.{_⊎_};
-ghost use Prim.Native.Nat.{ℕ, _+_, _/_, _%_, _≤_, _<_};
+ghost use Prim.Native.Nat.{ℕ, _+_, _^_, _≤_, _<_};
 ghost use lib.ListN.{length};
-ghost use Rattle.linkstate.specs.Replies.{runB, fault, accepted, _then_};
+ghost use Rattle.linkstate.specs.Replies.{runB};
 ghost use Rattle.linkstate.specs.Elements.{elements, faults};
 ghost use Rattle.replies.specs.Told.{toldChecked};
 ghost use Rattle.isis.specs.RunB.{checkIdentifier, afterNeighbour, checkSrlg, checkB, liveSrlg};
-ghost use Rattle.isis_check_b.specs.Identifiers.{knownOf, wrongBy, tallyOf, identifiedBy, identifiedIn};
+ghost use Rattle.isis_check_b.specs.Identifiers.{knownOf, wrongIdentifier, tallyOf, identifiedBy, onceAndPaired};
 ghost use Rattle.isis_check_b.specs.Parts.{partsVerdict, Within};
 use isis_check_a::Frame;
 use isis_check_a::Header;
+use isis_check_a::Masks;
 use replies::Checked;
 use replies::Run;
 
@@ -52,57 +52,55 @@ fn known_identifier(t: u8) -> Known
     }
 }
 
-// An identifier's length; its first byte is at an offset of run B.
-fn check_length(k: Known, n: usize, at: usize) -> Checked
-    ensures { λ r. ⌜ toldChecked r ≡ cond (wrongBy k n) (fault 4 runB at) accepted ⌝ }
+// Whether the type is known and a value of it does not have n bytes.
+fn wrong_identifier(t: u8, n: usize) -> bool
+    ensures { λ r. ⌜ r ≡ wrongIdentifier t n ⌝ }
 {
-    if k.weight == 0 {
-        return Checked::Accepted;
+    let known = known_identifier(t);
+    if known.weight == 0 {
+        return false;
     }
-    if n == k.length {
-        return Checked::Accepted;
-    }
-    isis_check_a::refused(4, Run::B, at)
+    n != known.length
 }
 
-// The first refusal of two checks.
-fn first_of(x: Checked, y: Checked) -> Checked
-    ensures { λ r. ⌜ toldChecked r ≡ (toldChecked x then toldChecked y) ⌝ }
+// An identifier list whose first byte is at an offset of run B.
+pub fn check_identifiers(s: &[u8], base: usize) -> Checked
+    requires { ⌜ base + length (now s) < 2 ^ 64 ⌝ }
+    ensures { λ r. ⌜ toldChecked r ≡ faults runB checkIdentifier (elements 1 base (now (s .entry))) ⌝ }
 {
-    match x {
-        Checked::Accepted => y,
-        Checked::Refused(r) => Checked::Refused(r),
+    let mut at = 0;
+    loop {
+        match isis_check_a::frame_at(s, at) {
+            Frame::End => return Checked::Accepted,
+            Frame::Cut => return isis_check_a::refused(3, Run::B, base + at),
+            Frame::Whole(n) => {
+                if wrong_identifier(s[at], n) {
+                    return isis_check_a::refused(4, Run::B, base + at);
+                }
+                at = at + 2 + n;
+            }
+        }
     }
 }
 
-// What a list of link identifiers shows: its first refusal, and how often each known type stands in it, a byte of the tally for each.
-pub struct Identifiers {
-    pub checked: Checked,
-    pub tally: u64,
-}
-
-// One walk, which goes on past a wrong length: whether an advertisement is live hangs on the types alone.
-pub fn read_identifiers(s: &[u8], base: usize) -> Identifiers
-    requires { ⌜ (length (now s) < 256) × (base + length (now s) < 18446744073709551616) ⌝ }
-    ensures { λ r. ⌜ (toldChecked (r .checked) ≡ faults runB checkIdentifier (elements 1 base (now (s .entry)))) × (r .tally ≡ tallyOf (elements 1 base (now (s .entry)))) ⌝ }
+// How often each known type stands in an identifier list: a byte of the tally for each.
+fn tally_identifiers(s: &[u8]) -> u64
+    requires { ⌜ length (now s) < 256 ⌝ }
+    ensures { λ r. ⌜ r ≡ tallyOf (elements 1 0 (now (s .entry))) ⌝ }
 {
-    let mut checked = Checked::Accepted;
     let mut tally: u64 = 0;
     let mut at = 0;
-    while at < s.len() {
-        let Frame::Whole(n) = isis_check_a::frame_at(s, at) else {
-            let last = first_of(checked, isis_check_a::refused(3, Run::B, base + at));
-            return Identifiers {
-                checked: last,
-                tally,
-            };
-        };
-        let known = known_identifier(s[at]);
-        checked = first_of(checked, check_length(known, n, base + at));
-        tally = tally + known.weight;
-        at = at + 2 + n;
+    loop {
+        match isis_check_a::frame_at(s, at) {
+            Frame::End => return tally,
+            Frame::Cut => return tally,
+            Frame::Whole(n) => {
+                let known = known_identifier(s[at]);
+                tally = tally + known.weight;
+                at = at + 2 + n;
+            }
+        }
     }
-    Identifiers { checked, tally }
 }
 
 // By the counts of types 4, 6, 8, 12 and 13: none is there twice, and a 4, both 6 and 8, or both 12 and 13 are.
@@ -133,10 +131,12 @@ fn identifies(a: u64, b: u64, c: u64, d: u64, e: u64) -> bool
     d + e == 2
 }
 
-// Whether the types of a tally identify the link.
-pub fn identified(tally: u64) -> bool
-    ensures { λ r. ⌜ r ≡ identifiedIn tally ⌝ }
+// Whether an identifier list identifies the link: no known type repeats, and a 4, both 6 and 8, or both 12 and 13 are there.
+pub fn identifies_link(s: &[u8]) -> bool
+    requires { ⌜ length (now s) < 256 ⌝ }
+    ensures { λ r. ⌜ ((base : ℕ) → r ≡ onceAndPaired (elements 1 base (now (s .entry)))) ⌝ }
 {
+    let tally = tally_identifiers(s);
     identifies(
         tally % 256,
         tally / 256 % 256,
@@ -147,31 +147,30 @@ pub fn identified(tally: u64) -> bool
 }
 
 // The identifiers, then the SRLG values, of a TLV 238 whose first byte is at an offset of run B. v follows its neighbour bytes and has the header h;
-// the identifiers stand in it from `list` to `values`. With L, or where nothing identifies the link, the values are not read.
+// the identifiers stand in it from `list` to `values`. An odd rest is a fault only without L, and where the identifiers identify the link.
 fn check_parts(v: &[u8], h: Header, list: usize, values: usize, at: usize) -> Checked
-    requires { ⌜ Within (now v) h list values × (at + 9 + length (now v) < 18446744073709551616) ⌝ }
+    requires { ⌜ Within (now v) h list values × (at + 9 + length (now v) < 2 ^ 64) ⌝ }
     ensures { λ r. ⌜ toldChecked r ≡ partsVerdict at (now (v .entry)) ⌝ }
 {
-    let found = read_identifiers(&v[list..values], at + 9 + list);
-    let checked = found.checked;
-    if let Checked::Refused(r) = checked {
+    if let Checked::Refused(r) = check_identifiers(&v[list..values], at + 9 + list) {
         return Checked::Refused(r);
     }
-    if h.l {
+    if (v.len() - values) % 4 == 0 {
         return Checked::Accepted;
     }
-    if !identified(found.tally) {
+    let l = h.l;
+    if l {
         return Checked::Accepted;
     }
-    if (v.len() - values) % 4 != 0 {
-        return isis_check_a::refused(4, Run::B, at);
+    if !identifies_link(&v[list..values]) {
+        return Checked::Accepted;
     }
-    Checked::Accepted
+    isis_check_a::refused(4, Run::B, at)
 }
 
 // A TLV 238 by its value; its first byte is at an offset of run B.
 pub fn check_srlg(value: &[u8], at: usize) -> Checked
-    requires { ⌜ at + 2 + length (now value) < 18446744073709551616 ⌝ }
+    requires { ⌜ at + 2 + length (now value) < 2 ^ 64 ⌝ }
     ensures { λ r. ⌜ toldChecked r ≡ checkSrlg at (now (value .entry)) (afterNeighbour (now (value .entry))) ⌝ }
 {
     if value.len() < 9 {
@@ -179,24 +178,23 @@ pub fn check_srlg(value: &[u8], at: usize) -> Checked
     }
     let v = &value[7..];
     let h = isis_check_a::read_header(v);
-    if isis_check_a::mask_too_long(h) {
-        return Checked::Accepted;
+    match isis_check_a::masks_within(h, v.len() - 1) {
+        Masks::Ignored => return Checked::Accepted,
+        Masks::Past => return isis_check_a::refused(3, Run::B, at),
+        Masks::End(length_byte) => {
+            let list = length_byte + 1;
+            let n = v[length_byte] as usize;
+            if v.len() - list < n {
+                return isis_check_a::refused(3, Run::B, at);
+            }
+            return check_parts(v, h, list, list + n, at);
+        }
     }
-    let length_byte = isis_check_a::header_length(h);
-    if v.len() <= length_byte {
-        return isis_check_a::refused(3, Run::B, at);
-    }
-    let list = length_byte + 1;
-    let n = v[length_byte] as usize;
-    if v.len() - list < n {
-        return isis_check_a::refused(3, Run::B, at);
-    }
-    check_parts(v, h, list, list + n, at)
 }
 
 // A TLV of run B by its type and value.
 fn check_element(t: u8, value: &[u8], at: usize) -> Checked
-    requires { ⌜ at + 2 + length (now value) < 18446744073709551616 ⌝ }
+    requires { ⌜ at + 2 + length (now value) < 2 ^ 64 ⌝ }
     ensures { λ r. ⌜ toldChecked r ≡ checkB at t (now (value .entry)) ⌝ }
 {
     if t != 238 {
@@ -210,18 +208,20 @@ pub fn check_b(b: &[u8]) -> Checked
     ensures { λ r. ⌜ toldChecked r ≡ faults runB checkB (elements 1 0 (now (b .entry))) ⌝ }
 {
     let mut at = 0;
-    while at < b.len() {
-        let Frame::Whole(n) = isis_check_a::frame_at(b, at) else {
-            return isis_check_a::refused(3, Run::B, at);
-        };
-        let value = at + 2;
-        let end = value + n;
-        if let Checked::Refused(r) = check_element(b[at], &b[value..end], at) {
-            return Checked::Refused(r);
+    loop {
+        match isis_check_a::frame_at(b, at) {
+            Frame::End => return Checked::Accepted,
+            Frame::Cut => return isis_check_a::refused(3, Run::B, at),
+            Frame::Whole(n) => {
+                let value = at + 2;
+                let end = value + n;
+                if let Checked::Refused(r) = check_element(b[at], &b[value..end], at) {
+                    return Checked::Refused(r);
+                }
+                at = end;
+            }
         }
-        at = end;
     }
-    Checked::Accepted
 }
 
 fn least(x: usize, y: usize) -> usize
@@ -237,22 +237,20 @@ fn least(x: usize, y: usize) -> usize
 pub fn live_srlg(v: &[u8]) -> bool
     ensures { λ r. ⌜ ((at : ℕ) → r ≡ liveSrlg at (now (v .entry))) ⌝ }
 {
-    if v.len() < 3 {
+    if v.len() < 2 {
         return false;
     }
     let h = isis_check_a::read_header(v);
-    if isis_check_a::mask_too_long(h) {
-        return false;
-    }
     if isis_check_a::l_for_nobody(h) {
         return false;
     }
-    let length_byte = isis_check_a::header_length(h);
-    if v.len() <= length_byte {
-        return false;
+    match isis_check_a::masks_within(h, v.len() - 1) {
+        Masks::Ignored => return false,
+        Masks::Past => return false,
+        Masks::End(length_byte) => {
+            let list = length_byte + 1;
+            let end = least(list + (v[length_byte] as usize), v.len());
+            return identifies_link(&v[list..end]);
+        }
     }
-    let list = length_byte + 1;
-    let end = least(list + (v[length_byte] as usize), v.len());
-    let found = read_identifiers(&v[list..end], 0);
-    identified(found.tally)
 }

@@ -2,7 +2,7 @@
 use mathlib.Core.Path.{_≡_, refl, sym, ap, _∙_, subst}
 use mathlib.Core.Bool.{Bool, true, false, cond, _&&_, _||_}
 use mathlib.Core.List.{List, [], _∷_}
-use Prim.Native.Nat.{ℕ, _+_, _*_, _/_, _≤_, _<_}
+use Prim.Native.Nat.{ℕ, _+_, _/_, _≤_, _<_}
 use native.Mathlib.Omega.{arith}
 use borrow.Author.Tests.{eq-eqb, ne-eqb, ltb-false}
 use lib.Dec.{ltb}
@@ -10,7 +10,7 @@ use lib.ListN.{length}
 use Rattle.linkstate.specs.Lists.{any, keep, each, empty, put}
 use Rattle.linkstate.specs.Bytes.{words, insert, distinct, bytesOfWords}
 use Rattle.linkstate.specs.Attributes.{Attribute, ofKind, srlgs, valueOf}
-use Rattle.linkstate.specs.Sides.{Advertisement, Side, names, general, named, namedWithL, ofLive, generalSet, applicationSet, rsvpTeKind}
+use Rattle.linkstate.specs.Sides.{Side, names, named, namedWithL, ofLive, generalSet, applicationSet, rsvpTeKind}
 use Rattle.linkstate.specs.Masks.{user}
 use Rattle.linkstate.specs.Questions.{setOf, numberTooHigh}
 use Rattle.octets.proofs.Laws.{put-nil}
@@ -21,7 +21,6 @@ use Rattle.replies.specs.Told.{subjectOf}
 use Rattle.isis.specs.RunB.{sideB}
 use Rattle.isis.specs.Link.{sideOf, linkSource}
 use Rattle.isis_tlvs_238.specs.declared.Which.the-variants.{Naming, General}
-use Rattle.isis_tlvs_238.specs.declared.How.{How}
 use Rattle.isis_tlvs_238.specs.declared.How.the-variants.{WithL, WithoutL, NotNamed}
 use Rattle.isis_tlvs_238.specs.Selected.{selects, howAmong, howNamed, srlgWords}
 use Rattle.isis_tlvs_238.proofs.Tlvs.{words-one, words-none}

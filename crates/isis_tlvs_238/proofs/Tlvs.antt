@@ -1,10 +1,9 @@
 -- One TLV 238 that passed its checks: its parts lie within it, and what it says by the tests of its header. v follows the neighbour bytes.
 use mathlib.Core.Path.{_≡_, refl, sym, ap, ap₂, _∙_, subst}
 use mathlib.Core.Bool.{Bool, true, false, cond, _&&_, _||_, not, and-true, and-false, or-false}
-use mathlib.Core.List.{List, [], _∷_, _++_, append-nil}
+use mathlib.Core.List.{List, [], _∷_, append-nil}
 use Prim.Native.Nat.{ℕ, _+_, _-_, _/_, _≤_, _<_}
 use native.Mathlib.Omega.{arith}
-use native.Mathlib.Nat.{add-sub-cancel-left}
 use borrow.Author.Tests.{eq-eqb, ne-eqb, lt-ltb, le-ltb, ltb-true, ltb-false}
 use lib.Dec.{eqb, ltb}
 use lib.ListN.{length, take, drop, length-take, length-drop}
@@ -28,7 +27,6 @@ use Rattle.isis_check_b.proofs.SrlgLaws.{behind, tlv-srlg, srlg-short, srlg-no-
 use Rattle.isis_check_a.proofs.Laws.{rest-is}
 use Rattle.isis_tlvs_238.specs.declared.Which.{Which}
 use Rattle.isis_tlvs_238.specs.declared.Which.the-variants.{Naming, General}
-use Rattle.isis_tlvs_238.specs.declared.How.{How}
 use Rattle.isis_tlvs_238.specs.declared.How.the-variants.{WithL, WithoutL, NotNamed}
 use Rattle.isis_tlvs_238.specs.Selected.{selects, masked, howAmong, srlgWords, wordsIn, Listed, Whole}
 

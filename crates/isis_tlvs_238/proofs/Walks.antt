@@ -2,7 +2,7 @@
 use mathlib.Core.Path.{_≡_, refl, sym, ap, ap₂, _∙_}
 use mathlib.Core.Bool.{Bool, true, false, cond, _&&_, _||_, or-assoc, or-false}
 use mathlib.Core.List.{List, [], _∷_, _++_, append-assoc, append-nil}
-use Prim.Native.Nat.{ℕ, _+_, _-_, _*_, _≤_, _<_}
+use Prim.Native.Nat.{ℕ, _+_, _-_, _≤_, _<_}
 use native.Mathlib.Omega.{arith}
 use native.Mathlib.Nat.{zero-add}
 use lib.Dec.{eqb}
@@ -142,6 +142,12 @@ module _ (b : List ℕ) (at : ℕ) (here : at < length b) (ok : faults runB chec
       ap (λ (h : How). stronger h (howAmong n rest)) (f ∙ ap (stronger was) e)
       ∙ stronger-assoc was (howAmong n (srlgAdvertisements (tlvAt b at))) (howAmong n rest)
       ∙ ap (stronger was) (sym (ap (howAmong n) (turn srlgAdvertisements) ∙ how-append n (srlgAdvertisements (tlvAt b at)) rest))
+
+  -- with L nothing that is left matters
+  pub how-stop : (n : ℕ) (was one is all : How) → one ≡ howAmong n (srlgAdvertisements (tlvAt b at)) → is ≡ stronger was one → is ≡ WithL
+      → stronger was (howAmong n (each srlgAdvertisements (left 1 0 b at))) ≡ all → WithL ≡ all
+  unfolding stronger
+  how-stop n was one is all e f l i = (rw l at (how-turn n was one is e f)) ∙ i
 
   -- whether an application is named
   pub named-turn : (a : ℕ) (was is : Bool) → is ≡ was || any (names a) (srlgAdvertisements (tlvAt b at))

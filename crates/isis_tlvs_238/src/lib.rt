@@ -3,7 +3,7 @@
 ghost use mathlib.Core.Path.{_≡_};
 ghost use mathlib.Core.Bool.{_&&_, _||_, false};
 ghost use mathlib.Core.List.{List, []};
-ghost use Prim.Native.Nat.{ℕ, _+_, _*_, _/_, _≤_, _<_};
+ghost use Prim.Native.Nat.{ℕ, _+_, _/_, _≤_, _<_};
 ghost use lib.ListN.{length, take, drop};
 ghost use Rattle.linkstate.specs.Lists.{any, put};
 ghost use Rattle.linkstate.specs.Bytes.{words};
@@ -11,7 +11,7 @@ ghost use Rattle.linkstate.specs.Replies.{accepted, runB};
 ghost use Rattle.linkstate.specs.Elements.{element, elements, faults};
 ghost use Rattle.linkstate.specs.Masks.{inNumber};
 ghost use Rattle.linkstate.specs.Sides.{named, names, ofLive};
-ghost use Rattle.isis.specs.MaskHeader.{sabmLength, udabmLength, headerLength, maskTooLong, advertisement};
+ghost use Rattle.isis.specs.MaskHeader.{sabmLength, udabmLength, headerLength, advertisement};
 ghost use Rattle.isis.specs.RunB.{checkB, liveSrlg, srlgAdvertisements, sideB};
 ghost use Rattle.isis_check_a.specs.Headers.{headerOf};
 ghost use Rattle.isis_tlvs_238.specs.Selected.{selects, masked, howAmong, howNamed, stronger as strongerOf, srlgWords, wordsIn, Listed, Whole};
@@ -122,6 +122,9 @@ pub fn how_named(b: &[u8], n: u32) -> How
         let value = at + 2;
         let next = value + b[at + 1] as usize;
         how = stronger(how, naming(b[at], &b[value..next], n));
+        if let How::WithL = how {
+            return How::WithL;
+        }
         at = next;
     }
     how
@@ -134,7 +137,8 @@ fn values_start(value: &[u8], which: Which) -> usize
 {
     let v = &value[7..];
     let h = isis_check_a::read_header(v);
-    if h.l {
+    let unread = h.l;
+    if unread {
         return value.len();
     }
     if !taken(v, h, which) {

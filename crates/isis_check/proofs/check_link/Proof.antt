@@ -1,9 +1,9 @@
--- Each way out is the first refusal of the definition's four checks.
-use Rattle.isis_check.proofs.Laws.{link-long, link-odd, link-a, link-b}
-use Rattle.replies.specs.Told.{toldChecked}
-use Rattle.linkstate.specs.Replies.{refused}
-use mathlib.Core.Path.{sym, ap, _∙_}
+-- Each way out is the first refusal of the definition's checks.
+use mathlib.Core.Path.{sym, ap, ap₂, _∙_}
+use native.Mathlib.Omega.{arith}
 use borrow.Author.Needs.{needs}
+use Rattle.linkstate.specs.Replies.{Verdict, refused, _then_}
+use Rattle.isis_check.proofs.Laws.{link-long, link-odd, link-runs}
 use Rattle.isis_check.proofs.check_link.Statement.{statement}
 use Rattle.isis_check.proofs.check_link.Tie as tie
 
@@ -20,28 +20,22 @@ refuse-call-requires-2 : tie.Need-refuse-call-requires-2
 refuse-call-requires-2 c κs = search needs
 
 returns-2 : tie.Need-returns-2
-returns-2 c = ap refused (c .refuse-call2 .ensures) ∙ link-odd _ _ _ (sym (c .before .before .before .too-long .ensures) ∙ c .before .before .if1 .left) (c .before .if2 .taken)
+returns-2 c = ap refused (c .refuse-call2 .ensures) ∙ link-odd _ _ _ (sym (c .before .before .before .too-long .ensures) ∙ c .before .before .if1 .left) (λ e. omega (arith, e))
 
 check-a-requires : tie.Need-check-a-requires
 check-a-requires c κs = search needs
 
-enum-known-r : tie.Need-enum-known-r
-enum-known-r c = search needs
-
-returns-3 : tie.Need-returns-3
-returns-3 c = let k = c .before .before .before in
-    link-a _ _ _ (sym (k .before .before .before .too-long .ensures) ∙ k .before .before .if1 .left) (k .before .if2 .left) _ (sym (ap toldChecked (c .before .r .given .1)) ∙ k .check-a .ensures)
-
-enum-told : tie.Need-enum-told
-enum-told c = search needs
-
 check-b-requires : tie.Need-check-b-requires
 check-b-requires c κs = search needs
 
-returns-4 : tie.Need-returns-4
-returns-4 c = let k = c .before .before .before in
-    c .check-b .ensures
-    ∙ link-b _ _ _ (sym (k .before .before .before .too-long .ensures) ∙ k .before .before .if1 .left) (k .before .if2 .left) (sym (ap toldChecked (c .before .enum-told .given .1)) ∙ k .check-a .ensures)
+first-refusal-requires : tie.Need-first-refusal-requires
+first-refusal-requires c κs = search needs
+
+returns-3 : tie.Need-returns-3
+returns-3 c = let k = c .before .before .before in
+    c .first-refusal .ensures
+    ∙ ap₂ (λ (u v : Verdict). u then v) (c .before .before .check-a .ensures) (c .before .check-b .ensures)
+    ∙ link-runs _ _ _ (sym (k .before .before .too-long .ensures) ∙ k .before .if1 .left) (omega arith)
 
 pub check-link-spec : {M : Type 1} → statement M
 check-link-spec =
@@ -53,8 +47,6 @@ check-link-spec =
     refuse-call-requires-2
     returns-2
     check-a-requires
-    enum-known-r
-    returns-3
-    enum-told
     check-b-requires
-    returns-4)
+    first-refusal-requires
+    returns-3)

@@ -1,6 +1,6 @@
 -- One length after the other.
-use borrow.Author.Tests.{lt-ltb, le-ltb}
 use native.Mathlib.Omega.{arith}
+use borrow.Author.Tests.{lt-ltb, le-ltb}
 use Rattle.isis_check.proofs.too_long.Statement.{statement}
 use Rattle.isis_check.proofs.too_long.Tie as tie
 

@@ -1,22 +1,18 @@
 -- The invariant: what is left decides.
-use Rattle.isis_check_a.proofs.Laws.{list-passed, list-refused}
-use Rattle.isis_check_a.specs.declared.Frame.the-variants.{Whole}
-use Rattle.isis_check_a.specs.Frames.{frameAt}
-use Rattle.octets.proofs.Laws.{length-bytesAt}
-use lib.ListN.{getD}
-use borrow.Author.Tests.{eqb-true}
-use Rattle.isis_check_a.proofs.Laws.{turn-cut, turn-passed, turn-refused, whole-within, attribute-fits, attribute-wrong}
-use Rattle.isis.specs.RunA.{checkAttribute}
-use Rattle.linkstate.proofs.WalkLaws.{left, faults-end}
-use Rattle.linkstate.specs.Elements.{elements, faults}
-use Rattle.linkstate.specs.Replies.{runA}
-use denote.Ref.{now}
-use borrow.Author.Needs.{needs}
+use mathlib.Core.Path.{_≡_, refl, sym, _∙_}
+use Prim.Native.Nat.{_≤_, _+_, _-_}
 use native.Mathlib.Nat.{add-zero}
 use native.Mathlib.Omega.{arith}
+use borrow.Author.Needs.{needs}
 use lib.ListN.{length}
-use mathlib.Core.Path.{_≡_, refl, sym, _∙_}
-use Prim.Native.Nat.{_≤_, _-_, _+_}
+use denote.Ref.{now}
+use Rattle.linkstate.specs.Elements.{elements, faults}
+use Rattle.linkstate.specs.Replies.{runA}
+use Rattle.linkstate.proofs.WalkLaws.{left}
+use Rattle.isis.specs.RunA.{checkAttribute}
+use Rattle.isis_check_a.specs.declared.Frame.the-variants.{Whole}
+use Rattle.isis_check_a.specs.Frames.{frameAt}
+use Rattle.isis_check_a.proofs.Laws.{frame-says, turn-end, turn-cut, list-passed, list-refused}
 use Rattle.isis_check_a.proofs.check_attributes.Statement.{statement}
 use Rattle.isis_check_a.proofs.check_attributes.Tie as tie
 
@@ -32,11 +28,14 @@ loop-holds c = (omega arith, rw add-zero)
 frame-at-requires : tie.Need-frame-at-requires Inv-loop μ-loop
 frame-at-requires c κs = search needs
 
-enum-known-n : tie.Need-enum-known-n Inv-loop μ-loop
-enum-known-n c = search needs
-
 enum-told : tie.Need-enum-told Inv-loop μ-loop
 enum-told c = search needs
+
+returns : tie.Need-returns Inv-loop μ-loop
+returns c = let l = c .before .before .before in turn-end runA checkAttribute _ _ _ (sym (c .before .before .frame-at .ensures) ∙ c .enum-told .given .1) ∙ l .loop .inv .1
+
+enum-told-2 : tie.Need-enum-told-2 Inv-loop μ-loop
+enum-told-2 c = search needs
 
 add-refused : tie.Need-add-refused Inv-loop μ-loop
 add-refused c = search needs
@@ -44,19 +43,20 @@ add-refused c = search needs
 refused-requires : tie.Need-refused-requires Inv-loop μ-loop
 refused-requires c κs = search needs
 
-returns : tie.Need-returns Inv-loop μ-loop
-returns c = let l = c .before .before .before .before .before in
-    c .refused .ensures
-    ∙ turn-cut runA checkAttribute _ _ _ _ refl (omega arith) (sym (c .before .before .before .frame-at .ensures) ∙ c .before .enum-told .given .1)
-    ∙ l .loop .inv .1
+returns-2 : tie.Need-returns-2 Inv-loop μ-loop
+returns-2 c = let l = c .before .before .before .before in
+    c .refused .ensures ∙ turn-cut runA checkAttribute _ _ _ _ refl (sym (c .before .before .before .frame-at .ensures) ∙ c .before .enum-told2 .given .1) ∙ l .loop .inv .1
+
+enum-known-n : tie.Need-enum-known-n Inv-loop μ-loop
+enum-known-n c = search needs
 
 -- the element is whole
-whole : (c : tie.After-known-told Inv-loop μ-loop) → let l = c .before .before .before .before .before in
+whole : (c : tie.After-known-told Inv-loop μ-loop) → let l = c .before .before .before .before in
     (frameAt (now (l .before .before .args .s)) (l .loop .at) ≡ Whole (c .before .n .given .0 .0)) × (l .loop .at + 2 + c .before .n .given .0 .0 ≤ length (now (l .before .before .args .s)))
-whole c = let e = sym (c .before .before .before .frame-at .ensures) ∙ c .before .n .given .1 in (e, whole-within _ _ _ e .1)
+whole c = let e = sym (c .before .before .before .frame-at .ensures) ∙ c .before .n .given .1 in (e, frame-says _ _ _ e .1)
 
 shared-slice-read-wrong-length : tie.Need-shared-slice-read-wrong-length Inv-loop μ-loop
-shared-slice-read-wrong-length c = search needs
+shared-slice-read-wrong-length c = omega (arith, whole (c .before) .1)
 
 wrong-length-requires : tie.Need-wrong-length-requires Inv-loop μ-loop
 wrong-length-requires c κs = search needs
@@ -67,12 +67,14 @@ add-refused-2 c = search needs
 refused-requires-2 : tie.Need-refused-requires-2 Inv-loop μ-loop
 refused-requires-2 c κs = search needs
 
-returns-2 : tie.Need-returns-2 Inv-loop μ-loop
-returns-2 c = let w = whole (c .before .before .before .before) in
-    c .refused2 .ensures ∙ list-refused _ _ _ _ (w .0) (sym (c .before .before .wrong-length .ensures) ∙ c .before .if1 .taken) ∙ c .before .before .before .before .before .before .before .before .before .loop .inv .1
+returns-3 : tie.Need-returns-3 Inv-loop μ-loop
+returns-3 c = let w = whole (c .before .before .before .before) in
+    c .refused2 .ensures
+    ∙ list-refused _ _ _ _ (w .0) (sym (c .before .before .wrong-length .ensures) ∙ c .before .if1 .taken)
+    ∙ c .before .before .before .before .before .before .before .before .loop .inv .1
 
 add-at : tie.Need-add-at Inv-loop μ-loop
-add-at c = search needs
+add-at c = omega (arith, whole (c .before .before .before) .1)
 
 add-at-2 : tie.Need-add-at-2 Inv-loop μ-loop
 add-at-2 c = omega (arith, whole (c .before .before .before) .1)
@@ -81,10 +83,8 @@ loop-less : tie.Need-loop-less Inv-loop μ-loop
 loop-less c = omega (arith, whole (c .before .before .before) .1)
 
 loop-again : tie.Need-loop-again Inv-loop μ-loop
-loop-again c = let w = whole (c .before .before .before) in (w .1, list-passed _ _ _ _ (w .0) (sym (c .before .wrong-length .ensures) ∙ c .if1 .left) ∙ c .before .before .before .before .before .before .before .before .loop .inv .1)
-
-returns-3 : tie.Need-returns-3 Inv-loop μ-loop
-returns-3 c = sym (faults-end runA checkAttribute 1 (omega arith) _ _ _ (omega arith)) ∙ c .before .loop .inv .1
+loop-again c = let w = whole (c .before .before .before) in
+    (w .1, list-passed _ _ _ _ (w .0) (sym (c .before .wrong-length .ensures) ∙ c .if1 .left) ∙ c .before .before .before .before .before .before .before .loop .inv .1)
 
 pub check-attributes-spec : {M : Type 1} → statement M
 check-attributes-spec =
@@ -94,18 +94,19 @@ check-attributes-spec =
     μ-loop
     loop-holds
     frame-at-requires
-    enum-known-n
     enum-told
+    returns
+    enum-told-2
     add-refused
     refused-requires
-    returns
+    returns-2
+    enum-known-n
     shared-slice-read-wrong-length
     wrong-length-requires
     add-refused-2
     refused-requires-2
-    returns-2
+    returns-3
     add-at
     add-at-2
     loop-less
-    loop-again
-    returns-3)
+    loop-again)

@@ -1,7 +1,7 @@
 -- An ASLA, or the length of an attribute.
-use Rattle.isis_check_a.proofs.Laws.{sub-tlv-asla, sub-tlv-other, attribute-fits, attribute-wrong}
 use mathlib.Core.Path.{refl, sym, _∙_}
 use borrow.Author.Needs.{needs}
+use Rattle.isis_check_a.proofs.Laws.{sub-tlv-asla, sub-tlv-other, attribute-fits, attribute-wrong}
 use Rattle.isis_check_a.proofs.check_element.Statement.{statement}
 use Rattle.isis_check_a.proofs.check_element.Tie as tie
 

@@ -1,7 +1,7 @@
 -- Three tests; the second is asked only where the first held.
-use Rattle.isis_check_a.proofs.Laws.{and-third, and-less}
 use mathlib.Core.Path.{_∙_}
 use mathlib.Core.Logic.{⊎-elim, inl, inr}
+use Rattle.isis_check_a.proofs.Laws.{and-third, and-less}
 use Rattle.isis_check_a.proofs.l_for_nobody.Statement.{statement}
 use Rattle.isis_check_a.proofs.l_for_nobody.Tie as tie
 

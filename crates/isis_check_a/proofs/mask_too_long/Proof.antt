@@ -1,6 +1,6 @@
 -- Two tests, one after the other.
-use borrow.Author.Tests.{lt-ltb, le-ltb}
 use native.Mathlib.Omega.{arith}
+use borrow.Author.Tests.{lt-ltb, le-ltb}
 use Rattle.isis_check_a.proofs.mask_too_long.Statement.{statement}
 use Rattle.isis_check_a.proofs.mask_too_long.Tie as tie
 

@@ -1,8 +1,8 @@
 -- The three numbers are the definitions' own; a remainder by 128 is below 128.
-use Rattle.isis.specs.MaskHeader.{lFlag, sabmLength, udabmLength}
-use native.Mathlib.Omega.{arith}
 use mathlib.Core.Path.{refl}
+use native.Mathlib.Omega.{arith}
 use borrow.Author.Needs.{needs}
+use Rattle.isis.specs.MaskHeader.{lFlag, sabmLength, udabmLength}
 use Rattle.isis_check_a.proofs.read_header.Statement.{statement}
 use Rattle.isis_check_a.proofs.read_header.Tie as tie
 

@@ -1,7 +1,7 @@
 -- A refusal of its number, run and offset.
-use Rattle.linkstate.specs.Replies.{fault, refused as is-refused}
 use mathlib.Core.Path.{ap}
 use borrow.Author.Needs.{needs}
+use Rattle.linkstate.specs.Replies.{fault, refused as is-refused}
 use Rattle.isis_check_a.proofs.refused.Statement.{statement}
 use Rattle.isis_check_a.proofs.refused.Tie as tie
 

@@ -1,10 +1,10 @@
 -- A wrong length is one that does not fit the size of the type's rule.
-use Rattle.kinds.proofs.Laws.{wrong-in-a}
-use Rattle.kinds.specs.Rules.{fitsIn}
-use Rattle.kinds.specs.declared.Rule.{Rule}
 use mathlib.Core.Bool.{not}
 use mathlib.Core.Path.{ap, sym, _∙_}
 use borrow.Author.Needs.{needs}
+use Rattle.kinds.specs.Rules.{fitsIn}
+use Rattle.kinds.specs.declared.Rule.{Rule}
+use Rattle.kinds.proofs.Laws.{wrong-in-a}
 use Rattle.isis_check_a.proofs.wrong_length.Statement.{statement}
 use Rattle.isis_check_a.proofs.wrong_length.Tie as tie
 

@@ -1,8 +1,8 @@
 -- A 238, or a type that is skipped.
-use Rattle.isis_check_b.proofs.SrlgLaws.{tlv-srlg, tlv-other}
-use native.Mathlib.Omega.{arith}
 use mathlib.Core.Path.{_∙_}
+use native.Mathlib.Omega.{arith}
 use borrow.Author.Needs.{needs}
+use Rattle.isis_check_b.proofs.SrlgLaws.{tlv-srlg, tlv-other}
 use Rattle.isis_check_b.proofs.check_element.Statement.{statement}
 use Rattle.isis_check_b.proofs.check_element.Tie as tie
 

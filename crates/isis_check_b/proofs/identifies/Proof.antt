@@ -1,11 +1,10 @@
 -- One test after the other: a type that is there twice; a 4; the pairs.
 use Prim.Native.Nat.{_+_}
-use Rattle.isis_check_b.proofs.Laws.{once}
-use Rattle.isis_check_b.specs.Identifiers.{identifiedBy}
-use borrow.Author.Tests.{lt-ltb, le-ltb, eq-eqb, ne-eqb}
-use mathlib.Core.Path.{sym, _∙_}
 use native.Mathlib.Omega.{arith}
+use borrow.Author.Tests.{lt-ltb, le-ltb, eq-eqb, ne-eqb}
 use borrow.Author.Needs.{needs}
+use Rattle.isis_check_b.specs.Identifiers.{identifiedBy}
+use Rattle.isis_check_b.proofs.Laws.{once}
 use Rattle.isis_check_b.proofs.identifies.Statement.{statement}
 use Rattle.isis_check_b.proofs.identifies.Tie as tie
 

@@ -1,6 +1,6 @@
 -- Each known type by computing, the rest by being none of them.
-use Rattle.isis_check_b.specs.Identifiers.{knownOf}
 use borrow.Author.Tests.{ne-eqb}
+use Rattle.isis_check_b.specs.Identifiers.{knownOf}
 use Rattle.isis_check_b.proofs.known_identifier.Statement.{statement}
 use Rattle.isis_check_b.proofs.known_identifier.Tie as tie
 

@@ -1,7 +1,7 @@
 -- The smaller one.
-use native.Mathlib.Omega.{arith}
 use mathlib.Core.Logic.{inl, inr}
 use mathlib.Core.Path.{refl}
+use native.Mathlib.Omega.{arith}
 use Rattle.isis_check_b.proofs.least.Statement.{statement}
 use Rattle.isis_check_b.proofs.least.Tie as tie
 

@@ -2,7 +2,6 @@
 use Rattle.isis_srlgs.proofs.Sorted.{copied, part-few}
 use denote.Ref.{now}
 use mathlib.Core.Path.{_∙_, ap}
-use native.Mathlib.Omega.{arith}
 use Rattle.linkstate.specs.Bytes.{distinct}
 use borrow.Author.Needs.{needs}
 use Rattle.isis_srlgs.proofs.sort_through.Statement.{statement}

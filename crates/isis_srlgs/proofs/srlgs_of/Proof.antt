@@ -1,5 +1,4 @@
 -- The numbers of the subject's set, sorted.
-use denote.Ref.{now}
 use mathlib.Core.List.{[]}
 use native.Mathlib.Omega.{arith}
 use Rattle.isis_srlgs.proofs.Sorted.{sorted-front}

@@ -1,5 +1,4 @@
 -- Each subject has its set.
-use denote.Ref.{now}
 use native.Mathlib.Omega.{arith}
 use Rattle.isis_srlgs.proofs.Subjects.{fronts-same, subject-general, subject-rsvp-te, subject-standard, subject-user, user-low}
 use borrow.Author.Needs.{needs}

@@ -1,12 +1,7 @@
 -- Nothing of another type; of a 238 what follows where its values begin.
 use Rattle.isis_tlvs_238.proofs.Tlvs.{other-words, wrote-nothing, wrote-part, part-few}
 use denote.Ref.{now}
-use lib.ListN.{length, length-drop}
-use mathlib.Core.Path.{_≡_, sym, _∙_, ap}
 use native.Mathlib.Omega.{arith}
-use Rattle.srlg.proofs.Laws.{length-words}
-use Rattle.linkstate.specs.Elements.{element}
-use Rattle.isis_tlvs_238.specs.Selected.{wordsIn}
 use borrow.Author.Needs.{needs}
 use Rattle.isis_tlvs_238.proofs.add_words.Statement.{statement}
 use Rattle.isis_tlvs_238.proofs.add_words.Tie as tie

@@ -3,7 +3,7 @@ use denote.Ref.{now}
 use lib.ListN.{length, getD}
 use Prim.Native.Nat.{ℕ, _+_, _*_, _≤_, _-_}
 use mathlib.Core.List.{List}
-use mathlib.Core.Path.{_≡_, refl, sym, _∙_, ap}
+use mathlib.Core.Path.{_≡_, refl, _∙_, ap}
 use native.Mathlib.Omega.{arith}
 use Rattle.linkstate.proofs.WalkLaws.{left}
 use Rattle.linkstate.specs.Elements.{elements, faults}

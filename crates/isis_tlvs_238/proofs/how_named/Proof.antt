@@ -2,7 +2,7 @@
 use denote.Ref.{now}
 use lib.ListN.{length, getD}
 use Prim.Native.Nat.{_+_, _≤_, _-_}
-use mathlib.Core.Path.{_≡_, refl, sym, _∙_, ap}
+use mathlib.Core.Path.{_≡_, refl, _∙_}
 use native.Mathlib.Omega.{arith}
 use Rattle.linkstate.proofs.WalkLaws.{left}
 use Rattle.linkstate.specs.Elements.{elements, faults}
@@ -10,13 +10,9 @@ use Rattle.linkstate.specs.Replies.{accepted, runB}
 use Rattle.linkstate.specs.Lists.{each}
 use Rattle.isis.specs.RunB.{checkB, srlgAdvertisements, sideB}
 use Rattle.isis_tlvs_238.specs.Selected.{howAmong, howNamed, stronger}
-use Rattle.isis_tlvs_238.proofs.Walks.{inside, rest-ok, value-whole, how-turn, how-end}
+use Rattle.isis_tlvs_238.proofs.Walks.{inside, rest-ok, value-whole, how-turn, how-stop, how-end}
 use Rattle.isis_tlvs_238.proofs.how_named.Statement.{statement}
 use Rattle.isis_tlvs_238.proofs.how_named.Tie as tie
-use Rattle.isis_tlvs_238.proofs.how_named.Reads as reads
-use Rattle.isis_tlvs_238.proofs.how_named.Lts as lts
-use Rattle.isis_tlvs_238.proofs.naming.Reads as naming-reads
-use Rattle.isis_tlvs_238.proofs.stronger.Reads as stronger-reads
 
 abbrev Inv-loop : tie.InvT-loop
 Inv-loop b n how₀ at₀ how at =
@@ -67,21 +63,31 @@ naming-requires c κs = let l = c .before .before .before .before in value-whole
 stronger-requires : tie.Need-stronger-requires Inv-loop μ-loop
 stronger-requires c κs = tt
 
-loop-less : tie.Need-loop-less Inv-loop μ-loop
-loop-less c = omega (arith, within (c .before .before .before .before .before))
-
-loop-again : tie.Need-loop-again Inv-loop μ-loop
-loop-again c =
-    let l = c .before .before .before .before .before .before in
-    let b = now (l .before .before .args .b) in (
-      omega (arith, within (c .before .before .before .before .before)),
-      rest-ok b (l .loop .at) (omega arith) (l .loop .inv .1),
-      how-turn b (l .loop .at) (omega arith) (l .loop .inv .1) _ _ _ _ (c .before .naming .ensures (l .loop .at)) (c .stronger .ensures) ∙ l .loop .inv .2,
-    )
+enum-told : tie.Need-enum-told Inv-loop μ-loop
+enum-told c = omega arith
 
 returns : tie.Need-returns Inv-loop μ-loop
 unfolding howNamed sideB
 returns c =
+    let l = c .before .before .before .before .before .before .before .before in
+    λ x. how-stop (now (l .before .before .args .b)) (l .loop .at) (omega arith) (l .loop .inv .1) _ _ _ _ _ (c .before .before .before .naming .ensures (l .loop .at)) (c .before .before .stronger .ensures) (c .enum-told .given .1) (l .loop .inv .2)
+
+loop-less : tie.Need-loop-less Inv-loop μ-loop
+loop-less c = omega (arith, within (c .before .before .before .before .before .before))
+
+loop-again : tie.Need-loop-again Inv-loop μ-loop
+loop-again c =
+    let t = c .before .before .before .before .before .before in
+    let l = t .before in
+    let b = now (l .before .before .args .b) in (
+      within t,
+      rest-ok b (l .loop .at) (omega arith) (l .loop .inv .1),
+      how-turn b (l .loop .at) (omega arith) (l .loop .inv .1) _ _ _ _ (c .before .before .naming .ensures (l .loop .at)) (c .before .stronger .ensures) ∙ l .loop .inv .2,
+    )
+
+returns-2 : tie.Need-returns-2 Inv-loop μ-loop
+unfolding howNamed sideB
+returns-2 c =
     let l = c .before in
     λ x. how-end (now (l .before .before .args .b)) (l .loop .at) (omega arith) _ _ ∙ l .loop .inv .2
 
@@ -103,6 +109,8 @@ how-named-spec =
     part-naming-end
     naming-requires
     stronger-requires
+    enum-told
+    returns
     loop-less
     loop-again
-    returns)
+    returns-2)

@@ -3,10 +3,9 @@ use denote.Ref.{now}
 use native.Mathlib.Omega.{arith}
 use lib.ListN.{length}
 use Prim.Native.Nat.{_≤_}
-use mathlib.Core.Bool.{false}
-use mathlib.Core.Path.{_≡_, sym, _∙_}
+use mathlib.Core.Path.{sym, _∙_}
 use borrow.Author.Tests.{not-true, not-false}
-use Rattle.isis.specs.MaskHeader.{headerLength, maskTooLong}
+use Rattle.isis.specs.MaskHeader.{headerLength}
 use Rattle.isis_check_a.proofs.Laws.{header-too-long}
 use Rattle.isis_tlvs_238.proofs.Tlvs.{too-long-dead, not-taken, taken-live}
 use borrow.Author.Needs.{needs}

@@ -5,11 +5,10 @@ use lib.ListN.{length}
 use Prim.Native.Nat.{_+_, _≤_}
 use mathlib.Core.Path.{_≡_, refl, sym, _∙_}
 use borrow.Author.Tests.{not-true, not-false}
-use Rattle.isis.specs.RunB.{afterNeighbour, identifierBytes}
+use Rattle.isis.specs.RunB.{identifierBytes}
 use Rattle.isis.specs.MaskHeader.{headerLength}
 use Rattle.isis_check_b.proofs.SrlgLaws.{behind, behind-length, length-byte}
 use Rattle.isis_check_a.proofs.Laws.{header-l, header-bytes}
-use Rattle.isis_tlvs_238.specs.Selected.{Listed}
 use Rattle.isis_tlvs_238.proofs.Tlvs.{after-is, behind-listed, taken-within, start-l, start-not, start-at}
 use borrow.Author.Needs.{needs}
 use Rattle.isis_tlvs_238.proofs.values_start.Statement.{statement}

@@ -1,8 +1,8 @@
 -- By cases of the first check.
-use Rattle.linkstate.specs.Replies.{_then_}
 use borrow.Author.Needs.{needs}
-use Rattle.isis_check_b.proofs.first_of.Statement.{statement}
-use Rattle.isis_check_b.proofs.first_of.Tie as tie
+use Rattle.linkstate.specs.Replies.{_then_}
+use Rattle.isis_check.proofs.first_refusal.Statement.{statement}
+use Rattle.isis_check.proofs.first_refusal.Tie as tie
 
 enum-told : tie.Need-enum-told
 enum-told c = search needs
@@ -18,5 +18,5 @@ returns-2 : tie.Need-returns-2
 unfolding _then_
 returns-2 c = rw (c .before .x .given .1)
 
-pub first-of-spec : {M : Type 1} → statement M
-first-of-spec = tie.close (tie.spec enum-told enum-known-x returns returns-2)
+pub first-refusal-spec : {M : Type 1} → statement M
+first-refusal-spec = tie.close (tie.spec enum-told enum-known-x returns returns-2)
