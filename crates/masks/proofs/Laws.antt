@@ -59,7 +59,7 @@ unfolding one
 more-lt x k true h = rw (pow-suc 2 k) (omega arith)
 more-lt x k false h = rw (pow-suc 2 k) (omega arith)
 
-powers-lt : (k : ℕ) (p : ℕ → Bool) → powersBelow k p < 2 ^ k
+pub powers-lt : (k : ℕ) (p : ℕ → Bool) → powersBelow k p < 2 ^ k
 unfolding powersBelow
 powers-lt zero p = omega arith
 powers-lt (suc k) p = more-lt (powersBelow k p) k (p k) (powers-lt k p)

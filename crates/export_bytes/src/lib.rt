@@ -1,0 +1,121 @@
+// An export, from the sets that it is written from: measured first, and written only where it fits (document 01, "BGP-LS bytes").
+ghost use mathlib.Core.Path.{_≡_};
+ghost use mathlib.Core.List.{List, _++_};
+ghost use Prim.Native.Nat.{ℕ, _+_, _≤_, _<_};
+ghost use lib.ListN.{length};
+ghost use Rattle.linkstate.specs.Lists.{put};
+ghost use Rattle.linkstate.specs.Replies.{accepted};
+ghost use Rattle.linkstate.specs.Questions.{write};
+ghost use Rattle.replies.specs.Told.{toldExported};
+ghost use Rattle.set_bytes.specs.Sets.{Fits, Short};
+ghost use Rattle.set_groups.specs.Table.{Sound};
+ghost use Rattle.group_bytes.specs.Groups.{groupsBelow, Measurable};
+ghost use Rattle.export_bytes.specs.Whole.{generalBytes, lowBytes, highBytes, wholeBytes};
+use replies::Written;
+
+// How many bytes the TLV of the general set has; 0 where the set is empty.
+fn general_size(g: [[usize; 2]; 10], srlgs: usize) -> usize
+    requires { ⌜ (srlgs ≤ 512) × Short g ⌝ }
+    ensures { λ r. ⌜ (r ≤ 28752) × ((a ns : List ℕ) → Fits a g → length ns ≡ srlgs → r ≡ length (generalBytes a g ns)) ⌝ }
+{
+    if set_bytes::set_empty(g, srlgs) {
+        return 0;
+    }
+    asla_bytes::asla_size(g, srlgs, 0, 0)
+}
+
+// The TLV of the general set, with both masks empty, if the set is not empty; the place after it.
+fn write_general(a: &[u8], g: [[usize; 2]; 10], srlgs: &[u32], out: &mut [u8], at: usize) -> usize
+    requires { ⌜ Fits (now a) g × (length (now srlgs) ≤ 512) × (at + length (generalBytes (now a) g (now srlgs)) ≤ length (now out)) ⌝ }
+    ensures { λ r. ⌜ (r ≡ at + length (generalBytes (now (a .entry)) g (now (srlgs .entry)))) × (now (out .exit) ≡ put (now (out .entry)) at (generalBytes (now (a .entry)) g (now (srlgs .entry)))) ⌝ }
+{
+    if set_bytes::set_empty(g, srlgs.len()) {
+        return at;
+    }
+    asla_bytes::write_asla(a, g, srlgs, 0, 0, out, at)
+}
+
+// The ASLA TLVs: that of the general set, then those of the groups; the place after them.
+fn write_aslas(
+    a: &[u8],
+    g: [[usize; 2]; 10],
+    gs: &[u32],
+    grids: &[[[usize; 2]; 10]],
+    spans: &[[usize; 2]],
+    list: &[u32],
+    leads: &[usize],
+    out: &mut [u8],
+    at: usize,
+) -> usize
+    requires { ⌜ Fits (now a) g × (length (now gs) ≤ 512) × Sound (now a) (now grids) (now spans) (now list) × (length (now leads) ≡ 128) × (at + (length (generalBytes (now a) g (now gs)) + length (groupsBelow (now a) (now grids) (now spans) (now list) (now leads) 128)) ≤ length (now out)) ⌝ }
+    ensures { λ q. ⌜ (q ≡ at + (length (generalBytes (now (a .entry)) g (now (gs .entry))) + length (groupsBelow (now (a .entry)) (now (grids .entry)) (now (spans .entry)) (now (list .entry)) (now (leads .entry)) 128))) × (now (out .exit) ≡ put (now (out .entry)) at (generalBytes (now (a .entry)) g (now (gs .entry)) ++ groupsBelow (now (a .entry)) (now (grids .entry)) (now (spans .entry)) (now (list .entry)) (now (leads .entry)) 128)) ⌝ }
+{
+    let next = write_general(a, g, gs, out, at);
+    group_bytes::write_groups(a, grids, spans, list, leads, out, next)
+}
+
+// All TLVs, ascending by type, from the buffer's front on; how many bytes they have.
+fn write_whole(
+    a: &[u8],
+    l: [[usize; 2]; 3],
+    r: [[usize; 2]; 10],
+    rs: &[u32],
+    g: [[usize; 2]; 10],
+    gs: &[u32],
+    grids: &[[[usize; 2]; 10]],
+    spans: &[[usize; 2]],
+    list: &[u32],
+    leads: &[usize],
+    out: &mut [u8],
+) -> usize
+    requires { ⌜ Fits (now a) l × Fits (now a) r × (length (now rs) ≤ 512) × Fits (now a) g × (length (now gs) ≤ 512) × Sound (now a) (now grids) (now spans) (now list) × (length (now leads) ≡ 128) × (length (wholeBytes (now a) l r (now rs) g (now gs) (now grids) (now spans) (now list) (now leads)) ≤ length (now out)) ⌝ }
+    ensures { λ q. ⌜ (q ≡ length (wholeBytes (now (a .entry)) l r (now (rs .entry)) g (now (gs .entry)) (now (grids .entry)) (now (spans .entry)) (now (list .entry)) (now (leads .entry)))) × (now (out .exit) ≡ put (now (out .entry)) 0 (wholeBytes (now (a .entry)) l r (now (rs .entry)) g (now (gs .entry)) (now (grids .entry)) (now (spans .entry)) (now (list .entry)) (now (leads .entry)))) ⌝ }
+{
+    let low = set_bytes::write_top_low(a, l, r, rs, out, 0);
+    let aslas = write_aslas(a, g, gs, grids, spans, list, leads, out, low);
+    set_bytes::write_top_high(a, l, r, rs, out, aslas)
+}
+
+// How many bytes all TLVs have.
+fn whole_size(
+    l: [[usize; 2]; 3],
+    r: [[usize; 2]; 10],
+    rs: usize,
+    g: [[usize; 2]; 10],
+    gs: usize,
+    grids: &[[[usize; 2]; 10]],
+    spans: &[[usize; 2]],
+    leads: &[usize],
+) -> usize
+    requires { ⌜ (rs ≤ 512) × Short l × Short r × (gs ≤ 512) × Short g × Measurable (now grids) (now spans) × (length (now leads) ≡ 128) ⌝ }
+    ensures { λ q. ⌜ ((a ns ms list : List ℕ) → Fits a l → Fits a r → length ns ≡ rs → Fits a g → length ms ≡ gs → Sound a (now (grids .entry)) (now (spans .entry)) list → q ≡ length (wholeBytes a l r ns g ms (now (grids .entry)) (now (spans .entry)) list (now (leads .entry)))) ⌝ }
+{
+    let top = set_bytes::top_size(l, r, rs);
+    let general = general_size(g, gs);
+    let groups = group_bytes::groups_size(grids, spans, leads);
+    top + general + groups
+}
+
+// The export, or 5 where the buffer is too short.
+pub fn export_sets(
+    a: &[u8],
+    l: [[usize; 2]; 3],
+    r: [[usize; 2]; 10],
+    rs: &[u32],
+    g: [[usize; 2]; 10],
+    gs: &[u32],
+    grids: &[[[usize; 2]; 10]],
+    spans: &[[usize; 2]],
+    list: &[u32],
+    leads: &[usize],
+    out: &mut [u8],
+) -> Written
+    requires { ⌜ Fits (now a) l × Fits (now a) r × (length (now rs) ≤ 512) × Fits (now a) g × (length (now gs) ≤ 512) × Sound (now a) (now grids) (now spans) (now list) × (length (now leads) ≡ 128) ⌝ }
+    ensures { λ q. ⌜ toldExported q (now (out .exit)) ≡ write accepted (wholeBytes (now (a .entry)) l r (now (rs .entry)) g (now (gs .entry)) (now (grids .entry)) (now (spans .entry)) (now (list .entry)) (now (leads .entry))) (now (out .entry)) ⌝ }
+{
+    let size = whole_size(l, r, rs.len(), g, gs.len(), grids, spans, leads);
+    if out.len() < size {
+        return Written::Refused(replies::refuse_call(5));
+    }
+    Written::Bytes(write_whole(a, l, r, rs, g, gs, grids, spans, list, leads, out))
+}
