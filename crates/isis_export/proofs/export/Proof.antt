@@ -1,0 +1,43 @@
+-- `isis_export::export` meets its contract.
+use Rattle.isis_export.proofs.Laws.{passed-link, exported, not-exported}
+use Rattle.replies.specs.Told.{toldChecked, toldRefusal}
+use mathlib.Core.Path.{sym, _∙_, ap}
+use borrow.Author.Needs.{needs}
+use Rattle.isis_export.proofs.export.Statement.{statement}
+use Rattle.isis_export.proofs.export.Tie as tie
+
+check-link-requires : tie.Need-check-link-requires
+check-link-requires c κs = search needs
+
+enum-told : tie.Need-enum-told
+enum-told c = search needs
+
+export-accepted-requires : tie.Need-export-accepted-requires
+export-accepted-requires c κs = let a = c .before .before .before .before .before .before .before .before .args in
+    passed-link (a .a .now) (a .b .now) (a .c .now) (sym (c .before .before .before .check-link .ensures) ∙ ap toldChecked (c .before .enum-told .given .1))
+
+enum-known-r : tie.Need-enum-known-r
+enum-known-r c = search needs
+
+same-length : tie.Need-same-length
+same-length c = search needs
+
+returns : tie.Need-returns
+returns c = let a = c .before .before .before .before .before .before .before .before .before .before .before .args in
+    c .before .before .export-accepted .ensures ∙ exported (a .a .now) (a .b .now) (a .c .now) (a .out .now) (sym (c .before .before .before .before .before .before .check-link .ensures) ∙ ap toldChecked (c .before .before .before .before .enum-told .given .1))
+
+returns-2 : tie.Need-returns-2
+returns-2 c = let a = c .before .before .before .before .before .before .before .before .args in
+    not-exported (a .a .now) (a .b .now) (a .c .now) (a .out .now) (toldRefusal (c .before .r .given .0 .0)) (sym (c .before .before .before .check-link .ensures) ∙ ap toldChecked (c .before .r .given .1))
+
+pub export-spec : {M : Type 1} → statement M
+export-spec =
+    tie.close
+    (tie.spec
+    check-link-requires
+    enum-told
+    export-accepted-requires
+    enum-known-r
+    same-length
+    returns
+    returns-2)
