@@ -6,8 +6,7 @@ use Prim.Native.Nat.{ℕ, zero, suc, _+_, _-_, _/_, _%_, _^_, _≤_, _<_}
 use native.Mathlib.Omega.{arith}
 use native.Mathlib.Nat.{zero-div}
 use lib.Dec.{eqb, ltb}
-use lib.Pow.{pow-pos}
-use lib.ListN.{length, take, drop}
+use lib.ListN.{take, drop}
 use Rattle.linkstate.specs.Lists.{numbers, keep, lookup, all, each, empty, sameRows}
 use Rattle.linkstate.specs.Kinds.{codes, applicationCodes}
 use Rattle.linkstate.specs.Masks.{user, others, inNumber, maskSize, mask}
@@ -16,11 +15,10 @@ use Rattle.linkstate.specs.Export.{Tlv, tlv, bytesOf, present, topValue, aslaVa
 use Rattle.linkstate.proofs.Computing.{computing}
 use Rattle.set_bytes.specs.Sets.{setOf, topOf, inTlvs, lowCodes, highCodes}
 use Rattle.asla_bytes.specs.Applications.{inNumbers}
-use Rattle.set_groups.specs.Table.{tableSet, tableMeaning, Leads}
-use Rattle.group_bytes.specs.Groups.{groupsBelow}
+use Rattle.set_groups.specs.Table.{tableMeaning}
 use Rattle.group_bytes.proofs.Laws.{each-append}
 use Rattle.group_bytes.proofs.Grouped.{each-keep, each-map, each-numbers, asla-same, groups-are}
-use Rattle.export_bytes.specs.Whole.{generalBytes, lowBytes, highBytes, wholeBytes}
+use Rattle.export_bytes.specs.Whole.{generalBytes, wholeBytes}
 use Rattle.export_bytes.specs.Describes.{Describes}
 
 -- ---- the TLVs of equal values

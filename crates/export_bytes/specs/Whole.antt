@@ -1,6 +1,6 @@
 -- The bytes of an export, by the sets that it is written from (rules L2, L3).
-use mathlib.Core.Bool.{Bool, true, false, cond}
-use mathlib.Core.List.{List, [], _∷_, _++_}
+use mathlib.Core.Bool.{cond}
+use mathlib.Core.List.{List, [], _++_}
 use Prim.Native.Nat.{ℕ}
 use Rattle.linkstate.specs.Lists.{all, empty}
 use Rattle.linkstate.specs.Meaning.{row}

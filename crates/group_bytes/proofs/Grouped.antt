@@ -6,9 +6,9 @@ use Prim.Native.Nat.{ℕ, zero, suc, _+_, _-_, _≤_, _<_}
 use native.Mathlib.Omega.{arith}
 use borrow.Author.Tests.{ltb-true, ltb-false, ne-eqb}
 use lib.Dec.{eqb, ltb}
-use lib.ListN.{length, getD}
+use lib.ListN.{getD}
 use Rattle.linkstate.specs.Lists.{numbers, keep, each}
-use Rattle.linkstate.specs.Masks.{user, others, asNumber, inNumber, maskSize, mask}
+use Rattle.linkstate.specs.Masks.{user, others, inNumber}
 use Rattle.linkstate.specs.Meaning.{Meaning}
 use Rattle.linkstate.specs.Export.{tlv, bytesOf, aslaValue, leader, inGroup, leaders, groupValue}
 use Rattle.masks.proofs.Laws.{in-number, size-same, mask-same}

@@ -1,16 +1,13 @@
 -- Laws of the ASLA TLVs of groups, one after the other. Assumes nothing.
-use mathlib.Core.Path.{_≡_, refl, sym, _∙_, ap, ap₂}
-use mathlib.Core.Bool.{Bool, true, false, cond}
+use mathlib.Core.Path.{_≡_, refl, sym, _∙_, ap}
 use mathlib.Core.List.{List, [], _∷_, _++_, append-assoc, append-nil}
 use Prim.Native.Nat.{ℕ, zero, suc, _+_, _-_, _≤_, _<_}
 use native.Mathlib.Omega.{arith}
-use native.Mathlib.Numerals.{add-one}
 use borrow.Author.Tests.{eq-eqb, ne-eqb}
-use lib.Dec.{eqb}
 use lib.ListN.{length, getD, length-append}
 use Rattle.linkstate.specs.Lists.{numbers, each, put}
 use Rattle.linkstate.specs.Export.{tlv, bytesOf, aslaValue}
-use Rattle.octets.proofs.Laws.{length-bytesAt, put-nil, put-then}
+use Rattle.octets.proofs.Laws.{length-bytesAt, put-then}
 use Rattle.set_bytes.specs.Sets.{setOf}
 use Rattle.asla_bytes.specs.Applications.{inNumbers}
 use Rattle.set_groups.specs.Table.{inSpan, tableSet, Sound}

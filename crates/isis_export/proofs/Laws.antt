@@ -2,22 +2,22 @@
 use mathlib.Core.Path.{_≡_, refl, sym, ap, ap₂, _∙_, subst}
 use mathlib.Core.Bool.{Bool, true, false, cond, _&&_, _||_, not}
 use mathlib.Core.List.{List, [], _∷_, map}
-use Prim.Native.Nat.{ℕ, zero, suc, _+_, _-_, _*_, _/_, _%_, _^_, _≤_, _<_}
+use Prim.Native.Nat.{ℕ, zero, suc, _+_, _-_, _/_, _^_, _≤_, _<_}
 use native.Mathlib.Omega.{arith}
 use native.Mathlib.Nat.{pow-suc, div-eq-of-lt}
 use borrow.Author.Tests.{ltb-true, ltb-false, eqb-true, eqb-false, ne-eqb}
 use lib.Dec.{eqb, ltb}
 use lib.Pow.{pow-pos}
 use lib.ListN.{length, getD, take, drop, replicate, length-take, List·getD-eq-default}
-use Rattle.linkstate.specs.Lists.{member, numbers, put}
+use Rattle.linkstate.specs.Lists.{member, numbers}
 use Rattle.linkstate.specs.Kinds.{linkCodes}
 use Rattle.linkstate.specs.Masks.{user, others, inNumber}
 use Rattle.linkstate.specs.Replies as R
-use Rattle.linkstate.specs.Replies.{accepted, refused, refusedIf, _then_, unless}
+use Rattle.linkstate.specs.Replies.{accepted, refused, _then_, unless}
 use Rattle.linkstate.specs.Attributes.{srlgs}
 use Rattle.linkstate.specs.Sides.{named, generalSet, applicationSet, rsvpTeKind, bandwidthKind}
 use Rattle.linkstate.specs.Questions.{standardNo, generally, setOf, numberTooHigh, write}
-use Rattle.linkstate.specs.Meaning.{Meaning, meaning, row}
+use Rattle.linkstate.specs.Meaning.{meaning, row}
 use Rattle.linkstate.specs.Export.{export}
 use Rattle.kinds.specs.Rules.{gridCodes}
 use Rattle.kinds.proofs.Computing.{computing}
@@ -30,7 +30,7 @@ use Rattle.demands.proofs.Passed.{unrefused}
 use Rattle.set_bytes.specs.Sets as S
 use Rattle.set_bytes.specs.Sets.{Fits}
 use Rattle.asla_bytes.specs.Applications.{inNumbers}
-use Rattle.set_groups.specs.Table.{inSpan, tableSet, Sound}
+use Rattle.set_groups.specs.Table.{tableSet, Sound}
 use Rattle.export_bytes.specs.Whole.{wholeBytes}
 use Rattle.export_bytes.specs.Describes.{Describes}
 use Rattle.export_bytes.proofs.Exported.{whole-export}
@@ -38,7 +38,6 @@ use Rattle.isis_grids.specs.Grid.{rowOf, gridOf}
 use Rattle.isis_grids.proofs.Grids.{grid-empty}
 use Rattle.isis_sets.specs.Sets.{rsvpTeGrid}
 use Rattle.isis_sets.proofs.Stand.{general-stands, application-stands, rsvp-te-stands, bandwidth-stands}
-use Rattle.isis_srlgs.specs.Runs.{Passed}
 use Rattle.isis_table.specs.Filled.{gridAt, srlgsOf, Grids, Spans}
 use Rattle.isis_meaning.proofs.Rows.{nothing-fits, rows-fit, grid-codes, link-codes}
 use Rattle.isis_meaning.proofs.Sets.{general-row, application-row, top-row}

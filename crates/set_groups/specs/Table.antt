@@ -1,6 +1,6 @@
 -- A table of the sets of named applications: whose they are, a grid over run A for each, and for each a span, start and count, in one list of SRLGs.
 use mathlib.Core.Path.{_≡_}
-use mathlib.Core.Bool.{Bool, cond}
+use mathlib.Core.Bool.{cond}
 use mathlib.Core.List.{List, []}
 use Prim.Native.Nat.{ℕ, _+_, _≤_, _<_}
 use lib.ListN.{length, getD}

@@ -2,7 +2,7 @@
 use Rattle.export_bytes.proofs.Laws.{too-short, written}
 use Rattle.group_bytes.proofs.Laws.{measurable}
 use native.Mathlib.Omega.{arith}
-use mathlib.Core.Path.{refl, sym, _∙_, ap}
+use mathlib.Core.Path.{refl}
 use borrow.Author.Needs.{needs}
 use Rattle.export_bytes.proofs.export_sets.Statement.{statement}
 use Rattle.export_bytes.proofs.export_sets.Tie as tie

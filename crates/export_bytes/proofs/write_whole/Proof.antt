@@ -1,7 +1,6 @@
 -- `export_bytes::write_whole` meets its contract.
 use Rattle.export_bytes.proofs.Laws.{length-whole, put-all}
 use native.Mathlib.Omega.{arith}
-use mathlib.Core.Path.{refl, sym, _∙_, ap}
 use borrow.Author.Needs.{needs}
 use Rattle.export_bytes.proofs.write_whole.Statement.{statement}
 use Rattle.export_bytes.proofs.write_whole.Tie as tie

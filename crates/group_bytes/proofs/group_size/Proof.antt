@@ -4,14 +4,10 @@ use Rattle.set_groups.specs.Table.{inSpan}
 use lib.ListN.{length, getD}
 use native.Mathlib.Omega.{arith}
 use mathlib.Core.List.{[]}
-use mathlib.Core.Path.{_≡_, refl, sym, _∙_, ap}
+use mathlib.Core.Path.{refl, sym, _∙_, ap}
 use borrow.Author.Needs.{needs}
 use Rattle.group_bytes.proofs.group_size.Statement.{statement}
 use Rattle.group_bytes.proofs.group_size.Tie as tie
-use Rattle.group_bytes.proofs.group_size.Reads as reads
-use Rattle.group_bytes.proofs.group_size.Lts as lts
-use Rattle.asla_bytes.proofs.asla_size.Reads as asla-size-reads
-use Rattle.set_groups.proofs.group_of.Reads as group-of-reads
 
 mul-if1 : tie.Need-mul-if1
 mul-if1 c = search needs

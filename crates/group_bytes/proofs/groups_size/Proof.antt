@@ -5,8 +5,8 @@ use Rattle.set_groups.specs.Table.{Sound}
 use lib.ListN.{length}
 use borrow.Author.Needs.{needs}
 use native.Mathlib.Omega.{arith}
-use Prim.Native.Nat.{ℕ, _+_, _-_, _*_, _≤_, _<_}
-use mathlib.Core.List.{List, []}
+use Prim.Native.Nat.{ℕ, _-_, _*_, _≤_}
+use mathlib.Core.List.{List}
 use mathlib.Core.Path.{_≡_, sym, _∙_, ap}
 use Rattle.group_bytes.proofs.groups_size.Statement.{statement}
 use Rattle.group_bytes.proofs.groups_size.Tie as tie

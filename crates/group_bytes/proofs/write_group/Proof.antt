@@ -5,16 +5,11 @@ use Rattle.linkstate.specs.Lists.{put}
 use lib.ListN.{length}
 use native.Mathlib.Omega.{arith}
 use Prim.Native.Nat.{ℕ, _+_}
-use mathlib.Core.List.{List, []}
-use mathlib.Core.Path.{_≡_, refl, sym, _∙_, ap}
+use mathlib.Core.List.{List}
+use mathlib.Core.Path.{sym, _∙_, ap}
 use borrow.Author.Needs.{needs}
 use Rattle.group_bytes.proofs.write_group.Statement.{statement}
 use Rattle.group_bytes.proofs.write_group.Tie as tie
-use Rattle.group_bytes.proofs.write_group.Reads as reads
-use Rattle.group_bytes.proofs.write_group.Lts as lts
-use Rattle.asla_bytes.proofs.write_asla.Reads as write-asla-reads
-use Rattle.set_groups.proofs.group_of.Reads as group-of-reads
-use Rattle.set_groups.proofs.srlgs_at.Reads as srlgs-at-reads
 
 mul-if1 : tie.Need-mul-if1
 mul-if1 c = search needs

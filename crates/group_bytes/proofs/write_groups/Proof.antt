@@ -6,14 +6,10 @@ use Rattle.linkstate.specs.Lists.{put}
 use lib.ListN.{length}
 use borrow.Author.Needs.{needs}
 use native.Mathlib.Omega.{arith}
-use Prim.Native.Nat.{ℕ, _+_, _-_, _≤_, _<_}
-use mathlib.Core.List.{List, []}
+use Prim.Native.Nat.{ℕ, _+_, _-_, _≤_}
 use mathlib.Core.Path.{_≡_, refl, sym, _∙_, ap}
 use Rattle.group_bytes.proofs.write_groups.Statement.{statement}
 use Rattle.group_bytes.proofs.write_groups.Tie as tie
-use Rattle.group_bytes.proofs.write_groups.Reads as reads
-use Rattle.group_bytes.proofs.write_groups.Lts as lts
-use Rattle.group_bytes.proofs.write_group.Reads as write-group-reads
 
 abbrev Inv-loop : tie.InvT-loop
 Inv-loop a grids spans list leads out₀ at next₀ n₀ out next n = (1 ≤ n) × (n ≤ 128) × (length out ≡ length out₀) × (next ≡ at + length (groupsBelow a grids spans list leads n)) × (out ≡ put out₀ at (groupsBelow a grids spans list leads n))

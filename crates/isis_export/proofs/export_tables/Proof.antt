@@ -1,10 +1,6 @@
 -- `isis_export::export_tables` meets its contract.
 use Rattle.isis_export.proofs.Laws.{general-fits, rsvp-te-fits, bandwidths-fit, table-sound, written-as}
-use Rattle.linkstate.specs.Questions.{write}
-use Rattle.linkstate.specs.Replies.{accepted}
-use Prim.Native.Nat.{ℕ}
-use mathlib.Core.List.{List}
-use mathlib.Core.Path.{sym, _∙_, ap}
+use mathlib.Core.Path.{_∙_}
 use borrow.Author.Needs.{needs}
 use Rattle.isis_export.proofs.export_tables.Statement.{statement}
 use Rattle.isis_export.proofs.export_tables.Tie as tie

@@ -1,6 +1,5 @@
 -- `isis_export::fill_tables` meets its contract.
 use Rattle.isis_export.proofs.Laws.{table-sound}
-use native.Mathlib.Omega.{arith}
 use borrow.Author.Needs.{needs}
 use Rattle.isis_export.proofs.fill_tables.Statement.{statement}
 use Rattle.isis_export.proofs.fill_tables.Tie as tie

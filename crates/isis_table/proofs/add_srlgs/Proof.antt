@@ -2,7 +2,7 @@
 use Rattle.isis_table.proofs.Laws.{srlgs-none, srlgs-some, not-rsvp-te, added}
 use borrow.Author.Tests.{not-true, not-false}
 use native.Mathlib.Omega.{arith}
-use mathlib.Core.Path.{refl, sym, _∙_, ap}
+use mathlib.Core.Path.{refl, sym, _∙_}
 use borrow.Author.Needs.{needs}
 use Rattle.isis_table.proofs.add_srlgs.Statement.{statement}
 use Rattle.isis_table.proofs.add_srlgs.Tie as tie

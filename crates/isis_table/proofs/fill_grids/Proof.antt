@@ -1,12 +1,12 @@
 -- `isis_table::fill_grids` meets its contract.
 use Rattle.isis_table.specs.Filled.{gridAt}
 use Rattle.set_groups.proofs.Laws.{set-next}
-use lib.ListN.{length, getD, set, length-set}
+use lib.ListN.{length, getD, length-set}
 use borrow.Author.Needs.{needs}
 use native.Mathlib.Omega.{arith}
-use Prim.Native.Nat.{ℕ, _+_, _-_, _≤_, _<_}
+use Prim.Native.Nat.{ℕ, _-_, _≤_, _<_}
 use mathlib.Core.List.{List, []}
-use mathlib.Core.Path.{_≡_, sym, _∙_, ap}
+use mathlib.Core.Path.{_≡_}
 use Rattle.isis_table.proofs.fill_grids.Statement.{statement}
 use Rattle.isis_table.proofs.fill_grids.Tie as tie
 

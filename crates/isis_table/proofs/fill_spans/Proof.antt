@@ -1,12 +1,12 @@
 -- `isis_table::fill_spans` meets its contract.
 use Rattle.isis_table.proofs.Laws.{spans-next, span-within}
 use Rattle.isis_table.specs.Filled.{srlgsOf, Span}
-use lib.ListN.{length, getD, set, length-set}
+use lib.ListN.{length, getD, length-set}
 use borrow.Author.Needs.{needs}
 use native.Mathlib.Omega.{arith}
-use Prim.Native.Nat.{ℕ, _+_, _-_, _*_, _≤_, _<_}
-use mathlib.Core.List.{List, []}
-use mathlib.Core.Path.{_≡_, refl, sym, _∙_, ap}
+use Prim.Native.Nat.{ℕ, _-_, _*_, _≤_, _<_}
+use mathlib.Core.List.{[]}
+use mathlib.Core.Path.{_≡_, refl, _∙_}
 use Rattle.isis_table.proofs.fill_spans.Statement.{statement}
 use Rattle.isis_table.proofs.fill_spans.Tie as tie
 

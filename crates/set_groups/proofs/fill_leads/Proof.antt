@@ -1,11 +1,11 @@
 -- `set_groups::fill_leads` meets its contract.
 use Rattle.set_groups.proofs.Laws.{set-next}
 use Rattle.set_groups.specs.Table.{tableMeaning, leadOf}
-use lib.ListN.{length, getD, set, length-set}
+use lib.ListN.{length, getD, length-set}
 use borrow.Author.Needs.{needs}
 use native.Mathlib.Omega.{arith}
-use Prim.Native.Nat.{ℕ, _+_, _-_, _≤_, _<_}
-use mathlib.Core.Path.{_≡_, sym, _∙_, ap}
+use Prim.Native.Nat.{ℕ, _-_, _≤_, _<_}
+use mathlib.Core.Path.{_≡_}
 use Rattle.set_groups.proofs.fill_leads.Statement.{statement}
 use Rattle.set_groups.proofs.fill_leads.Tie as tie
 

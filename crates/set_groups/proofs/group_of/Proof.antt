@@ -3,12 +3,10 @@ use Rattle.set_groups.proofs.Laws.{isLed, member-room, member-in, membe
 use Rattle.linkstate.specs.Masks.{powersBelow, asNumber}
 use borrow.Author.Tests.{eq-eqb, ne-eqb}
 use borrow.Author.Needs.{needs}
-use lib.ListN.{getD}
-use lib.Dec.{eqb}
 use native.Mathlib.Omega.{arith}
-use Prim.Native.Nat.{ℕ, _+_, _-_, _^_, _≤_, _<_}
+use Prim.Native.Nat.{ℕ, _-_, _≤_}
 use mathlib.Core.Logic.{⊎-elim}
-use mathlib.Core.Path.{_≡_, refl, sym, _∙_, ap}
+use mathlib.Core.Path.{_≡_, refl, _∙_, ap}
 use Rattle.set_groups.proofs.group_of.Statement.{statement}
 use Rattle.set_groups.proofs.group_of.Tie as tie
 

@@ -1,8 +1,7 @@
 -- `set_groups::is_named` meets its contract.
 use Rattle.asla_bytes.specs.Applications.{inNumbers}
 use native.Mathlib.Omega.{arith}
-use Prim.Native.Nat.{ℕ, _-_}
-use mathlib.Core.Path.{_∙_, sym}
+use Prim.Native.Nat.{_-_}
 use borrow.Author.Tests.{lt-ltb, le-ltb}
 use borrow.Author.Needs.{needs}
 use Rattle.set_groups.proofs.is_named.Statement.{statement}

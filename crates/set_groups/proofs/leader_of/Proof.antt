@@ -1,16 +1,14 @@
 -- `set_groups::leader_of` meets its contract: what is left of the search is kept as `firstFrom`.
 use Rattle.set_groups.proofs.Laws.{leads, firstFrom, leads-yes, leads-unnamed, leads-differ, first-here, first-later, first-none}
-use borrow.Author.Tests.{not-true, not-false}
 use Rattle.set_groups.proofs.Laws.{leads, firstFrom, first-here, first-later, first-none}
 use Rattle.set_groups.specs.Table.{tableMeaning}
 use Rattle.linkstate.specs.Masks.{others}
 use Rattle.linkstate.specs.Export.{leader}
 use borrow.Author.Needs.{needs}
 use native.Mathlib.Omega.{arith}
-use Prim.Native.Nat.{ℕ, _+_, _-_, _≤_, _<_}
+use Prim.Native.Nat.{_-_, _≤_}
 use mathlib.Core.Logic.{⊎-elim}
-use mathlib.Core.Bool.{Bool, true, false, _&&_}
-use mathlib.Core.Path.{_≡_, refl, sym, _∙_, ap}
+use mathlib.Core.Path.{_≡_, refl, sym, _∙_}
 use Rattle.set_groups.proofs.leader_of.Statement.{statement}
 use Rattle.set_groups.proofs.leader_of.Tie as tie
 
