@@ -1,11 +1,11 @@
 -- By the contract of `export`, what it writes is a rival of the link, and no rival is shorter. Assumes nothing.
-use mathlib.Core.Path.{_≡_, refl, sym, ap, subst}
+use mathlib.Core.Path.{_≡_, refl, sym, ap, subst, _∙_}
 use mathlib.Core.Bool.{Bool, true, false, cond}
 use mathlib.Core.List.{List}
-use Prim.Native.Nat.{ℕ, _+_}
+use Prim.Native.Nat.{ℕ, _+_, _≤_}
 use native.Mathlib.Omega.{arith}
 use lib.Dec.{ltb}
-use lib.ListN.{length, take, drop}
+use lib.ListN.{length, take, drop, length-take}
 use lib.Seq.{take-at}
 use Rattle.linkstate.specs.Lists.{put}
 use Rattle.linkstate.specs.Replies.{Verdict, accepted, refused, refusedIf, _then_, unless, faultOfCall, fault, Length, Exported, bytes, exportRefused}
@@ -43,6 +43,10 @@ wrote accepted result buffer n after e = go (ltb (length buffer) (length result)
         let j : put buffer 0 result ≡ after = ap (λ (x : Exported). x .buffer) e in
         record { passed = refl; size = sym i; front = rw (sym i, sym j) (front-of result buffer) }
 
+-- A part of n elements lies in a list that has as many.
+within : (n : ℕ) (l : List ℕ) → length (take n l) ≡ n → n ≤ length l
+within n l e = omega (arith, length-take n l)
+
 pub delivered : (a b c buffer : List ℕ) (n : ℕ) (after : List ℕ) → exportLink a b c buffer ≡ told (bytes n) after → Delivered a b c n after
 unfolding exportLink linkSource
 delivered a b c buffer n after e =
@@ -50,6 +54,8 @@ delivered a b c buffer n after e =
     let d = demands .links a b c (w .passed) in
     record {
       accepted = w .passed;
+      within = within n after (ap length (w .front) ∙ sym (w .size));
+      bytes = w .front;
       rival = subst (λ (r : List ℕ). IsRival (meaning (linkSource a b c)) r) (sym (w .front)) (d .rival);
       shortest = λ r i. rw (w .size) (d .shortest r i);
     }

@@ -15,7 +15,7 @@ use Rattle.isis_grids.specs.Selected.{selects}
 use Rattle.isis_grids.proofs.Grids.{All, all-append}
 use Rattle.isis_grids.proofs.Places.{Stands, legacy-stands, live-stands}
 
-all-cond : (P : Attribute → Type 0) (b : Bool) (ts us : List Attribute) → All P ts → All P us → All P (cond b ts us)
+pub all-cond : (P : Attribute → Type 0) (b : Bool) (ts us : List Attribute) → All P ts → All P us → All P (cond b ts us)
 all-cond P true ts us h g = h
 all-cond P false ts us h g = g
 

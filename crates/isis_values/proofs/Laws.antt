@@ -39,9 +39,10 @@ use Rattle.answering.proofs.Laws.{first-absent, first-present}
 use Rattle.isis_grids.specs.declared.Which.the-variants as W
 use Rattle.isis_grids.specs.Grid.{firstRow, rowOf, gridOf, bgplsValue, wrongOfCode}
 use Rattle.isis_grids.specs.Selected.{selects}
-use Rattle.isis_grids.proofs.Grids.{All, all-append}
-use Rattle.isis_grids.proofs.Places.{Stands, legacy-stands, live-stands, First, absent, present, first-of, some-bytes, within}
+use Rattle.isis_grids.proofs.Grids.{All}
+use Rattle.isis_grids.proofs.Places.{Stands, First, absent, present, first-of, some-bytes, within}
 use Rattle.isis_sets.specs.Sets.{rsvpTeGrid}
+use Rattle.isis_sets.proofs.Stand.{all-cond, general-stands, application-stands, rsvp-te-stands, bandwidth-stands}
 use Rattle.isis_values.specs.Rows.{gridAsked}
 
 -- ---- the grid of a subject
@@ -155,7 +156,7 @@ module _ (k : ℕ) where
       go false e false true f t h r = r t h
       go false e false false f t h r = absurd (let v : _≡_ {A = ℕ} 0 1 = cc in omega arith)
 
-none-wrong : (k : ℕ) → isCode k ≡ true → eqb k 1096 ≡ false → wrongOfCode k 0 ≡ true
+pub none-wrong : (k : ℕ) → isCode k ≡ true → eqb k 1096 ≡ false → wrongOfCode k 0 ≡ true
 unfolding computing wrongOfCode rowNotEmpty
 none-wrong k h s = not-empty k s kinds refl h
 
@@ -165,42 +166,16 @@ metric-form = refl
 
 -- ---- what stands in the run
 
-all-cond : (P : Attribute → Type 0) (z : Bool) (x y : List Attribute) → All P x → All P y → All P (cond z x y)
-all-cond P true x y h g = h
-all-cond P false x y h g = g
-
 module _ (a : List ℕ) (ok : faults runA checkA (elements 1 0 a) ≡ accepted) where
-  application-stands : (n : ℕ) → All (Stands a) (applicationSet n (sideA a))
-  unfolding applicationSet generalSet selects
-  application-stands n =
-      all-cond (Stands a) (namedWithL n (sideA a)) _ _ (legacy-stands a ok)
-      (all-cond (Stands a) (named n (sideA a)) _ _ (live-stands a ok (W.Naming n)) (live-stands a ok W.General))
-
-  general-stands : All (Stands a) (generalSet (sideA a))
-  unfolding generalSet selects
-  general-stands = live-stands a ok W.General
-
-  rsvp-te-stands : (k : ℕ) → All (Stands a) (rsvpTeKind k (sideA a))
-  unfolding rsvpTeKind selects
-  rsvp-te-stands k =
-      all-cond (Stands a) (namedWithL 0 (sideA a) || empty (valueOf k (ofLive (names 0) (sideA a)))) _ _ (legacy-stands a ok) (live-stands a ok (W.Naming 0))
-
-  bandwidth-stands : (k : ℕ) → All (Stands a) (bandwidthKind k (sideA a))
-  unfolding bandwidthKind maximumBandwidth reservableBandwidth selects
-  bandwidth-stands k =
-      all-cond (Stands a) (eqb k 1089) _ _ (all-append (Stands a) ((sideA a) .legacy) (ofLive (λ d. not (d .L)) (sideA a)) (legacy-stands a ok) (live-stands a ok W.WithoutL))
-      (all-cond (Stands a) (namedWithL 0 (sideA a)) _ _ (legacy-stands a ok)
-      (all-append (Stands a) (ofLive rsvpTeAlone (sideA a)) ((sideA a) .legacy) (live-stands a ok W.RsvpTeAlone) (legacy-stands a ok)))
-
   set-stands : (b c : List ℕ) (whom : Subject) (k : ℕ) → eqb k 1096 ≡ false → All (Stands a) (setOf (linkSource a b c) whom k)
   unfolding setOf linkSource sideOf
-  set-stands b c generally k s = rw s general-stands
-  set-stands b c (standardNo n) k s = rw s (all-cond (Stands a) (eqb n 0) _ _ (rsvp-te-stands k) (application-stands n))
-  set-stands b c (userNo n) k s = rw s (application-stands (user n))
+  set-stands b c generally k s = rw s (general-stands a ok)
+  set-stands b c (standardNo n) k s = rw s (all-cond (Stands a) (eqb n 0) _ _ (rsvp-te-stands a ok k) (application-stands a ok n))
+  set-stands b c (userNo n) k s = rw s (application-stands a ok (user n))
 
-  given-stands : (b c : List ℕ) (whom : Subject) (k : ℕ) → eqb k 1096 ≡ false → All (Stands a) (given (linkSource a b c) whom k)
+  pub given-stands : (b c : List ℕ) (whom : Subject) (k : ℕ) → eqb k 1096 ≡ false → All (Stands a) (given (linkSource a b c) whom k)
   unfolding given linkSource
-  given-stands b c whom k s = all-cond (Stands a) (isLinkCode k) _ _ (bandwidth-stands k) (set-stands b c whom k s)
+  given-stands b c whom k s = all-cond (Stands a) (isLinkCode k) _ _ (bandwidth-stands a ok k) (set-stands b c whom k s)
 
   -- The row of a kind: absent, or where its first value stands.
   module _ (b c : List ℕ) (whom : Subject) (k : ℕ) (known : isCode k ≡ true) (s : eqb k 1096 ≡ false) (row : List ℕ) (e : row ≡ rowOf k (given (linkSource a b c) whom k)) where
