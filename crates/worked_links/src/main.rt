@@ -1,4 +1,4 @@
-// Worked links and runs, asked through the proved entries; what they answer is held to the file stdout.
+// Document 01's worked links and RFC 9294's illustration, asked and exported through the proved entries; what they answer is held to the file stdout.
 use libc::STDOUT_FILENO;
 use replies::Answer;
 use replies::Named;
@@ -6,6 +6,7 @@ use replies::Reading;
 use replies::Refusal;
 use replies::Run;
 use replies::Subject;
+use replies::Written;
 
 fn say(text: &[u8]) {
     io::write_all(STDOUT_FILENO, text);
@@ -83,6 +84,51 @@ fn ask_link(label: &[u8], a: &[u8], b: &[u8], c: &[u8], whom: Subject) {
     say(b"\n");
 }
 
+// The first n bytes of a buffer.
+fn front(out: &[u8], n: usize) -> &[u8] {
+    if n <= out.len() {
+        return &out[0..n];
+    }
+    out
+}
+
+fn say_byte(byte: u8) {
+    io::print_hex(STDOUT_FILENO, byte as u64, 2);
+}
+
+fn say_hex(bytes: &[u8]) {
+    for i in 0..bytes.len() {
+        say_byte(bytes[i]);
+    }
+}
+
+// All of a buffer, on a line.
+fn say_room(room: &[u8]) {
+    say(b"the room: ");
+    say_hex(room);
+    say(b"\n");
+}
+
+// The export of a link into the lent buffer, on a line: its length and its bytes.
+fn export_link(label: &[u8], a: &[u8], b: &[u8], c: &[u8], out: &mut [u8]) {
+    say(label);
+    say(b", export: ");
+    match isis_export::export(a, b, c, out) {
+        Written::Bytes(n) => {
+            say_number(n as u64);
+            say(b" bytes ");
+            say_hex(front(out, n));
+        }
+        Written::Refused(x) => say_refusal(x),
+    }
+    say(b"\n");
+}
+
+fn export_whole(label: &[u8], a: &[u8], b: &[u8], c: &[u8]) {
+    let mut out = [0xAAu8; 256];
+    export_link(label, a, b, c, &mut out);
+}
+
 fn ask_run(label: &[u8], r: &[u8], whom: Subject) {
     let mut list = [0u32; 4];
     say(label);
@@ -108,178 +154,132 @@ fn say_named(label: &[u8], named: Named) {
     say(b"\n");
 }
 
+fn say_metric(a: &[u8], whom: Subject) {
+    let mut list = [0u32; 0];
+    say(b" ");
+    say_answer(isis_link::ask(a, b"", b"", whom, 1092, &mut list));
+    say(b";");
+}
+
+// A case of the starred table: the TE metric of RSVP-TE, SR Policy, LFA, standard 6, user 0 and user 5, and the export.
+fn starred(label: &[u8], a: &[u8]) {
+    say(label);
+    say(b":");
+    say_metric(a, Subject::Standard(0));
+    say_metric(a, Subject::Standard(1));
+    say_metric(a, Subject::Standard(2));
+    say_metric(a, Subject::Standard(6));
+    say_metric(a, Subject::User(0));
+    say_metric(a, Subject::User(5));
+    say(b"\n");
+    export_whole(label, a, b"", b"");
+}
+
+fn starred_table() {
+    starred(b"nothing", b"");
+    starred(
+        b"M S G",
+        b"\x12\x03\x00\x00\x0a\x10\x08\x01\x00\x40\x12\x03\x00\x00\x14\x10\x07\x00\x00\x12\x03\x00\x00\x1e",
+    );
+    starred(
+        b"M Z G",
+        b"\x12\x03\x00\x00\x0a\x10\x03\x81\x00\x40\x10\x07\x00\x00\x12\x03\x00\x00\x1e",
+    );
+    starred(
+        b"M S Z",
+        b"\x12\x03\x00\x00\x0a\x10\x08\x01\x00\x40\x12\x03\x00\x00\x14\x10\x03\x81\x00\x40",
+    );
+    starred(
+        b"SR Policy with nothing, G",
+        b"\x10\x03\x01\x00\x40\x10\x07\x00\x00\x12\x03\x00\x00\x1e",
+    );
+    starred(
+        b"a mask without a bit, G",
+        b"\x10\x08\x01\x00\x00\x12\x03\x00\x00\x14\x10\x07\x00\x00\x12\x03\x00\x00\x1e",
+    );
+    starred(b"standard 6", b"\x10\x08\x01\x00\x02\x12\x03\x00\x00\x14");
+    starred(
+        b"S, then SR Policy and LFA",
+        b"\x10\x08\x01\x00\x40\x12\x03\x00\x00\x14\x10\x08\x01\x00\x60\x12\x03\x00\x00\x15",
+    );
+    starred(
+        b"user 0, G",
+        b"\x10\x08\x00\x01\x80\x12\x03\x00\x00\x14\x10\x07\x00\x00\x12\x03\x00\x00\x1e",
+    );
+    starred(
+        b"a mask of nine bytes",
+        b"\x10\x0b\x09\x00\xff\xff\xff\xff\xff\xff\xff\xff\xff",
+    );
+    starred(b"an ASLA of one byte", b"\x10\x01\x00");
+    starred(b"a metric of two bytes", b"\x12\x02\x00\x0a");
+    starred(b"a metric cut short", b"\x12\x03\x00\x00");
+}
+
+// M S G in a room of just its length, in one of a byte more, whose last stays as it was, and in one of a byte less, which stays whole.
+fn rooms() {
+    let a =
+        b"\x12\x03\x00\x00\x0a\x10\x08\x01\x00\x40\x12\x03\x00\x00\x14\x10\x07\x00\x00\x12\x03\x00\x00\x1e";
+    let mut just = [0xAAu8; 44];
+    export_link(b"M S G in 44", a, b"", b"", &mut just);
+    let mut more = [0xAAu8; 45];
+    export_link(b"M S G in 45", a, b"", b"", &mut more);
+    say_room(&more);
+    let mut less = [0xAAu8; 43];
+    export_link(b"M S G in 43", a, b"", b"", &mut less);
+    say_room(&less);
+}
+
 // A is general with metric 30, and B names SR Policy with SRLG 7.
 fn sides() {
-    let a = [16u8, 7, 0, 0, 18, 3, 0, 0, 30];
-    let b = [
-        238u8,
-        25,
-        0,
-        0,
-        0,
-        0,
-        0,
-        0,
-        0,
-        1,
-        0,
-        64,
-        10,
-        4,
-        8,
-        0,
-        0,
-        0,
-        1,
-        0,
-        0,
-        0,
-        2,
-        0,
-        0,
-        0,
-        7,
-    ];
-    let c = [0u8; 0];
-    ask_link(b"sides, SR Policy", &a, &b, &c, Subject::Standard(1));
-    ask_link(b"sides, LFA", &a, &b, &c, Subject::Standard(2));
-    ask_link(b"sides, standard 63", &a, &b, &c, Subject::Standard(63));
-    ask_link(b"sides, standard 64", &a, &b, &c, Subject::Standard(64));
-    say_named(b"sides, named", isis_link::named(&a, &b, &c));
+    let a = b"\x10\x07\x00\x00\x12\x03\x00\x00\x1e";
+    let b =
+        b"\xee\x19\x00\x00\x00\x00\x00\x00\x00\x01\x00\x40\x0a\x04\x08\x00\x00\x00\x01\x00\x00\x00\x02\x00\x00\x00\x07";
+    let c = b"";
+    ask_link(b"sides, SR Policy", a, b, c, Subject::Standard(1));
+    ask_link(b"sides, LFA", a, b, c, Subject::Standard(2));
+    ask_link(b"sides, standard 63", a, b, c, Subject::Standard(63));
+    ask_link(b"sides, standard 64", a, b, c, Subject::Standard(64));
+    say_named(b"sides, named", isis_link::named(a, b, c));
+    export_whole(b"sides", a, b, c);
 }
 
 // Run A of the greatest size, and one byte more.
 fn sizes() {
-    let none = [0u8; 0];
     let most = [0u8; 2048];
-    ask_link(b"2,048 bytes", &most, &none, &none, Subject::General);
+    ask_link(b"2,048 bytes", &most, b"", b"", Subject::General);
     let more = [0u8; 2049];
-    ask_link(b"2,049 bytes", &more, &none, &none, Subject::General);
+    ask_link(b"2,049 bytes", &more, b"", b"", Subject::General);
 }
 
 // RFC 9294 section 4.1: an ASLA for S, F and X; general SRLGs; SRLGs for X.
 fn illustration() {
-    let a = [16u8, 8, 1, 0, 112, 18, 3, 0, 0, 10];
-    let b = [
-        238u8,
-        24,
-        0,
-        0,
-        0,
-        0,
-        0,
-        0,
-        0,
-        0,
-        0,
-        10,
-        4,
-        8,
-        0,
-        0,
-        0,
-        1,
-        0,
-        0,
-        0,
-        2,
-        0,
-        0,
-        0,
-        5,
-        238,
-        25,
-        0,
-        0,
-        0,
-        0,
-        0,
-        0,
-        0,
-        1,
-        0,
-        16,
-        10,
-        4,
-        8,
-        0,
-        0,
-        0,
-        1,
-        0,
-        0,
-        0,
-        2,
-        0,
-        0,
-        0,
-        6,
-    ];
-    let c = [0u8; 0];
-    ask_link(b"illustration, S", &a, &b, &c, Subject::Standard(1));
-    ask_link(b"illustration, F", &a, &b, &c, Subject::Standard(2));
-    ask_link(b"illustration, X", &a, &b, &c, Subject::Standard(3));
-    ask_link(b"illustration, another", &a, &b, &c, Subject::User(5));
-    say_named(b"illustration, named", isis_link::named(&a, &b, &c));
+    let a = b"\x10\x08\x01\x00\x70\x12\x03\x00\x00\x0a";
+    let b =
+        b"\xee\x18\x00\x00\x00\x00\x00\x00\x00\x00\x00\x0a\x04\x08\x00\x00\x00\x01\x00\x00\x00\x02\x00\x00\x00\x05\xee\x19\x00\x00\x00\x00\x00\x00\x00\x01\x00\x10\x0a\x04\x08\x00\x00\x00\x01\x00\x00\x00\x02\x00\x00\x00\x06";
+    let c = b"";
+    ask_link(b"illustration, S", a, b, c, Subject::Standard(1));
+    ask_link(b"illustration, F", a, b, c, Subject::Standard(2));
+    ask_link(b"illustration, X", a, b, c, Subject::Standard(3));
+    ask_link(b"illustration, another", a, b, c, Subject::User(5));
+    say_named(b"illustration, named", isis_link::named(a, b, c));
+    export_whole(b"illustration", a, b, c);
 }
 
 // The export of M S G, as document 01 gives it, read back; and the same cut short.
 fn read_back() {
-    let r = [
-        4u8,
-        68,
-        0,
-        4,
-        0,
-        0,
-        0,
-        10,
-        4,
-        98,
-        0,
-        12,
-        0,
-        0,
-        0,
-        0,
-        4,
-        68,
-        0,
-        4,
-        0,
-        0,
-        0,
-        30,
-        4,
-        98,
-        0,
-        16,
-        4,
-        0,
-        0,
-        0,
-        64,
-        0,
-        0,
-        0,
-        4,
-        68,
-        0,
-        4,
-        0,
-        0,
-        0,
-        20,
-    ];
-    ask_run(b"M S G read, RSVP-TE", &r, Subject::Standard(0));
-    ask_run(b"M S G read, SR Policy", &r, Subject::Standard(1));
-    ask_run(b"M S G read, LFA", &r, Subject::Standard(2));
-    ask_run(b"M S G read, user 5", &r, Subject::User(5));
-    say_named(b"M S G read, named", bgpls_reader::named(&r));
-    ask_run(b"M S G cut, LFA", &r[0..43], Subject::Standard(2));
+    let r =
+        b"\x04\x44\x00\x04\x00\x00\x00\x0a\x04\x62\x00\x0c\x00\x00\x00\x00\x04\x44\x00\x04\x00\x00\x00\x1e\x04\x62\x00\x10\x04\x00\x00\x00\x40\x00\x00\x00\x04\x44\x00\x04\x00\x00\x00\x14";
+    ask_run(b"M S G read, RSVP-TE", r, Subject::Standard(0));
+    ask_run(b"M S G read, SR Policy", r, Subject::Standard(1));
+    ask_run(b"M S G read, LFA", r, Subject::Standard(2));
+    ask_run(b"M S G read, user 5", r, Subject::User(5));
+    say_named(b"M S G read, named", bgpls_reader::named(r));
+    ask_run(b"M S G cut, LFA", front(r, 43), Subject::Standard(2));
 }
 
 fn main() {
+    starred_table();
+    rooms();
     sides();
     sizes();
     illustration();
