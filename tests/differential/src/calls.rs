@@ -17,17 +17,33 @@ impl Subject {
             Subject::Run(run) => vec![("run", run)],
         }
     }
+
+    /// The bytes of all runs.
+    pub fn length(&self) -> usize {
+        self.runs().iter().map(|(_, run)| run.len()).sum()
+    }
 }
 
 /// What a call asks. `who`, `number` and `code` as the header has them; `room` is the length of the
 /// lent list or buffer.
 #[derive(Clone, Copy, PartialEq, Eq, Debug)]
 pub enum Request {
-    Ask { who: u8, number: u64, code: u16, room: usize },
-    Value { who: u8, number: u64, code: u16 },
+    Ask {
+        who: u8,
+        number: u64,
+        code: u16,
+        room: usize,
+    },
+    Value {
+        who: u8,
+        number: u64,
+        code: u16,
+    },
     Named,
     /// Of links alone.
-    Export { room: usize },
+    Export {
+        room: usize,
+    },
 }
 
 /// The seven functions.

@@ -44,12 +44,19 @@ impl Placed {
             }
             bytes.extend(random.bytes(GUARD));
         }
-        Placed { copy: bytes.clone(), bytes, spans }
+        Placed {
+            copy: bytes.clone(),
+            bytes,
+            spans,
+        }
     }
 
     /// The runs. An empty one points among the other bytes too, never to null.
     fn runs(&self) -> Vec<&[u8]> {
-        self.spans.iter().map(|(at, length)| &self.bytes[*at..*at + *length]).collect()
+        self.spans
+            .iter()
+            .map(|(at, length)| &self.bytes[*at..*at + *length])
+            .collect()
     }
 }
 
@@ -108,7 +115,13 @@ pub fn observe(
     };
     let status = library.call(&placed.runs(), request, &lent);
     let runs_unchanged = placed.bytes == placed.copy;
-    Observed { status, reply, list, out, runs_unchanged }
+    Observed {
+        status,
+        reply,
+        list,
+        out,
+        runs_unchanged,
+    }
 }
 
 /// What a call that answers so must have done.
@@ -120,7 +133,13 @@ pub fn required(outcome: &Outcome, request: &Request, pattern: Pattern) -> Obser
     list[GUARD..GUARD + outcome.list.len()].copy_from_slice(&outcome.list);
     let mut out = pattern.out(out_room);
     out[GUARD..GUARD + outcome.out.len()].copy_from_slice(&outcome.out);
-    Observed { status: outcome.status, reply, list, out, runs_unchanged: true }
+    Observed {
+        status: outcome.status,
+        reply,
+        list,
+        out,
+        runs_unchanged: true,
+    }
 }
 
 impl Observed {

@@ -166,7 +166,10 @@ impl Coverage {
                     *self.ignored.entry(("BGP-LS", why)).or_default() += 1;
                 }
                 for asla in reader.aslas {
-                    self.thing(pick(&asla, ["BGP-LS general", "BGP-LS naming", "BGP-LS neither"]));
+                    self.thing(pick(
+                        &asla,
+                        ["BGP-LS general", "BGP-LS naming", "BGP-LS neither"],
+                    ));
                 }
             }
         }
@@ -174,8 +177,14 @@ impl Coverage {
 
     fn sides(&mut self, sides: &Sides) {
         for application in named_on(sides) {
-            *self.rules.entry(("A", rule(&sides.a.live, application))).or_default() += 1;
-            *self.rules.entry(("B", rule(&sides.b.live, application))).or_default() += 1;
+            *self
+                .rules
+                .entry(("A", rule(&sides.a.live, application)))
+                .or_default() += 1;
+            *self
+                .rules
+                .entry(("B", rule(&sides.b.live, application)))
+                .or_default() += 1;
         }
         for why in &sides.a.ignored {
             *self.ignored.entry(("A", *why)).or_default() += 1;
@@ -226,9 +235,16 @@ impl Coverage {
         }
         // The value functions have no SRLGs.
         for (function, codes) in [(0, 14), (1, 13), (4, 14), (5, 13)] {
-            let found = self.kinds.keys().filter(|(one, _)| *one == function).count();
+            let found = self
+                .kinds
+                .keys()
+                .filter(|(one, _)| *one == function)
+                .count();
             if found < codes {
-                missing.push(format!("{} found {found} kinds of {codes}", FUNCTIONS[function]));
+                missing.push(format!(
+                    "{} found {found} kinds of {codes}",
+                    FUNCTIONS[function]
+                ));
             }
         }
         for one in RULES {
@@ -260,11 +276,20 @@ impl Coverage {
             self.groups, self.most_groups, self.longest_export
         );
         for (function, name) in FUNCTIONS.iter().enumerate() {
-            let counts = self.statuses.iter().filter(|((one, _), _)| *one == function);
-            line(name, counts.map(|((_, status), n)| format!("{status}: {n}")));
+            let counts = self
+                .statuses
+                .iter()
+                .filter(|((one, _), _)| *one == function);
+            line(
+                name,
+                counts.map(|((_, status), n)| format!("{status}: {n}")),
+            );
         }
         for number in 1..=7 {
-            let counts = self.faults.iter().filter(|((_, fault), _)| fault.number() == number);
+            let counts = self
+                .faults
+                .iter()
+                .filter(|((_, fault), _)| fault.number() == number);
             let texts = counts.map(|((run, fault), n)| match number {
                 3 | 4 => format!("{run} {fault:?}: {n}"),
                 _ => format!("{n}"),
@@ -277,9 +302,22 @@ impl Coverage {
             });
             line(&format!("{} found", FUNCTIONS[function]), counts);
         }
-        line("rules", self.rules.iter().map(|((side, rule), n)| format!("{side} {rule:?}: {n}")));
-        line("ignored", self.ignored.iter().map(|((side, why), n)| format!("{side} {why:?}: {n}")));
-        line("met", self.things.iter().map(|(thing, n)| format!("{thing}: {n}")));
+        line(
+            "rules",
+            self.rules
+                .iter()
+                .map(|((side, rule), n)| format!("{side} {rule:?}: {n}")),
+        );
+        line(
+            "ignored",
+            self.ignored
+                .iter()
+                .map(|((side, why), n)| format!("{side} {why:?}: {n}")),
+        );
+        line(
+            "met",
+            self.things.iter().map(|(thing, n)| format!("{thing}: {n}")),
+        );
     }
 }
 

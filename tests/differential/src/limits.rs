@@ -63,7 +63,8 @@ pub fn long_link(random: &mut Random) -> Link {
     }
     if which == 2 || which == 3 {
         let target = random.pick(&[
-            1016, 1020, 1021, 1022, 1023, 1024, 1024, 1024, 1024, 1025, 1026, 1027, 1028, 1028, 2048,
+            1016, 1020, 1021, 1022, 1023, 1024, 1024, 1024, 1024, 1025, 1026, 1027, 1028, 1028,
+            2048,
         ]);
         c = random.bytes(target);
         if random.percent(50) {
@@ -112,7 +113,9 @@ pub fn dense_link(random: &mut Random) -> Link {
         let mut value = random.bytes(7);
         match random.below(3) {
             0 => value.extend([0, 0]),
-            1 => value.extend([8, 8, 255, 255, 255, 255, 255, 255, 255, 255, 0, 0, 0, 0, 0, 0, 0, 1]),
+            1 => value.extend([
+                8, 8, 255, 255, 255, 255, 255, 255, 255, 255, 0, 0, 0, 0, 0, 0, 0, 1,
+            ]),
             _ => {
                 value.extend([4, 2]);
                 value.extend(random.bytes(6));
@@ -137,7 +140,11 @@ pub fn dense_link(random: &mut Random) -> Link {
     }
     let b = cut_to(parts, 2048);
     let length = 4 * random.between(0, 256);
-    Link { a, b, c: random.bytes(length) }
+    Link {
+        a,
+        b,
+        c: random.bytes(length),
+    }
 }
 
 /// A general 238 with as many values as it holds.
@@ -161,11 +168,13 @@ fn cut_to(parts: Vec<Vec<u8>>, room: usize) -> Vec<u8> {
     bytes
 }
 
-/// A BGP-LS run of about the greatest length, or a little over it.
-pub fn long_run(random: &mut Random) -> Vec<u8> {
-    let target = random.pick(&[
-        524_284, 524_287, 524_288, 524_288, 524_288, 524_289, 524_292, 600_000,
-    ]);
+/// A BGP-LS run of about the greatest length, or a little over it. `turn` counts such runs, so that
+/// each length has its turn.
+pub fn long_run(turn: u64, random: &mut Random) -> Vec<u8> {
+    const LENGTHS: [usize; 8] = [
+        524_288, 524_289, 524_288, 524_287, 524_288, 524_284, 524_292, 600_000,
+    ];
+    let target = LENGTHS[(turn % 8) as usize];
     let scene = Scene::new(random, 2);
     let mut bytes = Vec::new();
     let style = random.below(4);

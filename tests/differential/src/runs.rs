@@ -45,7 +45,11 @@ fn attribute(scene: &Scene, random: &mut Random) -> Vec<u8> {
         }
         1115 => tlv(code, &scene.value(random, 8)),
         1173 => {
-            let words = if random.percent(5) { random.between(1, 100) } else { random.between(1, 3) };
+            let words = if random.percent(5) {
+                random.between(1, 100)
+            } else {
+                random.between(1, 3)
+            };
             tlv(code, &scene.value(random, 4 * words))
         }
         _ => tlv(code, &scene.value(random, 4)),
@@ -104,9 +108,14 @@ fn asla(scene: &Scene, random: &mut Random) -> Vec<u8> {
     let (standard, user) = masks(scene, random);
     let mut lengths = [standard.len() as u8, user.len() as u8];
     if scene.odd(random) && random.percent(20) {
-        lengths[random.below(2)] = random.pick(&[0, 1, 2, 3, 4, 5, 6, 7, 8, 9, 12, 16, 128, 132, 136, 255]);
+        lengths[random.below(2)] =
+            random.pick(&[0, 1, 2, 3, 4, 5, 6, 7, 8, 9, 12, 16, 128, 132, 136, 255]);
     }
-    let reserved = if random.percent(85) { [0, 0] } else { [random.byte(), random.byte()] };
+    let reserved = if random.percent(85) {
+        [0, 0]
+    } else {
+        [random.byte(), random.byte()]
+    };
     let mut value = lengths.to_vec();
     value.extend(reserved);
     value.extend(standard);

@@ -28,7 +28,11 @@ pub struct Difference(pub String);
 
 impl Session<'_> {
     pub fn new(library: &dyn Library, seed: u64) -> Session<'_> {
-        Session { library, seed, coverage: Coverage::default() }
+        Session {
+            library,
+            seed,
+            coverage: Coverage::default(),
+        }
     }
 
     /// One case: a link or a run, and some calls about it. Long ones come at set places, since they
@@ -36,9 +40,9 @@ impl Session<'_> {
     pub fn case(&mut self, case: u64) -> Result<(), Difference> {
         let random = &mut Random::new(self.seed, case);
         let scene = scene(random);
-        if case % 5000 == 50 {
-            let run = long_run(random);
-            return self.run_case(case, &scene, run, 6, random);
+        if case % 2000 == 50 {
+            let run = long_run(case / 2000, random);
+            return self.run_case(case, &scene, run, 5, random);
         }
         match case % 500 {
             20 | 270 => {
@@ -76,9 +80,16 @@ impl Session<'_> {
     ) -> Result<(), Difference> {
         let whole = export(&link, usize::MAX);
         let length = whole.as_ref().map_or(random.below(60), |bytes| bytes.len());
-        let mut requests = vec![Request::Named, Request::Export { room: room(length, random) }];
+        let mut requests = vec![
+            Request::Named,
+            Request::Export {
+                room: room(length, random),
+            },
+        ];
         if random.percent(50) {
-            requests.push(Request::Export { room: room(length, random) });
+            requests.push(Request::Export {
+                room: room(length, random),
+            });
         }
         let questions = if whole.is_ok() { 9 } else { 3 };
         let subject = Subject::Link(link);
@@ -207,12 +218,16 @@ fn codes_in(subject: &Subject) -> Vec<u16> {
     let mut attributes = Vec::new();
     match subject {
         Subject::Link(link) => {
-            let Ok(sides) = read_link(link) else { return Vec::new() };
+            let Ok(sides) = read_link(link) else {
+                return Vec::new();
+            };
             attributes.extend(sides.a.legacy);
             attributes.extend(sides.a.live.into_iter().flat_map(|asla| asla.carries));
         }
         Subject::Run(run) => {
-            let Ok(reader) = read_run(run) else { return Vec::new() };
+            let Ok(reader) = read_run(run) else {
+                return Vec::new();
+            };
             attributes.extend(reader.top);
             attributes.extend(reader.aslas.into_iter().flat_map(|asla| asla.carries));
         }
@@ -232,11 +247,26 @@ fn question(scene: &Scene, subject: &Subject, codes: &[u16], random: &mut Random
         return Request::Value { who, number, code };
     }
     if code != SRLG {
-        return Request::Ask { who, number, code, room: random.below(6) };
+        return Request::Ask {
+            who,
+            number,
+            code,
+            room: random.below(6),
+        };
     }
-    let unbounded = Request::Ask { who, number, code, room: usize::MAX };
+    let unbounded = Request::Ask {
+        who,
+        number,
+        code,
+        room: usize::MAX,
+    };
     let count = expected(subject, &unbounded).list.len();
-    Request::Ask { who, number, code, room: room(count, random) }
+    Request::Ask {
+        who,
+        number,
+        code,
+        room: room(count, random),
+    }
 }
 
 /// Who asks: mostly an application of the scene.
@@ -246,7 +276,12 @@ fn who(scene: &Scene, random: &mut Random) -> (u8, u64) {
         62..=71 => Application::Standard(0),
         72..=83 => return (0, number(random)),
         84..=95 => some_application(random),
-        96..=97 => return (random.pick(&[3, 4, 5, 64, 127, 128, 129, 255]), number(random)),
+        96..=97 => {
+            return (
+                random.pick(&[3, 4, 5, 64, 127, 128, 129, 255]),
+                number(random),
+            )
+        }
         _ => return (random.between(1, 2) as u8, number(random)),
     };
     match application {
@@ -272,8 +307,9 @@ fn number(random: &mut Random) -> u64 {
 
 /// A code, mostly one of the fourteen; SRLG more often than the others.
 fn code(random: &mut Random) -> u16 {
-    const BAD: [u16; 16] =
-        [0, 3, 18, 64, 1087, 1093, 1095, 1097, 1113, 1121, 1122, 1123, 1172, 1174, 32767, 65535];
+    const BAD: [u16; 16] = [
+        0, 3, 18, 64, 1087, 1093, 1095, 1097, 1113, 1121, 1122, 1123, 1172, 1174, 32767, 65535,
+    ];
     match random.below(100) {
         0..=82 => random.pick(&CODES),
         83..=91 => SRLG,

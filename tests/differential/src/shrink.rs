@@ -3,8 +3,8 @@
 use crate::calls::{Request, Subject};
 use crate::reference::link::Link;
 
-/// Tries so many shorter calls at most.
-const TRIES: usize = 60_000;
+/// Tries shorter calls with so many bytes in all.
+const EFFORT: usize = 50_000_000;
 
 /// Cuts spans out of the runs, and makes bytes 0, as long as the call still differs. `differs` makes
 /// the call and compares.
@@ -14,19 +14,19 @@ pub fn shrink(
     differs: &mut dyn FnMut(&Subject, &Request) -> bool,
 ) -> Subject {
     let mut best = subject.clone();
-    let mut tries = 0;
+    let mut effort = 0;
     let mut again = true;
-    while again && tries < TRIES {
+    while again && effort < EFFORT {
         again = false;
         for which in 0..best.runs().len() {
             let mut span = best.runs()[which].1.len();
-            while span > 0 && tries < TRIES {
+            while span > 0 && effort < EFFORT {
                 let mut at = 0;
-                while at + span <= best.runs()[which].1.len() && tries < TRIES {
+                while at + span <= best.runs()[which].1.len() && effort < EFFORT {
                     let mut run = best.runs()[which].1.clone();
                     run.drain(at..at + span);
                     let candidate = with_run(&best, which, run);
-                    tries += 1;
+                    effort += 500 + candidate.length();
                     if differs(&candidate, request) {
                         best = candidate;
                         again = true;
@@ -38,10 +38,10 @@ pub fn shrink(
             }
             for at in 0..best.runs()[which].1.len() {
                 let mut run = best.runs()[which].1.clone();
-                if run[at] != 0 && tries < TRIES {
+                if run[at] != 0 && effort < EFFORT {
                     run[at] = 0;
                     let candidate = with_run(&best, which, run);
-                    tries += 1;
+                    effort += 500 + candidate.length();
                     if differs(&candidate, request) {
                         best = candidate;
                     }

@@ -37,7 +37,12 @@ fn frame(run: &[u8], start: usize, holder_end: usize) -> Result<Tlv, Refusal> {
     if end > holder_end {
         return Err(Refusal::at(Fault::ValueCut, Run::BgpLs, start));
     }
-    Ok(Tlv { code: big_endian(&run[start..start + 2]) as u16, start, value, end })
+    Ok(Tlv {
+        code: big_endian(&run[start..start + 2]) as u16,
+        start,
+        value,
+        end,
+    })
 }
 
 /// A known kind has its length checked; an unknown code is skipped.
@@ -49,7 +54,11 @@ fn read_attribute(tlv: &Tlv) -> Result<Option<Attribute>, Refusal> {
     if !bgp_ls_length_is_right(tlv.code, length) {
         return Err(Refusal::at(Fault::KindLength, Run::BgpLs, tlv.start));
     }
-    Ok(Some(Attribute { code: tlv.code, offset: tlv.value, length }))
+    Ok(Some(Attribute {
+        code: tlv.code,
+        offset: tlv.value,
+        length,
+    }))
 }
 
 /// 1, then the run from its start.
@@ -113,7 +122,11 @@ fn read_asla(run: &[u8], tlv: &Tlv) -> Result<Verdict<Vec<Attribute>>, Refusal> 
     if let Some(first) = masks.standard.first_mut() {
         *first &= 127;
     }
-    Ok(Verdict::Live(Advertisement { legacy_flag: false, masks, carries: attributes }))
+    Ok(Verdict::Live(Advertisement {
+        legacy_flag: false,
+        masks,
+        carries: attributes,
+    }))
 }
 
 impl Reader {
@@ -185,5 +198,8 @@ pub fn value(run: &[u8], asker: Asker, code: u16) -> Option<(usize, usize)> {
 /// The applications other than RSVP-TE that some 1122 names.
 pub fn named(run: &[u8]) -> Result<Vec<Application>, Refusal> {
     let reader = read_run(run)?;
-    Ok(all_but_rsvp_te().into_iter().filter(|one| reader.names(*one)).collect())
+    Ok(all_but_rsvp_te()
+        .into_iter()
+        .filter(|one| reader.names(*one))
+        .collect())
 }

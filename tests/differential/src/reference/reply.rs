@@ -77,7 +77,11 @@ impl Refusal {
 
     /// A refusal by 1, 2, 5, 6 or 7: these always name run A, offset 0.
     pub fn of_request(fault: Fault) -> Refusal {
-        Refusal { fault, run: Run::A, offset: 0 }
+        Refusal {
+            fault,
+            run: Run::A,
+            offset: 0,
+        }
     }
 }
 
@@ -95,7 +99,10 @@ pub enum Reading {
     TwoNumbers(u64, u64),
     /// The bits of the 32-bit float.
     Bandwidth(u32),
-    Place { offset: usize, length: usize },
+    Place {
+        offset: usize,
+        length: usize,
+    },
     /// The different SRLGs, ascending.
     Srlgs(Vec<u32>),
 }

@@ -21,7 +21,10 @@ fn maximum_link_bandwidth() {
     let legacy = "09 04 00 00 00 04 ";
     assert_eq!(bandwidth(&link_a(&[general, neither]), 1089), Some(1));
     assert_eq!(bandwidth(&link_a(&[neither, general]), 1089), Some(2));
-    assert_eq!(bandwidth(&link_a(&[flagged, neither, general]), 1089), Some(2));
+    assert_eq!(
+        bandwidth(&link_a(&[flagged, neither, general]), 1089),
+        Some(2)
+    );
     assert_eq!(bandwidth(&link_a(&[flagged]), 1089), None);
     assert_eq!(bandwidth(&link_a(&[general, legacy]), 1089), Some(4));
 }
@@ -34,7 +37,10 @@ fn maximum_reservable_bandwidth() {
     let legacy = "0A 04 00 00 00 04 ";
     let flagged = "10 03 81 00 80 ";
     assert_eq!(bandwidth(&link_a(&[shared, user]), 1090), None);
-    assert_eq!(bandwidth(&link_a(&[legacy, shared, user, alone]), 1090), Some(1));
+    assert_eq!(
+        bandwidth(&link_a(&[legacy, shared, user, alone]), 1090),
+        Some(1)
+    );
     assert_eq!(bandwidth(&link_a(&[shared, legacy]), 1090), Some(4));
     assert_eq!(bandwidth(&link_a(&[alone, legacy, flagged]), 1090), Some(4));
     assert_eq!(bandwidth(&link_a(&[alone, flagged]), 1090), None);
@@ -102,4 +108,20 @@ fn an_export_of_all_kinds() {
     );
     assert_eq!(export(&link, usize::MAX), Ok(written));
     assert_eq!(named(&link), Ok(Vec::new()));
+}
+
+/// The illustration of RFC 9294, section 4.1: an ASLA for S, F and X, a general set of SRLGs, and one
+/// for X. X is user application 7 here.
+#[test]
+fn the_illustration_of_rfc_9294() {
+    let a = "10 09 01 01 60 01 12 03 00 00 64 ";
+    let general = srlg_tlv("00 00", "00 00 00 05");
+    let for_x = srlg_tlv("00 01 01", "00 00 00 06");
+    let link = link(a, &[general, for_x].concat(), "");
+    let written = bytes(
+        "04 62 00 0C 00 00 00 00 04 48 00 04 00 00 00 05 \
+         04 62 00 18 04 00 00 00 60 00 00 00 04 44 00 04 00 00 00 64 04 48 00 04 00 00 00 05 \
+         04 62 00 18 00 04 00 00 01 00 00 00 04 44 00 04 00 00 00 64 04 48 00 04 00 00 00 06",
+    );
+    assert_eq!(export(&link, usize::MAX), Ok(written));
 }
