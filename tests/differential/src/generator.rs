@@ -380,6 +380,16 @@ fn identifiers(scene: &Scene, random: &mut Random) -> Vec<u8> {
     bytes
 }
 
+/// A TLV of type 238 with these masks and values, and one identifier.
+pub fn srlg_tlv_with(masks: &SentMasks, values: &[u8], random: &mut Random) -> Vec<u8> {
+    let mut value = random.bytes(7);
+    value.extend(masks.bytes());
+    value.extend([10, 4, 8]);
+    value.extend(random.bytes(8));
+    value.extend_from_slice(values);
+    element(238, &value)
+}
+
 /// A TLV of type 238.
 pub fn srlg_tlv(scene: &Scene, random: &mut Random) -> Vec<u8> {
     if scene.odd(random) && random.percent(2) {
@@ -443,7 +453,8 @@ fn run_b(scene: &Scene, random: &mut Random) -> Vec<u8> {
     b
 }
 
-fn run_c(scene: &Scene, random: &mut Random) -> Vec<u8> {
+/// The legacy SRLGs.
+pub fn run_c(scene: &Scene, random: &mut Random) -> Vec<u8> {
     let mut c = Vec::new();
     for _ in 0..random.pick(&[0, 0, 1, 2, 2, 3, 5]) {
         c.extend(scene.srlg(random));

@@ -13,6 +13,7 @@ pub mod reference;
 pub mod runs;
 pub mod session;
 pub mod shrink;
+pub mod twins;
 
 #[cfg(test)]
 mod tests;

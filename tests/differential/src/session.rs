@@ -15,6 +15,7 @@ use crate::reference::kinds::{CODES, SRLG};
 use crate::reference::link::{read_link, Link};
 use crate::runs::run;
 use crate::shrink::shrink;
+use crate::twins::twins;
 
 pub struct Session<'a> {
     pub library: &'a dyn Library,
@@ -54,7 +55,11 @@ impl Session<'_> {
                 self.link_case(case, &scene, link, random)
             }
             _ if random.percent(60) => {
-                let mut link = link(&scene, random);
+                let mut link = if random.percent(15) {
+                    twins(&scene, random)
+                } else {
+                    link(&scene, random)
+                };
                 if random.percent(20) {
                     damage_link(&mut link, random);
                 }
