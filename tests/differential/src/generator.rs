@@ -102,7 +102,7 @@ fn some_word(random: &mut Random) -> [u8; 4] {
     if random.percent(50) {
         random.pick(&WORDS).to_be_bytes()
     } else {
-        (random.next() as u32).to_be_bytes()
+        (random.draw() as u32).to_be_bytes()
     }
 }
 
@@ -112,7 +112,7 @@ fn some_srlg(random: &mut Random) -> u32 {
         0 => random.pick(&ENDS),
         1 => random.below(16) as u32,
         2 => (random.below(256) as u32) << 24 | random.below(4) as u32,
-        _ => random.next() as u32,
+        _ => random.draw() as u32,
     }
 }
 

@@ -8,12 +8,12 @@ impl Random {
     /// The numbers of one case of a run: every case begins anew, so that it can be repeated alone.
     pub fn new(seed: u64, case: u64) -> Random {
         let mut random = Random { state: seed };
-        random.state = random.next() ^ case.wrapping_mul(0x9E37_79B9_7F4A_7C15);
-        random.next();
+        random.state = random.draw() ^ case.wrapping_mul(0x9E37_79B9_7F4A_7C15);
+        random.draw();
         random
     }
 
-    pub fn next(&mut self) -> u64 {
+    pub fn draw(&mut self) -> u64 {
         self.state = self.state.wrapping_add(0x9E37_79B9_7F4A_7C15);
         let mut z = self.state;
         z = (z ^ (z >> 30)).wrapping_mul(0xBF58_476D_1CE4_E5B9);
@@ -23,7 +23,7 @@ impl Random {
 
     /// A number below `bound`, which is not 0.
     pub fn below(&mut self, bound: usize) -> usize {
-        (self.next() % bound as u64) as usize
+        (self.draw() % bound as u64) as usize
     }
 
     /// A number from `low` to `high`, both included.
@@ -32,7 +32,7 @@ impl Random {
     }
 
     pub fn byte(&mut self) -> u8 {
-        self.next() as u8
+        self.draw() as u8
     }
 
     /// True in so many of a hundred cases.

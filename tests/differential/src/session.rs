@@ -306,7 +306,7 @@ fn number(random: &mut Random) -> u64 {
         4 => (1 << 32) + low,
         5 => (1 << 63) + low,
         6 => u64::MAX - low,
-        _ => random.next(),
+        _ => random.draw(),
     }
 }
 
@@ -319,7 +319,7 @@ fn code(random: &mut Random) -> u16 {
         0..=82 => random.pick(&CODES),
         83..=91 => SRLG,
         92..=97 => random.pick(&BAD),
-        98 => random.next() as u16,
+        98 => random.draw() as u16,
         _ => random.pick(&CODES) ^ (1 << random.below(16)),
     }
 }
