@@ -14,10 +14,7 @@ fn main() {
     let archive = directory.join("libnakhshirul.a");
     println!("cargo:rerun-if-changed={}", archive.display());
     if !archive.exists() {
-        println!(
-            "cargo:warning=no {}: the program will not link",
-            archive.display()
-        );
+        println!("cargo:warning=no {}: the program will not link", archive.display());
     }
     println!("cargo:rustc-link-arg-bins={}", archive.display());
 }

@@ -20,43 +20,54 @@ pub trait Library {
     fn call(&self, runs: &[&[u8]], request: &Request, lent: &Lent) -> u64;
 }
 
-/// Runs placed among other bytes, at any alignment.
+/// The runs of a call in memory, with copies to see that they do not change.
 pub struct Placed {
-    bytes: Vec<u8>,
-    copy: Vec<u8>,
-    spans: Vec<(usize, usize)>,
+    runs: Vec<PlacedRun>,
+}
+
+struct PlacedRun {
+    memory: Box<[u8]>,
+    copy: Box<[u8]>,
+    at: usize,
+    length: usize,
 }
 
 impl Placed {
-    /// Behind a run stands either noise, or a copy of its beginning: whoever reads on finds more of
-    /// the like.
     pub fn new(subject: &Subject, random: &mut Random) -> Placed {
+        let runs = subject.runs();
+        Placed { runs: runs.iter().map(|(_, run)| PlacedRun::new(run, random)).collect() }
+    }
+
+    /// An empty run points to no byte, but never to null.
+    fn runs(&self) -> Vec<&[u8]> {
+        self.runs.iter().map(|run| &run.memory[run.at..run.at + run.length]).collect()
+    }
+
+    fn unchanged(&self) -> bool {
+        self.runs.iter().all(|run| run.memory == run.copy)
+    }
+}
+
+impl PlacedRun {
+    /// Either alone in its own allocation, where tools can see whoever reads on; or at any alignment
+    /// among other bytes, with noise or a copy of its beginning behind it: whoever reads on finds more
+    /// of the like.
+    fn new(run: &[u8], random: &mut Random) -> PlacedRun {
         let mut bytes = Vec::new();
-        let mut spans = Vec::new();
-        for (_, run) in subject.runs() {
-            let before = GUARD + random.below(8);
-            bytes.extend(random.bytes(before));
-            spans.push((bytes.len(), run.len()));
+        let mut at = 0;
+        if random.percent(50) {
             bytes.extend_from_slice(run);
-            let behind = run.len().min(GUARD);
+        } else {
+            at = GUARD + random.below(8);
+            bytes.extend(random.bytes(at));
+            bytes.extend_from_slice(run);
             if random.percent(50) {
-                bytes.extend_from_slice(&run[..behind]);
+                bytes.extend_from_slice(&run[..run.len().min(GUARD)]);
             }
             bytes.extend(random.bytes(GUARD));
         }
-        Placed {
-            copy: bytes.clone(),
-            bytes,
-            spans,
-        }
-    }
-
-    /// The runs. An empty one points among the other bytes too, never to null.
-    fn runs(&self) -> Vec<&[u8]> {
-        self.spans
-            .iter()
-            .map(|(at, length)| &self.bytes[*at..*at + *length])
-            .collect()
+        let memory = bytes.into_boxed_slice();
+        PlacedRun { copy: memory.clone(), memory, at, length: run.len() }
     }
 }
 
@@ -114,14 +125,8 @@ pub fn observe(
         reply: reply[GUARD..].as_mut_ptr(),
     };
     let status = library.call(&placed.runs(), request, &lent);
-    let runs_unchanged = placed.bytes == placed.copy;
-    Observed {
-        status,
-        reply,
-        list,
-        out,
-        runs_unchanged,
-    }
+    let runs_unchanged = placed.unchanged();
+    Observed { status, reply, list, out, runs_unchanged }
 }
 
 /// What a call that answers so must have done.
@@ -133,13 +138,7 @@ pub fn required(outcome: &Outcome, request: &Request, pattern: Pattern) -> Obser
     list[GUARD..GUARD + outcome.list.len()].copy_from_slice(&outcome.list);
     let mut out = pattern.out(out_room);
     out[GUARD..GUARD + outcome.out.len()].copy_from_slice(&outcome.out);
-    Observed {
-        status: outcome.status,
-        reply,
-        list,
-        out,
-        runs_unchanged: true,
-    }
+    Observed { status: outcome.status, reply, list, out, runs_unchanged: true }
 }
 
 impl Observed {

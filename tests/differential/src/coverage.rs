@@ -99,7 +99,7 @@ const IGNORED: [(&str, Ignored); 7] = [
     ("BGP-LS", Ignored::MaskLength),
 ];
 
-const THINGS: [&str; 14] = [
+const THINGS: [&str; 22] = [
     "A general",
     "A naming",
     "A neither",
@@ -114,6 +114,14 @@ const THINGS: [&str; 14] = [
     "RSVP-TE with L on A",
     "RSVP-TE with L on B",
     "a group of standard and user applications",
+    "A of 2048 bytes accepted",
+    "A of 2049 bytes",
+    "B of 2048 bytes accepted",
+    "B of 2049 bytes",
+    "C of 1024 bytes accepted",
+    "C of 1028 bytes",
+    "BGP-LS run of 524288 bytes accepted",
+    "BGP-LS run of 524289 bytes",
 ];
 
 impl Coverage {
@@ -144,8 +152,14 @@ impl Coverage {
         match subject {
             Subject::Link(link) => {
                 self.links += 1;
+                self.thing_if(link.a.len() == 2049, "A of 2049 bytes");
+                self.thing_if(link.b.len() == 2049, "B of 2049 bytes");
+                self.thing_if(link.c.len() == 1028, "C of 1028 bytes");
                 let Ok(sides) = read_link(link) else { return };
                 self.accepted_links += 1;
+                self.thing_if(link.a.len() == 2048, "A of 2048 bytes accepted");
+                self.thing_if(link.b.len() == 2048, "B of 2048 bytes accepted");
+                self.thing_if(link.c.len() == 1024, "C of 1024 bytes accepted");
                 self.sides(&sides);
                 let meaning = meaning::of_sides(link, &sides);
                 let groups = groups(&meaning.named);
@@ -160,16 +174,15 @@ impl Coverage {
             }
             Subject::Run(run) => {
                 self.runs += 1;
+                self.thing_if(run.len() == 524_289, "BGP-LS run of 524289 bytes");
                 let Ok(reader) = read_run(run) else { return };
                 self.accepted_runs += 1;
+                self.thing_if(run.len() == 524_288, "BGP-LS run of 524288 bytes accepted");
                 for why in reader.ignored {
                     *self.ignored.entry(("BGP-LS", why)).or_default() += 1;
                 }
                 for asla in reader.aslas {
-                    self.thing(pick(
-                        &asla,
-                        ["BGP-LS general", "BGP-LS naming", "BGP-LS neither"],
-                    ));
+                    self.thing(pick(&asla, ["BGP-LS general", "BGP-LS naming", "BGP-LS neither"]));
                 }
             }
         }
@@ -177,14 +190,8 @@ impl Coverage {
 
     fn sides(&mut self, sides: &Sides) {
         for application in named_on(sides) {
-            *self
-                .rules
-                .entry(("A", rule(&sides.a.live, application)))
-                .or_default() += 1;
-            *self
-                .rules
-                .entry(("B", rule(&sides.b.live, application)))
-                .or_default() += 1;
+            *self.rules.entry(("A", rule(&sides.a.live, application))).or_default() += 1;
+            *self.rules.entry(("B", rule(&sides.b.live, application))).or_default() += 1;
         }
         for why in &sides.a.ignored {
             *self.ignored.entry(("A", *why)).or_default() += 1;
@@ -212,6 +219,12 @@ impl Coverage {
         }
     }
 
+    fn thing_if(&mut self, met: bool, thing: &'static str) {
+        if met {
+            self.thing(thing);
+        }
+    }
+
     fn thing(&mut self, thing: &'static str) {
         *self.things.entry(thing).or_default() += 1;
     }
@@ -235,16 +248,9 @@ impl Coverage {
         }
         // The value functions have no SRLGs.
         for (function, codes) in [(0, 14), (1, 13), (4, 14), (5, 13)] {
-            let found = self
-                .kinds
-                .keys()
-                .filter(|(one, _)| *one == function)
-                .count();
+            let found = self.kinds.keys().filter(|(one, _)| *one == function).count();
             if found < codes {
-                missing.push(format!(
-                    "{} found {found} kinds of {codes}",
-                    FUNCTIONS[function]
-                ));
+                missing.push(format!("{} found {found} kinds of {codes}", FUNCTIONS[function]));
             }
         }
         for one in RULES {
@@ -276,20 +282,11 @@ impl Coverage {
             self.groups, self.most_groups, self.longest_export
         );
         for (function, name) in FUNCTIONS.iter().enumerate() {
-            let counts = self
-                .statuses
-                .iter()
-                .filter(|((one, _), _)| *one == function);
-            line(
-                name,
-                counts.map(|((_, status), n)| format!("{status}: {n}")),
-            );
+            let counts = self.statuses.iter().filter(|((one, _), _)| *one == function);
+            line(name, counts.map(|((_, status), n)| format!("{status}: {n}")));
         }
         for number in 1..=7 {
-            let counts = self
-                .faults
-                .iter()
-                .filter(|((_, fault), _)| fault.number() == number);
+            let counts = self.faults.iter().filter(|((_, fault), _)| fault.number() == number);
             let texts = counts.map(|((run, fault), n)| match number {
                 3 | 4 => format!("{run} {fault:?}: {n}"),
                 _ => format!("{n}"),
@@ -302,22 +299,9 @@ impl Coverage {
             });
             line(&format!("{} found", FUNCTIONS[function]), counts);
         }
-        line(
-            "rules",
-            self.rules
-                .iter()
-                .map(|((side, rule), n)| format!("{side} {rule:?}: {n}")),
-        );
-        line(
-            "ignored",
-            self.ignored
-                .iter()
-                .map(|((side, why), n)| format!("{side} {why:?}: {n}")),
-        );
-        line(
-            "met",
-            self.things.iter().map(|(thing, n)| format!("{thing}: {n}")),
-        );
+        line("rules", self.rules.iter().map(|((side, rule), n)| format!("{side} {rule:?}: {n}")));
+        line("ignored", self.ignored.iter().map(|((side, why), n)| format!("{side} {why:?}: {n}")));
+        line("met", self.things.iter().map(|(thing, n)| format!("{thing}: {n}")));
     }
 }
 

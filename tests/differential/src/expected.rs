@@ -19,12 +19,7 @@ pub struct Outcome {
 /// What the reference answers to a call.
 pub fn expected(subject: &Subject, request: &Request) -> Outcome {
     match *request {
-        Request::Ask {
-            who,
-            number,
-            code,
-            room,
-        } => {
+        Request::Ask { who, number, code, room } => {
             let Some(asker) = asker(who, number) else {
                 return refused(Refusal::of_request(Fault::ApplicationAbove63));
             };
@@ -48,15 +43,10 @@ pub fn expected(subject: &Subject, request: &Request) -> Outcome {
             Subject::Run(run) => named(bgp_ls::named(run)),
         },
         Request::Export { room } => {
-            let Subject::Link(link) = subject else {
-                panic!("a run is not exported")
-            };
+            let Subject::Link(link) = subject else { panic!("a run is not exported") };
             match export::export(link, room) {
                 Err(refusal) => refused(refusal),
-                Ok(out) => Outcome {
-                    out: out.clone(),
-                    ..status(7, out.len() as u64, 0)
-                },
+                Ok(out) => Outcome { out: out.clone(), ..status(7, out.len() as u64, 0) },
             }
         }
     }
@@ -73,11 +63,7 @@ fn asker(who: u8, number: u64) -> Option<Asker> {
 }
 
 fn status(status: u64, first: u64, second: u64) -> Outcome {
-    Outcome {
-        status,
-        reply: [first, second],
-        ..Outcome::default()
-    }
+    Outcome { status, reply: [first, second], ..Outcome::default() }
 }
 
 fn refused(refusal: Refusal) -> Outcome {
@@ -86,15 +72,8 @@ fn refused(refusal: Refusal) -> Outcome {
         Run::B => 1,
         Run::BgpLs => 2,
     };
-    let outcome = status(
-        128 + u64::from(refusal.fault.number()),
-        run,
-        refusal.offset as u64,
-    );
-    Outcome {
-        refusal: Some(refusal),
-        ..outcome
-    }
+    let outcome = status(128 + u64::from(refusal.fault.number()), run, refusal.offset as u64);
+    Outcome { refusal: Some(refusal), ..outcome }
 }
 
 fn answered(answer: Result<Answer, Refusal>) -> Outcome {
@@ -107,10 +86,9 @@ fn answered(answer: Result<Answer, Refusal>) -> Outcome {
         Ok(Answer::Found(Reading::Place { offset, length })) => {
             status(4, offset as u64, length as u64)
         }
-        Ok(Answer::Found(Reading::Srlgs(list))) => Outcome {
-            list: list.clone(),
-            ..status(5, list.len() as u64, 0)
-        },
+        Ok(Answer::Found(Reading::Srlgs(list))) => {
+            Outcome { list: list.clone(), ..status(5, list.len() as u64, 0) }
+        }
     }
 }
 

@@ -28,12 +28,7 @@ impl Scene {
         for _ in 0..random.between(1, 6) {
             srlgs.push(some_srlg(random));
         }
-        Scene {
-            applications,
-            words,
-            srlgs,
-            oddness,
-        }
+        Scene { applications, words, srlgs, oddness }
     }
 
     /// True where an odd choice is due.
@@ -129,9 +124,8 @@ pub struct SentMasks {
 impl SentMasks {
     /// The two bytes of lengths and flags, and the masks.
     pub fn bytes(&self) -> Vec<u8> {
-        let (standard, user) = self
-            .declared
-            .unwrap_or((self.standard.len() as u8, self.user.len() as u8));
+        let (standard, user) =
+            self.declared.unwrap_or((self.standard.len() as u8, self.user.len() as u8));
         let mut bytes = vec![
             standard | if self.legacy_flag { 128 } else { 0 },
             user | if self.reserved { 128 } else { 0 },
@@ -252,9 +246,8 @@ const KINDS: [(u8, usize); 12] = [
 ];
 
 /// Types that are no kinds; those beside the kinds among them.
-const UNKNOWN: [u8; 22] = [
-    0, 1, 2, 4, 5, 6, 8, 12, 13, 15, 17, 19, 20, 22, 32, 40, 128, 137, 146, 238, 250, 255,
-];
+const UNKNOWN: [u8; 22] =
+    [0, 1, 2, 4, 5, 6, 8, 12, 13, 15, 17, 19, 20, 22, 32, 40, 128, 137, 146, 238, 250, 255];
 
 /// An element of one type byte and one length byte.
 pub fn element(kind: u8, value: &[u8]) -> Vec<u8> {
@@ -270,11 +263,8 @@ pub fn attribute(scene: &Scene, random: &mut Random) -> Vec<u8> {
         let length = random.between(0, 9);
         return element(random.pick(&UNKNOWN), &random.bytes(length));
     }
-    let (kind, mut length) = if random.percent(10) {
-        (14, extended_group_length(random))
-    } else {
-        random.pick(&KINDS)
-    };
+    let (kind, mut length) =
+        if random.percent(10) { (14, extended_group_length(random)) } else { random.pick(&KINDS) };
     if scene.odd(random) && random.percent(4) {
         length = random.pick(&[0, 1, 2, 3, 4, 5, 7, 8, 9, 31, 32, 33]);
     }
@@ -308,11 +298,7 @@ pub fn asla(scene: &Scene, random: &mut Random) -> Vec<u8> {
         return element(16, &random.bytes(length));
     }
     let masks = some_masks(scene, random);
-    let count = if masks.legacy_flag && random.percent(60) {
-        0
-    } else {
-        random.between(0, 4)
-    };
+    let count = if masks.legacy_flag && random.percent(60) { 0 } else { random.between(0, 4) };
     let mut list = Vec::new();
     for _ in 0..count {
         if scene.odd(random) && random.percent(10) {
@@ -340,16 +326,8 @@ pub fn asla(scene: &Scene, random: &mut Random) -> Vec<u8> {
 
 /// The identifiers of a 238.
 fn identifiers(scene: &Scene, random: &mut Random) -> Vec<u8> {
-    const USUAL: [&[u8]; 8] = [
-        &[4],
-        &[4],
-        &[6, 8],
-        &[8, 6],
-        &[12, 13],
-        &[13, 12],
-        &[4, 6, 8],
-        &[6, 8, 12, 13],
-    ];
+    const USUAL: [&[u8]; 8] =
+        [&[4], &[4], &[6, 8], &[8, 6], &[12, 13], &[13, 12], &[4, 6, 8], &[6, 8, 12, 13]];
     let mut types = random.pick(&USUAL).to_vec();
     if scene.odd(random) && random.percent(50) {
         // Any combination, repeats too.
@@ -359,10 +337,7 @@ fn identifiers(scene: &Scene, random: &mut Random) -> Vec<u8> {
         }
     }
     if scene.odd(random) && random.percent(40) {
-        types.insert(
-            random.between(0, types.len()),
-            random.pick(&[0, 3, 5, 7, 9, 14, 255]),
-        );
+        types.insert(random.between(0, types.len()), random.pick(&[0, 3, 5, 7, 9, 14, 255]));
     }
     let mut bytes = Vec::new();
     for kind in types {
@@ -407,9 +382,7 @@ pub fn srlg_tlv(scene: &Scene, random: &mut Random) -> Vec<u8> {
     let list = identifiers(scene, random);
     let mut declared = list.len() as u8;
     if scene.odd(random) && random.percent(3) {
-        declared = declared
-            .wrapping_add(random.between(0, 4) as u8)
-            .wrapping_sub(2);
+        declared = declared.wrapping_add(random.between(0, 4) as u8).wrapping_sub(2);
     }
     value.push(declared);
     value.extend(list);
@@ -468,9 +441,5 @@ pub fn run_c(scene: &Scene, random: &mut Random) -> Vec<u8> {
 
 /// A link of a scene, well-formed or odd as the scene is.
 pub fn link(scene: &Scene, random: &mut Random) -> Link {
-    Link {
-        a: run_a(scene, random),
-        b: run_b(scene, random),
-        c: run_c(scene, random),
-    }
+    Link { a: run_a(scene, random), b: run_b(scene, random), c: run_c(scene, random) }
 }

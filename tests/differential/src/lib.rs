@@ -4,6 +4,7 @@
 pub mod calls;
 pub mod compare;
 pub mod coverage;
+pub mod dense;
 pub mod expected;
 pub mod generator;
 pub mod limits;

@@ -1,6 +1,6 @@
 //! Links and runs at the limits of their lengths.
 
-use crate::generator::{asla, attribute, element, mask_of, srlg_tlv, Scene};
+use crate::generator::{asla, attribute, element, srlg_tlv, Scene};
 use crate::random::Random;
 use crate::reference::link::Link;
 use crate::runs::{run, tlv};
@@ -34,146 +34,58 @@ fn fill(mut parts: Vec<Vec<u8>>, target: usize, random: &mut Random) -> Vec<u8> 
     parts.concat()
 }
 
-/// A link whose runs are as long as they may be, or a little longer.
-pub fn long_link(random: &mut Random) -> Link {
+/// A link with a run, or all three, as long as may be, or a little longer. `turn` counts such links, so
+/// that each length has its turn.
+pub fn long_link(turn: u64, random: &mut Random) -> Link {
+    const LENGTHS: [usize; 5] = [2048, 2049, 2047, 2048, 4096];
+    const C_LENGTHS: [usize; 10] = [1024, 1028, 1020, 1024, 1025, 1024, 1023, 1022, 1026, 2048];
+    let which = turn % 4;
     let scene = Scene::new(random, 5);
-    let mut a = Vec::new();
-    let mut b = Vec::new();
-    let mut c = Vec::new();
-    let which = random.below(4);
+    let length = LENGTHS[(turn / 4 % 5) as usize];
+    let mut link = Link::default();
     if which == 0 || which == 3 {
-        let mut parts = Vec::new();
-        for _ in 0..random.between(0, 80) {
-            if random.percent(50) {
-                parts.push(attribute(&scene, random));
-            } else {
-                parts.push(asla(&scene, random));
-            }
-        }
-        let target = random.pick(&[2046, 2047, 2048, 2048, 2048, 2048, 2049, 2049, 2050, 4096]);
-        a = fill(parts, target, random);
+        link.a = long_a(&scene, length, random);
     }
     if which == 1 || which == 3 {
-        let mut parts = Vec::new();
-        for _ in 0..random.between(0, 60) {
-            parts.push(srlg_tlv(&scene, random));
-        }
-        let target = random.pick(&[2046, 2047, 2048, 2048, 2048, 2048, 2049, 2049, 2050, 4096]);
-        b = fill(parts, target, random);
+        link.b = long_b(&scene, length, random);
     }
     if which == 2 || which == 3 {
-        let target = random.pick(&[
-            1016, 1020, 1021, 1022, 1023, 1024, 1024, 1024, 1024, 1025, 1026, 1027, 1028, 1028,
-            2048,
-        ]);
-        c = random.bytes(target);
+        link.c = long_c(C_LENGTHS[(turn / 4 % 10) as usize], random);
+    }
+    link
+}
+
+fn long_a(scene: &Scene, length: usize, random: &mut Random) -> Vec<u8> {
+    let mut parts = Vec::new();
+    for _ in 0..random.between(0, 80) {
         if random.percent(50) {
-            // Many repeats.
-            for byte in &mut c {
-                *byte %= 3;
-            }
-        }
-    }
-    Link { a, b, c }
-}
-
-/// A link whose export is long: many applications, each with a set of its own, and many SRLGs.
-pub fn dense_link(random: &mut Random) -> Link {
-    let fullest = random.percent(30);
-    let mut parts = Vec::new();
-    let mut numbers: Vec<u8> = (0..128).collect();
-    random.shuffle(&mut numbers);
-    if fullest {
-        // Everyone has a long extended group too.
-        let mut value = vec![8, 8];
-        value.extend([255; 16]);
-        value.extend(element(14, &random.bytes(200)));
-        parts.push(element(16, &value));
-    } else {
-        numbers.truncate(random.between(20, 128));
-    }
-    for (at, number) in numbers.iter().enumerate() {
-        let mask = mask_of(&[number % 64]);
-        let mut value = if *number < 64 {
-            vec![mask.len() as u8, 0]
+            parts.push(attribute(scene, random));
         } else {
-            vec![0, mask.len() as u8]
-        };
-        value.extend(mask);
-        if random.percent(5) && !fullest {
-            value[0] |= 128;
+            parts.push(asla(scene, random));
         }
-        // Some share a metric.
-        value.extend(element(18, &[0, random.pick(&[0, 1]), (at % 100) as u8]));
-        parts.push(element(16, &value));
     }
-    let a = cut_to(parts, 2048);
+    fill(parts, length, random)
+}
+
+fn long_b(scene: &Scene, length: usize, random: &mut Random) -> Vec<u8> {
     let mut parts = Vec::new();
-    for _ in 0..9 {
-        let mut value = random.bytes(7);
-        match random.below(3) {
-            0 => value.extend([0, 0]),
-            1 => value.extend([
-                8, 8, 255, 255, 255, 255, 255, 255, 255, 255, 0, 0, 0, 0, 0, 0, 0, 1,
-            ]),
-            _ => {
-                value.extend([4, 2]);
-                value.extend(random.bytes(6));
-            }
-        }
-        value.extend([10, 4, 8, 0, 0, 0, 1, 0, 0, 0, 2]);
-        let few = random.percent(30);
-        while value.len() + 4 <= 255 {
-            if few {
-                value.extend([0, 0, 0, random.below(40) as u8]);
-            } else {
-                value.extend(random.bytes(4));
-            }
-        }
-        parts.push(element(238, &value));
+    for _ in 0..random.between(0, 60) {
+        parts.push(srlg_tlv(scene, random));
     }
-    if fullest {
-        parts = (0..8).map(|_| general_srlg_tlv(random)).collect();
-        // The last one has less room.
-        parts[7].truncate(2 + 20 + 4 * 56);
-        parts[7][1] = 20 + 4 * 56;
-    }
-    let b = cut_to(parts, 2048);
-    let length = 4 * random.between(0, 256);
-    Link {
-        a,
-        b,
-        c: random.bytes(length),
-    }
+    fill(parts, length, random)
 }
 
-/// A general 238 with as many values as it holds.
-fn general_srlg_tlv(random: &mut Random) -> Vec<u8> {
-    let mut value = random.bytes(7);
-    value.extend([0, 0, 10, 4, 8, 0, 0, 0, 1, 0, 0, 0, 2]);
-    while value.len() + 4 <= 255 {
-        value.extend(random.bytes(4));
-    }
-    element(238, &value)
-}
-
-/// As many of the parts as fit.
-fn cut_to(parts: Vec<Vec<u8>>, room: usize) -> Vec<u8> {
-    let mut bytes = Vec::new();
-    for part in parts {
-        if bytes.len() + part.len() <= room {
-            bytes.extend(part);
-        }
-    }
-    bytes
+/// Any values, or few different ones.
+fn long_c(length: usize, random: &mut Random) -> Vec<u8> {
+    let few = random.percent(50);
+    (0..length).map(|_| if few { random.byte() % 3 } else { random.byte() }).collect()
 }
 
 /// A BGP-LS run of about the greatest length, or a little over it. `turn` counts such runs, so that
 /// each length has its turn.
 pub fn long_run(turn: u64, random: &mut Random) -> Vec<u8> {
-    const LENGTHS: [usize; 8] = [
-        524_288, 524_289, 524_288, 524_287, 524_288, 524_284, 524_292, 600_000,
-    ];
+    const LENGTHS: [usize; 8] =
+        [524_288, 524_289, 524_288, 524_287, 524_288, 524_284, 524_292, 600_000];
     let target = LENGTHS[(turn % 8) as usize];
     let scene = Scene::new(random, 2);
     let mut bytes = Vec::new();

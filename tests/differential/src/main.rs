@@ -8,7 +8,7 @@ use differential::compare::{Lent, Library};
 use differential::session::Session;
 
 /// As many calls as take about a minute.
-const DEFAULT_CALLS: u64 = 4_000_000;
+const DEFAULT_CALLS: u64 = 5_000_000;
 
 /// Runs with fewer calls need not reach everything.
 const CALLS_FOR_COVERAGE: u64 = 200_000;
@@ -103,14 +103,9 @@ unsafe fn call_link(a: &[u8], b: &[u8], c: &[u8], request: &Request, lent: &Lent
     let (c, c_len) = (c.as_ptr(), c.len());
     let reply = lent.reply;
     match *request {
-        Request::Ask {
-            who,
-            number,
-            code,
-            room,
-        } => nakhshirul_ask(
-            a, a_len, b, b_len, c, c_len, who, number, code, lent.list, room, reply,
-        ),
+        Request::Ask { who, number, code, room } => {
+            nakhshirul_ask(a, a_len, b, b_len, c, c_len, who, number, code, lent.list, room, reply)
+        }
         Request::Value { who, number, code } => {
             nakhshirul_value(a, a_len, b, b_len, c, c_len, who, number, code, reply)
         }
@@ -124,12 +119,9 @@ unsafe fn call_link(a: &[u8], b: &[u8], c: &[u8], request: &Request, lent: &Lent
 unsafe fn call_run(run: &[u8], request: &Request, lent: &Lent) -> u64 {
     let (run, run_len) = (run.as_ptr(), run.len());
     match *request {
-        Request::Ask {
-            who,
-            number,
-            code,
-            room,
-        } => nakhshirul_run_ask(run, run_len, who, number, code, lent.list, room, lent.reply),
+        Request::Ask { who, number, code, room } => {
+            nakhshirul_run_ask(run, run_len, who, number, code, lent.list, room, lent.reply)
+        }
         Request::Value { who, number, code } => {
             nakhshirul_run_value(run, run_len, who, number, code, lent.reply)
         }
@@ -148,13 +140,8 @@ struct Options {
 }
 
 fn options() -> Result<Options, String> {
-    let mut options = Options {
-        seed: 1,
-        calls: DEFAULT_CALLS,
-        seconds: None,
-        case: None,
-        trace: false,
-    };
+    let mut options =
+        Options { seed: 1, calls: DEFAULT_CALLS, seconds: None, case: None, trace: false };
     let mut arguments = std::env::args().skip(1);
     while let Some(name) = arguments.next() {
         if name == "--trace" {
@@ -162,9 +149,7 @@ fn options() -> Result<Options, String> {
             continue;
         }
         let text = arguments.next().ok_or(format!("{name} needs a number"))?;
-        let number: u64 = text
-            .parse()
-            .map_err(|_| format!("{name}: {text} is no number"))?;
+        let number: u64 = text.parse().map_err(|_| format!("{name}: {text} is no number"))?;
         match name.as_str() {
             "--seed" => options.seed = number,
             "--calls" => options.calls = number,
@@ -200,9 +185,7 @@ fn main() -> ExitCode {
             return ExitCode::FAILURE;
         }
         case += 1;
-        let late = options
-            .seconds
-            .is_some_and(|seconds| start.elapsed().as_secs() >= seconds);
+        let late = options.seconds.is_some_and(|seconds| start.elapsed().as_secs() >= seconds);
         if options.case.is_some() || session.coverage.calls >= options.calls || late {
             break;
         }
@@ -221,11 +204,7 @@ fn finish(session: &Session, seed: u64, cases: u64, start: Instant) -> ExitCode 
     }
     println!(
         "{}: seed {seed}, {calls} calls of {cases} cases agree, {:.1} seconds",
-        if failed {
-            "FAILED, not everything was reached"
-        } else {
-            "ok"
-        },
+        if failed { "FAILED, not everything was reached" } else { "ok" },
         start.elapsed().as_secs_f64()
     );
     if failed {

@@ -45,11 +45,8 @@ fn attribute(scene: &Scene, random: &mut Random) -> Vec<u8> {
         }
         1115 => tlv(code, &scene.value(random, 8)),
         1173 => {
-            let words = if random.percent(5) {
-                random.between(1, 100)
-            } else {
-                random.between(1, 3)
-            };
+            let words =
+                if random.percent(5) { random.between(1, 100) } else { random.between(1, 3) };
             tlv(code, &scene.value(random, 4 * words))
         }
         _ => tlv(code, &scene.value(random, 4)),
@@ -111,11 +108,7 @@ fn asla(scene: &Scene, random: &mut Random) -> Vec<u8> {
         lengths[random.below(2)] =
             random.pick(&[0, 1, 2, 3, 4, 5, 6, 7, 8, 9, 12, 16, 128, 132, 136, 255]);
     }
-    let reserved = if random.percent(85) {
-        [0, 0]
-    } else {
-        [random.byte(), random.byte()]
-    };
+    let reserved = if random.percent(85) { [0, 0] } else { [random.byte(), random.byte()] };
     let mut value = lengths.to_vec();
     value.extend(reserved);
     value.extend(standard);

@@ -3,9 +3,10 @@
 use crate::calls::{function, Request, Subject, FUNCTIONS};
 use crate::compare::{hex, observe, required, Library, Pattern, Placed};
 use crate::coverage::Coverage;
+use crate::dense::dense_link;
 use crate::expected::expected;
 use crate::generator::{link, some_application, Scene};
-use crate::limits::{dense_link, long_link, long_run};
+use crate::limits::{long_link, long_run};
 use crate::mutate::{damage, damage_link};
 use crate::random::Random;
 use crate::reference::application::Application;
@@ -29,11 +30,7 @@ pub struct Difference(pub String);
 
 impl Session<'_> {
     pub fn new(library: &dyn Library, seed: u64) -> Session<'_> {
-        Session {
-            library,
-            seed,
-            coverage: Coverage::default(),
-        }
+        Session { library, seed, coverage: Coverage::default() }
     }
 
     /// One case: a link or a run, and some calls about it. Long ones come at set places, since they
@@ -47,19 +44,24 @@ impl Session<'_> {
         }
         match case % 500 {
             20 | 270 => {
-                let link = long_link(random);
+                let link = long_link(case / 250, random);
                 self.link_case(case, &scene, link, random)
+            }
+            123 if case % 5000 == 123 => {
+                let subject = accepted(random, |random| Subject::Link(link(&scene, random)));
+                self.compare(case, &subject, &every_question(&subject), random)
+            }
+            124 if case % 5000 == 124 => {
+                let subject = accepted(random, |random| Subject::Run(run(&scene, random)));
+                self.compare(case, &subject, &every_question(&subject), random)
             }
             120 => {
                 let link = dense_link(random);
                 self.link_case(case, &scene, link, random)
             }
             _ if random.percent(60) => {
-                let mut link = if random.percent(15) {
-                    twins(&scene, random)
-                } else {
-                    link(&scene, random)
-                };
+                let mut link =
+                    if random.percent(15) { twins(&scene, random) } else { link(&scene, random) };
                 if random.percent(20) {
                     damage_link(&mut link, random);
                 }
@@ -85,16 +87,9 @@ impl Session<'_> {
     ) -> Result<(), Difference> {
         let whole = export(&link, usize::MAX);
         let length = whole.as_ref().map_or(random.below(60), |bytes| bytes.len());
-        let mut requests = vec![
-            Request::Named,
-            Request::Export {
-                room: room(length, random),
-            },
-        ];
+        let mut requests = vec![Request::Named, Request::Export { room: room(length, random) }];
         if random.percent(50) {
-            requests.push(Request::Export {
-                room: room(length, random),
-            });
+            requests.push(Request::Export { room: room(length, random) });
         }
         let questions = if whole.is_ok() { 9 } else { 3 };
         let subject = Subject::Link(link);
@@ -243,35 +238,50 @@ fn codes_in(subject: &Subject) -> Vec<u16> {
 /// A question to a link or a run, or the same to a value function.
 fn question(scene: &Scene, subject: &Subject, codes: &[u16], random: &mut Random) -> Request {
     let (who, number) = who(scene, random);
-    let code = if codes.is_empty() || random.percent(50) {
-        code(random)
-    } else {
-        random.pick(codes)
-    };
+    let code =
+        if codes.is_empty() || random.percent(50) { code(random) } else { random.pick(codes) };
     if random.percent(30) {
         return Request::Value { who, number, code };
     }
-    if code != SRLG {
-        return Request::Ask {
-            who,
-            number,
-            code,
-            room: random.below(6),
-        };
-    }
-    let unbounded = Request::Ask {
-        who,
-        number,
-        code,
-        room: usize::MAX,
+    let room = if code == SRLG {
+        room(count(subject, who, number, code), random)
+    } else {
+        random.below(6)
     };
-    let count = expected(subject, &unbounded).list.len();
-    Request::Ask {
-        who,
-        number,
-        code,
-        room: room(count, random),
+    Request::Ask { who, number, code, room }
+}
+
+/// The first one that is accepted.
+fn accepted(random: &mut Random, mut make: impl FnMut(&mut Random) -> Subject) -> Subject {
+    loop {
+        let subject = make(random);
+        if expected(&subject, &Request::Named).refusal.is_none() {
+            return subject;
+        }
     }
+}
+
+/// All fourteen kinds for the general set and every application, and their values.
+fn every_question(subject: &Subject) -> Vec<Request> {
+    let mut requests = Vec::new();
+    for (who, number) in (0..64).flat_map(|n| [(1, n), (2, n)]).chain([(0, 0)]) {
+        for code in CODES {
+            let room = count(subject, who, number, code);
+            requests.push(Request::Ask { who, number, code, room });
+            requests.push(Request::Value { who, number, code });
+        }
+    }
+    requests
+}
+
+/// How many SRLGs the answer has.
+fn count(subject: &Subject, who: u8, number: u64, code: u16) -> usize {
+    if code != SRLG {
+        return 0;
+    }
+    let room = usize::MAX;
+    let unbounded = Request::Ask { who, number, code, room };
+    expected(subject, &unbounded).list.len()
 }
 
 /// Who asks: mostly an application of the scene.
@@ -281,12 +291,7 @@ fn who(scene: &Scene, random: &mut Random) -> (u8, u64) {
         62..=71 => Application::Standard(0),
         72..=83 => return (0, number(random)),
         84..=95 => some_application(random),
-        96..=97 => {
-            return (
-                random.pick(&[3, 4, 5, 64, 127, 128, 129, 255]),
-                number(random),
-            )
-        }
+        96..=97 => return (random.pick(&[3, 4, 5, 64, 127, 128, 129, 255]), number(random)),
         _ => return (random.between(1, 2) as u8, number(random)),
     };
     match application {
@@ -312,9 +317,8 @@ fn number(random: &mut Random) -> u64 {
 
 /// A code, mostly one of the fourteen; SRLG more often than the others.
 fn code(random: &mut Random) -> u16 {
-    const BAD: [u16; 16] = [
-        0, 3, 18, 64, 1087, 1093, 1095, 1097, 1113, 1121, 1122, 1123, 1172, 1174, 32767, 65535,
-    ];
+    const BAD: [u16; 16] =
+        [0, 3, 18, 64, 1087, 1093, 1095, 1097, 1113, 1121, 1122, 1123, 1172, 1174, 32767, 65535];
     match random.below(100) {
         0..=82 => random.pick(&CODES),
         83..=91 => SRLG,

@@ -38,23 +38,13 @@ pub fn twins(scene: &Scene, random: &mut Random) -> Link {
             b.extend(srlg_tlv_with(&masks, &values, random));
         }
     }
-    Link {
-        a,
-        b,
-        c: run_c(scene, random),
-    }
+    Link { a, b, c: run_c(scene, random) }
 }
 
 /// The masks of one application, rarely with L.
 fn masks_for(application: Application, random: &mut Random) -> SentMasks {
     let (standard, user) = masks_of(&[application]);
-    SentMasks {
-        legacy_flag: random.percent(4),
-        reserved: false,
-        standard,
-        user,
-        declared: None,
-    }
+    SentMasks { legacy_flag: random.percent(4), reserved: false, standard, user, declared: None }
 }
 
 /// The same parts, or with one small change. The first `header` bytes of a part stay.

@@ -79,11 +79,7 @@ impl Masks {
 
     /// How many bits are set in both masks.
     pub fn bits_set(&self) -> u32 {
-        self.standard
-            .iter()
-            .chain(&self.user)
-            .map(|byte| byte.count_ones())
-            .sum()
+        self.standard.iter().chain(&self.user).map(|byte| byte.count_ones()).sum()
     }
 }
 
@@ -124,10 +120,7 @@ pub enum Rule {
 
 /// The rule for an application on a side. One L-flag anywhere wins.
 pub fn rule<T>(live: &[Advertisement<T>], application: Application) -> Rule {
-    if live
-        .iter()
-        .any(|one| one.legacy_flag && one.masks.name(application))
-    {
+    if live.iter().any(|one| one.legacy_flag && one.masks.name(application)) {
         Rule::Legacy
     } else if live.iter().any(|one| one.masks.name(application)) {
         Rule::Naming
@@ -138,9 +131,7 @@ pub fn rule<T>(live: &[Advertisement<T>], application: Application) -> Rule {
 
 /// The advertisements that name an application, in byte order.
 pub fn naming<T>(live: &[Advertisement<T>], application: Application) -> Vec<&Advertisement<T>> {
-    live.iter()
-        .filter(|one| one.masks.name(application))
-        .collect()
+    live.iter().filter(|one| one.masks.name(application)).collect()
 }
 
 /// The general advertisements, in byte order: both mask lengths are 0.

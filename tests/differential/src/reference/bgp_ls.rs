@@ -37,12 +37,7 @@ fn frame(run: &[u8], start: usize, holder_end: usize) -> Result<Tlv, Refusal> {
     if end > holder_end {
         return Err(Refusal::at(Fault::ValueCut, Run::BgpLs, start));
     }
-    Ok(Tlv {
-        code: big_endian(&run[start..start + 2]) as u16,
-        start,
-        value,
-        end,
-    })
+    Ok(Tlv { code: big_endian(&run[start..start + 2]) as u16, start, value, end })
 }
 
 /// A known kind has its length checked; an unknown code is skipped.
@@ -54,11 +49,7 @@ fn read_attribute(tlv: &Tlv) -> Result<Option<Attribute>, Refusal> {
     if !bgp_ls_length_is_right(tlv.code, length) {
         return Err(Refusal::at(Fault::KindLength, Run::BgpLs, tlv.start));
     }
-    Ok(Some(Attribute {
-        code: tlv.code,
-        offset: tlv.value,
-        length,
-    }))
+    Ok(Some(Attribute { code: tlv.code, offset: tlv.value, length }))
 }
 
 /// 1, then the run from its start.
@@ -115,18 +106,12 @@ fn read_asla(run: &[u8], tlv: &Tlv) -> Result<Verdict<Vec<Attribute>>, Refusal> 
         at = inner.end;
     }
     // Standard bit 0 is ignored, but a mask with no other bit is still a mask.
-    let mut masks = Masks {
-        standard: run[masks_at..user_at].to_vec(),
-        user: run[user_at..list_at].to_vec(),
-    };
+    let mut masks =
+        Masks { standard: run[masks_at..user_at].to_vec(), user: run[user_at..list_at].to_vec() };
     if let Some(first) = masks.standard.first_mut() {
         *first &= 127;
     }
-    Ok(Verdict::Live(Advertisement {
-        legacy_flag: false,
-        masks,
-        carries: attributes,
-    }))
+    Ok(Verdict::Live(Advertisement { legacy_flag: false, masks, carries: attributes }))
 }
 
 impl Reader {
@@ -151,11 +136,8 @@ impl Reader {
     /// The first value of a kind other than SRLG. The three bandwidths stand at top level, whoever
     /// asks.
     pub fn find(&self, whose: Whose, code: u16) -> Option<Attribute> {
-        let values = if LINK_CODES.contains(&code) {
-            self.top.clone()
-        } else {
-            self.values_for(whose)
-        };
+        let values =
+            if LINK_CODES.contains(&code) { self.top.clone() } else { self.values_for(whose) };
         values.into_iter().find(|one| one.code == code)
     }
 
@@ -198,8 +180,5 @@ pub fn value(run: &[u8], asker: Asker, code: u16) -> Option<(usize, usize)> {
 /// The applications other than RSVP-TE that some 1122 names.
 pub fn named(run: &[u8]) -> Result<Vec<Application>, Refusal> {
     let reader = read_run(run)?;
-    Ok(all_but_rsvp_te()
-        .into_iter()
-        .filter(|one| reader.names(*one))
-        .collect())
+    Ok(all_but_rsvp_te().into_iter().filter(|one| reader.names(*one)).collect())
 }

@@ -22,12 +22,7 @@ pub fn frame(bytes: &[u8], start: usize, holder_end: usize, run: Run) -> Result<
     if end > holder_end {
         return Err(Refusal::at(Fault::ValueCut, run, start));
     }
-    Ok(Element {
-        kind: bytes[start],
-        start,
-        value,
-        end,
-    })
+    Ok(Element { kind: bytes[start], start, value, end })
 }
 
 /// The two bytes in front of the masks.

@@ -11,17 +11,15 @@ pub const ASLA: u16 = 1122;
 pub const EXTENDED_GROUP: u16 = 1173;
 
 /// The fourteen code points, ascending.
-pub const CODES: [u16; 14] = [
-    1088, 1089, 1090, 1091, 1092, 1096, 1114, 1115, 1116, 1117, 1118, 1119, 1120, 1173,
-];
+pub const CODES: [u16; 14] =
+    [1088, 1089, 1090, 1091, 1092, 1096, 1114, 1115, 1116, 1117, 1118, 1119, 1120, 1173];
 
 /// 1089, 1090 and 1091 belong to the link.
 pub const LINK_CODES: [u16; 3] = [1089, 1090, 1091];
 
 /// The other eleven belong to applications.
-pub const APPLICATION_CODES: [u16; 11] = [
-    1088, 1092, 1096, 1114, 1115, 1116, 1117, 1118, 1119, 1120, 1173,
-];
+pub const APPLICATION_CODES: [u16; 11] =
+    [1088, 1092, 1096, 1114, 1115, 1116, 1117, 1118, 1119, 1120, 1173];
 
 /// A known value: its code, and its place in the run.
 #[derive(Clone, Copy, PartialEq, Eq, Debug)]
@@ -95,10 +93,7 @@ pub fn big_endian(bytes: &[u8]) -> u64 {
 
 /// Groups of four bytes as big-endian numbers.
 pub fn numbers_of_four(bytes: &[u8]) -> Vec<u32> {
-    bytes
-        .chunks_exact(4)
-        .map(|four| big_endian(four) as u32)
-        .collect()
+    bytes.chunks_exact(4).map(|four| big_endian(four) as u32).collect()
 }
 
 /// Ascending, repeats dropped.
@@ -115,10 +110,7 @@ pub fn reading(run: &[u8], attribute: &Attribute) -> Reading {
         1088 | 1092 | 1114 | 1116 | 1117 => Reading::Number(big_endian(bytes)),
         1115 => Reading::TwoNumbers(big_endian(&bytes[..4]), big_endian(&bytes[4..])),
         1089 | 1090 | 1118 | 1119 | 1120 => Reading::Bandwidth(big_endian(bytes) as u32),
-        1091 | 1173 => Reading::Place {
-            offset: attribute.offset,
-            length: attribute.length,
-        },
+        1091 | 1173 => Reading::Place { offset: attribute.offset, length: attribute.length },
         other => panic!("{other} is not read from one place"),
     }
 }

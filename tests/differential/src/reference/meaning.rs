@@ -57,10 +57,7 @@ pub fn link_bandwidths(link: &Link, sides: &Sides) -> Set {
 pub fn of_sides(link: &Link, sides: &Sides) -> Meaning {
     let mut named = Vec::new();
     for application in named_on(sides) {
-        named.push((
-            application,
-            link_set(link, sides, Whose::Application(application)),
-        ));
+        named.push((application, link_set(link, sides, Whose::Application(application))));
     }
     Meaning {
         bandwidths: link_bandwidths(link, sides),

@@ -77,11 +77,7 @@ impl Refusal {
 
     /// A refusal by 1, 2, 5, 6 or 7: these always name run A, offset 0.
     pub fn of_request(fault: Fault) -> Refusal {
-        Refusal {
-            fault,
-            run: Run::A,
-            offset: 0,
-        }
+        Refusal { fault, run: Run::A, offset: 0 }
     }
 }
 

@@ -52,11 +52,7 @@ fn read_attribute(element: &Element) -> Result<Option<Attribute>, Refusal> {
     if !isis_length_is_right(code, length) {
         return Err(Refusal::at(Fault::KindLength, Run::A, element.start));
     }
-    Ok(Some(Attribute {
-        code,
-        offset: element.value,
-        length,
-    }))
+    Ok(Some(Attribute { code, offset: element.value, length }))
 }
 
 /// The checks of an ASLA in the order of the paper.

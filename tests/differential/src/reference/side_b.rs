@@ -23,10 +23,7 @@ pub struct SideB {
 
 /// Walks B from its start. C has been measured before.
 pub fn read_b(b: &[u8], c: &[u8]) -> Result<SideB, Refusal> {
-    let mut side = SideB {
-        legacy: numbers_of_four(c),
-        ..SideB::default()
-    };
+    let mut side = SideB { legacy: numbers_of_four(c), ..SideB::default() };
     let mut at = 0;
     while at < b.len() {
         let element = frame(b, at, b.len(), Run::B)?;
@@ -125,9 +122,7 @@ fn read_identifiers(b: &[u8], list_at: usize, list_end: usize) -> Result<Vec<u8>
 
 /// Does one of the five types stand there twice?
 fn some_repeats(types: &[u8]) -> bool {
-    types
-        .iter()
-        .any(|kind| types.iter().filter(|other| *other == kind).count() > 1)
+    types.iter().any(|kind| types.iter().filter(|other| *other == kind).count() > 1)
 }
 
 /// A 4, or both 6 and 8, or both 12 and 13.

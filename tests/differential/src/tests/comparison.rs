@@ -17,19 +17,14 @@ struct Mirror {
 impl Library for Mirror {
     fn call(&self, runs: &[&[u8]], request: &Request, lent: &Lent) -> u64 {
         let subject = match runs {
-            [a, b, c] => Subject::Link(Link {
-                a: a.to_vec(),
-                b: b.to_vec(),
-                c: c.to_vec(),
-            }),
+            [a, b, c] => Subject::Link(Link { a: a.to_vec(), b: b.to_vec(), c: c.to_vec() }),
             _ => Subject::Run(runs[0].to_vec()),
         };
         let mut outcome = expected(&subject, request);
         (self.slip)(request, &mut outcome);
         (self.stray)(request, &outcome, lent);
         unsafe {
-            lent.list
-                .copy_from(outcome.list.as_ptr(), outcome.list.len());
+            lent.list.copy_from(outcome.list.as_ptr(), outcome.list.len());
             lent.out.copy_from(outcome.out.as_ptr(), outcome.out.len());
             lent.reply.copy_from(outcome.reply.as_ptr(), 2);
         }
@@ -37,10 +32,7 @@ impl Library for Mirror {
     }
 }
 
-const RIGHT: Mirror = Mirror {
-    slip: |_, _| {},
-    stray: |_, _, _| {},
-};
+const RIGHT: Mirror = Mirror { slip: |_, _| {}, stray: |_, _, _| {} };
 
 /// So many cases; the first difference.
 fn first_difference(library: &Mirror, cases: u64) -> Option<String> {

@@ -14,9 +14,7 @@ use crate::reference::reply::{Answer, Reading, Refusal, Run};
 
 /// Bytes of text such as `12 03 00`.
 pub fn bytes(text: &str) -> Vec<u8> {
-    text.split_whitespace()
-        .map(|pair| u8::from_str_radix(pair, 16).unwrap())
-        .collect()
+    text.split_whitespace().map(|pair| u8::from_str_radix(pair, 16).unwrap()).collect()
 }
 
 pub const M: &str = "12 03 00 00 0A ";
@@ -30,19 +28,12 @@ pub const LFA: Asker = Asker::Standard(2);
 
 /// A link with A alone.
 pub fn link_a(parts: &[&str]) -> Link {
-    Link {
-        a: bytes(&parts.concat()),
-        ..Link::default()
-    }
+    Link { a: bytes(&parts.concat()), ..Link::default() }
 }
 
 /// A link of three runs.
 pub fn link(a: &str, b: &str, c: &str) -> Link {
-    Link {
-        a: bytes(a),
-        b: bytes(b),
-        c: bytes(c),
-    }
+    Link { a: bytes(a), b: bytes(b), c: bytes(c) }
 }
 
 /// The TE metric that a link answers.

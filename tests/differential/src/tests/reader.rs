@@ -1,8 +1,8 @@
 //! The reader of BGP-LS runs, and that an export means what its link means.
 
 use super::*;
+use crate::dense::dense_link;
 use crate::generator::{link as some_link, Scene};
-use crate::limits::dense_link;
 use crate::random::Random;
 use crate::reference::application::Application;
 use crate::reference::bgp_ls::{ask as ask_run, named, value};
@@ -49,10 +49,7 @@ fn srlgs_of_a_run() {
     assert_eq!(ask_run(&run, RSVP_TE, 1096, 0), Ok(Answer::Absent));
     let found = Ok(Answer::Found(Reading::Srlgs(vec![1, 9])));
     assert_eq!(ask_run(&run, Asker::User(0), 1096, 2), found);
-    assert_eq!(
-        told(ask_run(&run, Asker::User(0), 1096, 1).unwrap_err()),
-        (5, Run::A, 0)
-    );
+    assert_eq!(told(ask_run(&run, Asker::User(0), 1096, 1).unwrap_err()), (5, Run::A, 0));
 }
 
 #[test]
@@ -60,38 +57,23 @@ fn refusals() {
     let refused = |text: &str| told(ask_run(&bytes(text), SR_POLICY, 1092, 0).unwrap_err());
     let fine = |text: &str| assert!(ask_run(&bytes(text), SR_POLICY, 1092, 0).is_ok(), "{text}");
     assert_eq!(refused(&[TOP, "04 44 00"].concat()), (3, Run::BgpLs, 8));
-    assert_eq!(
-        refused(&[TOP, "04 44 00 05 00 00 00 00"].concat()),
-        (3, Run::BgpLs, 8)
-    );
+    assert_eq!(refused(&[TOP, "04 44 00 05 00 00 00 00"].concat()), (3, Run::BgpLs, 8));
     assert_eq!(refused("04 44 00 03 00 00 00"), (4, Run::BgpLs, 0));
     assert_eq!(refused("04 95 00 00"), (4, Run::BgpLs, 0));
     assert_eq!(refused("04 48 00 02 00 00"), (4, Run::BgpLs, 0));
     assert_eq!(refused("04 62 00 03 05 00 00"), (3, Run::BgpLs, 0));
     fine("04 62 00 04 05 00 00 00");
     fine("04 62 00 05 84 00 00 00 00");
-    assert_eq!(
-        refused("04 62 00 07 04 00 00 00 00 00 00"),
-        (3, Run::BgpLs, 0)
-    );
+    assert_eq!(refused("04 62 00 07 04 00 00 00 00 00 00"), (3, Run::BgpLs, 0));
     assert_eq!(refused("04 62 00 06 00 00 00 00 04 44"), (3, Run::BgpLs, 8));
-    assert_eq!(
-        refused("04 62 00 0A 00 00 00 00 04 44 00 02 00 00"),
-        (4, Run::BgpLs, 8)
-    );
+    assert_eq!(refused("04 62 00 0A 00 00 00 00 04 44 00 02 00 00"), (4, Run::BgpLs, 8));
     // Skipped in a 1122, whatever their lengths.
     for code in ["41", "42", "43", "62"] {
         fine(&format!("04 62 00 09 00 00 00 00 04 {code} 00 01 00"));
     }
     assert_eq!(refused("04 41 00 01 00"), (4, Run::BgpLs, 0));
-    assert_eq!(
-        told(ask_run(&[0], Asker::User(64), 0, 0).unwrap_err()),
-        (6, Run::A, 0)
-    );
-    assert_eq!(
-        told(ask_run(&[0], Asker::User(63), 0, 0).unwrap_err()),
-        (7, Run::A, 0)
-    );
+    assert_eq!(told(ask_run(&[0], Asker::User(64), 0, 0).unwrap_err()), (6, Run::A, 0));
+    assert_eq!(told(ask_run(&[0], Asker::User(63), 0, 0).unwrap_err()), (7, Run::A, 0));
 }
 
 #[test]

@@ -21,10 +21,7 @@ fn maximum_link_bandwidth() {
     let legacy = "09 04 00 00 00 04 ";
     assert_eq!(bandwidth(&link_a(&[general, neither]), 1089), Some(1));
     assert_eq!(bandwidth(&link_a(&[neither, general]), 1089), Some(2));
-    assert_eq!(
-        bandwidth(&link_a(&[flagged, neither, general]), 1089),
-        Some(2)
-    );
+    assert_eq!(bandwidth(&link_a(&[flagged, neither, general]), 1089), Some(2));
     assert_eq!(bandwidth(&link_a(&[flagged]), 1089), None);
     assert_eq!(bandwidth(&link_a(&[general, legacy]), 1089), Some(4));
 }
@@ -37,10 +34,7 @@ fn maximum_reservable_bandwidth() {
     let legacy = "0A 04 00 00 00 04 ";
     let flagged = "10 03 81 00 80 ";
     assert_eq!(bandwidth(&link_a(&[shared, user]), 1090), None);
-    assert_eq!(
-        bandwidth(&link_a(&[legacy, shared, user, alone]), 1090),
-        Some(1)
-    );
+    assert_eq!(bandwidth(&link_a(&[legacy, shared, user, alone]), 1090), Some(1));
     assert_eq!(bandwidth(&link_a(&[shared, legacy]), 1090), Some(4));
     assert_eq!(bandwidth(&link_a(&[alone, legacy, flagged]), 1090), Some(4));
     assert_eq!(bandwidth(&link_a(&[alone, flagged]), 1090), None);
