@@ -435,7 +435,7 @@ static struct run read_file(const char *name, const char *ending, uint8_t *room,
     FILE *f;
     size_t n = 0;
     if (strlen(folder) + strlen(name) + strlen(ending) + 3 > sizeof path) {
-        CHECK(!"the folder's name is not too long");
+        check(0, "the folder's name is too long", __LINE__);
         return run_of(room, 0);
     }
     strcpy(path, folder);

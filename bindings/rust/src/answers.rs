@@ -316,8 +316,8 @@ impl Iterator for Iter {
 
 impl ExactSizeIterator for Iter {}
 
-/// The two numbers of a reply, read by its status. The definitions that the library is proved
-/// equal to know no other status than those that are read here.
+/// The two numbers of a reply, read by its status. It is proved of the library that it gives no
+/// other status, and names no other run, than those that are read here.
 pub(crate) struct Reply([u64; 2]);
 
 impl Reply {
