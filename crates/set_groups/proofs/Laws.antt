@@ -18,11 +18,11 @@ use Rattle.masks.proofs.Laws.{is-number}
 use Rattle.srlg.specs.Ascending.{ascending}
 use Rattle.srlg_ranks.specs.Ranks.{picked, Within}
 use Rattle.srlg_ranks.proofs.Bits.{with-in}
-use Rattle.set_bytes.specs.Sets.{setOf}
+use Rattle.set_bytes.specs.Sets.{setOf, Fits}
 use Rattle.set_marks.specs.Marks.{markOf}
 use Rattle.set_marks.proofs.Equal.{marks-same}
 use Rattle.set_groups.specs.Groups.{Group, group, added, join}
-use Rattle.set_groups.specs.Table.{Entry, Sound, entryGroup, tableGroups, withMember, Finds}
+use Rattle.set_groups.specs.Table.{Entry, Sound, entryGroup, tableGroups, withMember, Finds, Joined}
 
 -- ---- a member more
 
@@ -213,3 +213,27 @@ module _ (a values : List ℕ) where
           (λ j x y. ap (λ (v : Row). sameRows v vs) (entry-values (getD grids j []) (getD bits j []) (getD heads j [])) ∙ found .before j (omega arith))
           (λ j x. earlier (λ p q r. entryGroup a values p q r ≡ at j) j (omega arith) refl)
           (rw zero-add (last (λ p q r. entryGroup a values p q r ≡ added n (group vs 0 0)) new))
+
+-- ---- what joining answers
+
+module _ (a values : List ℕ) (n : ℕ) (count : ℕ) (grids : List (List (List ℕ))) (bits heads : List (List ℕ)) (ok : Sound a values count grids bits heads) where
+  pub joined-there : (vs : List (List ℕ)) (r : ℕ) (h : List ℕ) → r < count → Finds a values vs count grids bits r → h ≡ withMember (getD heads r []) n → Joined a values n vs count grids bits heads count grids bits (set heads r h)
+  joined-there vs r h l found e =
+      rw e (record { sound = member-sound a values count grids bits heads ok n r l; more = omega arith; groups = member-groups a values count grids bits heads ok n r l vs found })
+
+  module _ (g : List (List ℕ)) (w h : List ℕ) (roomG : count < length grids) (roomB : count < length bits) (roomH : count < length heads) where
+    pub joined-new : (r k mark : ℕ) → count ≤ r → Finds a values (row (setOf a g (picked values w))) count grids bits r → h ≡ withMember (0 ∷ 0 ∷ k ∷ mark ∷ []) n → Fits a g → Within values w → k ≡ length (picked values w)
+        → length (picked values w) ≤ 512 → mark ≡ markOf a values g w
+        → Joined a values n (row (setOf a g (picked values w))) count grids bits heads (count + 1) (set grids count g) (set bits count w) (set heads count h)
+    joined-new r k mark l found e fits within counted few marked =
+        let most = found .most in
+        let q : r ≡ count = omega arith in
+        record {
+          sound = more-sound a values count grids bits heads ok n g w h roomG roomB roomH (entry-is e);
+          more = omega arith;
+          groups = more-groups a values count grids bits heads ok n g w h roomG roomB roomH (ap (entryGroup a values g w) e ∙ entry-new a values g w k mark n) (rw q at found);
+        }
+      where
+        entry-is : h ≡ withMember (0 ∷ 0 ∷ k ∷ mark ∷ []) n → Entry a values g w h
+        entry-is e =
+            rw e (entry-kept a values g w (0 ∷ 0 ∷ k ∷ mark ∷ []) n (record { fits = fits; within = within; counted = sym counted; few = omega arith; marked = marked }))
