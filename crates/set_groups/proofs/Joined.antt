@@ -210,7 +210,7 @@ module _ (n : ℕ) (vs : List (List ℕ)) (f : ℕ → Group) (p : ℕ → Bool)
       go false x true y r = absurd (false≢true (sym x ∙ ap p (sym (eqb-true l from y)) ∙ e))
       go false x false y r = let d = eqb-false l from y in r (omega arith)
 
-numbers-last : (n from : ℕ) → numbers from (suc n) ≡ numbers from n ++ ((from + n) ∷ [])
+pub numbers-last : (n from : ℕ) → numbers from (suc n) ≡ numbers from n ++ ((from + n) ∷ [])
 unfolding numbers
 numbers-last zero from = rw (add-zero from)
 numbers-last (suc n) from = let e : from + suc n ≡ suc from + n = omega arith in rw (e, sym (numbers-last n (suc from)))
