@@ -8,7 +8,7 @@ use Rattle.set_bytes.specs.Sets.{setOf, Short}
 use Rattle.asla_bytes.specs.Applications.{inNumbers}
 use Rattle.srlg_ranks.specs.Ranks.{picked}
 use Rattle.set_groups.specs.Groups.{groupTlv}
-use Rattle.set_groups.specs.Table.{entryGroup, tableGroups}
+use Rattle.set_groups.specs.Table.{Sound, entryGroup, tableGroups}
 
 -- The ASLA TLV of a set whose SRLGs are the first k numbers of a list.
 unfoldable pub listedBytes : List ℕ → List (List ℕ) → List ℕ → ℕ → ℕ → ℕ → List ℕ
@@ -33,3 +33,10 @@ pub record Measurable (count : ℕ) (grids : List (List (List ℕ))) (heads : Li
 -- A list of k numbers holds the SRLGs of any one entry.
 abbrev pub Holds : List ℕ → ℕ → List (List ℕ) → ℕ → Type 0
 Holds values count bits k = (i : ℕ) → i < count → length (picked values (getD bits i [])) ≤ k
+
+-- A table that can be read and written, with so long a scratch.
+pub record Readable (a values : List ℕ) (count : ℕ) (grids : List (List (List ℕ))) (bits heads : List (List ℕ)) (scratch : ℕ) : Type 0 where
+  pub valued : length values ≤ 768
+  pub most : count ≤ 127
+  pub sound : Sound a values count grids bits heads
+  pub holds : Holds values count bits scratch

@@ -15,7 +15,7 @@ use Rattle.rivals.proofs.ListLaws.{and-l, and-r, keep-append, keep-mem, map-app
 use Rattle.rivals.proofs.Groups.{leader-row}
 use Rattle.masks.proofs.Laws.{in-number, number-same, number-of}
 use Rattle.masks.proofs.Steps.{zero-none}
-use Rattle.set_groups.specs.Groups.{Group, group, added, join}
+use Rattle.set_groups.specs.Groups.{Group, group, added, join, groupBelow, groupsBelow}
 
 -- ---- the first number that passes a test
 
@@ -136,12 +136,6 @@ module _ (t : ℕ → ℕ) (g : ℕ → Bool) (n : ℕ) where
   number-none e = number-same before (inNumber 0) (λ k h. e (t k) ∙ sym (zero-none k)) ∙ number-of 0 (omega arith)
 
 -- ---- the groups of the applications below a number
-
-unfoldable pub groupBelow : Meaning → ℕ → ℕ → Group
-groupBelow m k l = group (row (m .set l)) (asNumber (λ i. ltb i k && inGroup m l i)) (asNumber (λ i. ltb (user i) k && inGroup m l (user i)))
-
-unfoldable pub groupsBelow : Meaning → ℕ → List Group
-groupsBelow m k = map (groupBelow m k) (keep (λ a. inGroup m a a) (numbers 1 (k - 1)))
 
 module _ (m : Meaning) where
   pub values-below : (k l : ℕ) → groupBelow m k l .values ≡ row (m .set l)

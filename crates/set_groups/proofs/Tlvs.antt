@@ -14,8 +14,7 @@ use Rattle.linkstate.specs.Export.{Tlv, tlv, bytesOf, present, aslaValue, inGro
 use Rattle.masks.proofs.Laws.{in-number, size-same, mask-same}
 use Rattle.kinds.proofs.Computing.{computing}
 use Rattle.asla_bytes.specs.Applications.{inNumbers}
-use Rattle.set_groups.specs.Groups.{Group, group, valueIn, groupTlv}
-use Rattle.set_groups.proofs.Joined.{groupBelow, groupsBelow}
+use Rattle.set_groups.specs.Groups.{Group, group, valueIn, groupTlv, groupBelow, groupsBelow}
 
 -- ---- an ASLA depends on the 128 applications and the eleven kinds only
 

@@ -1,13 +1,14 @@
 -- Groups of applications with equal sets, and an application that joins them (rules L3, L7).
-use mathlib.Core.Bool.{Bool, cond, _||_}
-use mathlib.Core.List.{List, [], _∷_}
-use Prim.Native.Nat.{ℕ}
-use lib.Dec.{eqb}
+use mathlib.Core.Bool.{cond, _&&_, _||_}
+use mathlib.Core.List.{List, [], _∷_, map}
+use Prim.Native.Nat.{ℕ, _-_}
+use lib.Dec.{eqb, ltb}
 use lib.ListN.{getD}
-use Rattle.linkstate.specs.Lists.{sameRows}
+use Rattle.linkstate.specs.Lists.{numbers, keep, sameRows}
 use Rattle.linkstate.specs.Masks.{user, asNumber, inNumber}
 use Rattle.linkstate.specs.Kinds.{applicationCodes}
-use Rattle.linkstate.specs.Export.{tlv, bytesOf, aslaValue}
+use Rattle.linkstate.specs.Meaning.{Meaning, row}
+use Rattle.linkstate.specs.Export.{tlv, bytesOf, aslaValue, inGroup}
 use Rattle.kinds.specs.Rules.{rowIn}
 use Rattle.asla_bytes.specs.Applications.{inNumbers}
 
@@ -36,3 +37,10 @@ valueIn vs c = getD vs (rowIn applicationCodes c) []
 -- L3. The ASLA TLV of a group.
 unfoldable pub groupTlv : Group → List ℕ
 groupTlv g = bytesOf (tlv 1122 (aslaValue (inNumbers (g .standard) (g .users)) (valueIn (g .values))))
+
+-- L3, L7. The group that l leads, of its members below k, and the groups of all leaders below k.
+unfoldable pub groupBelow : Meaning → ℕ → ℕ → Group
+groupBelow m k l = group (row (m .set l)) (asNumber (λ i. ltb i k && inGroup m l i)) (asNumber (λ i. ltb (user i) k && inGroup m l (user i)))
+
+unfoldable pub groupsBelow : Meaning → ℕ → List Group
+groupsBelow m k = map (groupBelow m k) (keep (λ a. inGroup m a a) (numbers 1 (k - 1)))
