@@ -11,7 +11,7 @@ ghost use Rattle.linkstate.specs.Sides.{names, applicationSet, generalSet, ofLi
 ghost use Rattle.isis.specs.RunA.{checkA, sideA};
 ghost use Rattle.isis_grids.specs.Grid.{gridOf};
 ghost use Rattle.isis_grids.specs.Selected.{Headed};
-ghost use Rattle.isis_asla_index.specs.Index.{attributesAt, together, Lists, Room, Indexed, Reads};
+ghost use Rattle.isis_asla_index.specs.Index.{attributesAt, together, setBy, Lists, Room, Indexed, Reads};
 use isis_sets::Masks;
 
 // What is read of an ASLA: its L-flag, the applications that it names as two numbers, and where the list of its entry begins, past the end where it gets none.
@@ -138,4 +138,81 @@ fn having(a: &[u8], lists: &[[u16; 2]], words: &[u64], count: usize, n: u32) -> 
         }
     }
     g
+}
+
+// The grid of the live ASLAs that name an application.
+pub fn named_grid(
+    a: &[u8],
+    lists: &[[u16; 2]],
+    standard: &[u64],
+    user: &[u64],
+    index: Index,
+    n: u32,
+) -> [[usize; 2]; 10]
+    requires { ⌜ Indexed (now a) (now lists) (now standard) (now user) index × (n < 128) ⌝ }
+    ensures { λ r. ⌜ r ≡ gridOf (ofLive (names n) (sideA (now (a .entry)))) ⌝ }
+{
+    if n < 64 {
+        return having(a, lists, standard, index.count, n);
+    }
+    having(a, lists, user, index.count, n - 64)
+}
+
+// Legacy where the bit is among the flagged, of the entries that have it where it is among the named, else the general set.
+fn set_by(
+    a: &[u8],
+    lists: &[[u16; 2]],
+    words: &[u64],
+    count: usize,
+    named: u64,
+    flagged: u64,
+    legacy: &[[usize; 2]; 10],
+    general: &[[usize; 2]; 10],
+    n: u32,
+) -> [[usize; 2]; 10]
+    requires { ⌜ Lists (now a) (now lists) count × (count ≤ length (now words)) × (n < 64) ⌝ }
+    ensures { λ r. ⌜ r ≡ setBy (now (a .entry)) (now (lists .entry)) (now (words .entry)) count named flagged (now (legacy .entry)) (now (general .entry)) n ⌝ }
+{
+    if masks::has(flagged, n) {
+        let g = *legacy;
+        return g;
+    }
+    if masks::has(named, n) {
+        return having(a, lists, words, count, n);
+    }
+    let g = *general;
+    g
+}
+
+// The set of an application other than RSVP-TE, from the index and the grids of legacy and of the general set.
+pub fn set_grid(
+    a: &[u8],
+    lists: &[[u16; 2]],
+    standard: &[u64],
+    user: &[u64],
+    index: Index,
+    legacy: &[[usize; 2]; 10],
+    general: &[[usize; 2]; 10],
+    n: u32,
+) -> [[usize; 2]; 10]
+    requires { ⌜ Indexed (now a) (now lists) (now standard) (now user) index × (now legacy ≡ gridOf ((sideA (now a)) .legacy)) × (now general ≡ gridOf (generalSet (sideA (now a)))) × (n < 128) ⌝ }
+    ensures { λ r. ⌜ r ≡ gridOf (applicationSet n (sideA (now (a .entry)))) ⌝ }
+{
+    let count = index.count;
+    let named = index.named;
+    let flagged = index.flagged;
+    if n < 64 {
+        return set_by(
+            a,
+            lists,
+            standard,
+            count,
+            named.standard,
+            flagged.standard,
+            legacy,
+            general,
+            n,
+        );
+    }
+    set_by(a, lists, user, count, named.user, flagged.user, legacy, general, n - 64)
 }
