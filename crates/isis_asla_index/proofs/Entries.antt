@@ -39,17 +39,21 @@ placed-together p f h (suc k) = all-append Placed (together p f k) (cond (p k) (
 
 -- ---- a grid that is filled from entries
 
-module _ (p : ℕ → Bool) (a : List ℕ) (lists : List (List ℕ)) (j : ℕ) (g : List (List ℕ)) (was : g ≡ gridOf (together p (attributesAt a lists) j)) where
+module _ (p : ℕ → Bool) (a : List ℕ) (lists : List (List ℕ)) where
   placed-at : (k : ℕ) → All Placed (attributesAt a lists k)
   unfolding attributesAt
   placed-at k = placed-each (elements 1 (getD (getD lists k []) 0 0) (listOf a (getD lists k [])))
 
+  pub placed-entries : (k : ℕ) → All Placed (together p (attributesAt a lists) k)
+  placed-entries = placed-together p (attributesAt a lists) placed-at
+
+module _ (p : ℕ → Bool) (a : List ℕ) (lists : List (List ℕ)) (j : ℕ) (g : List (List ℕ)) (was : g ≡ gridOf (together p (attributesAt a lists) j)) where
   pub grid-more : (h : List (List ℕ)) → p j ≡ true → h ≡ filled g (each attributesOf (elements 1 (getD (getD lists j []) 0 0) (listOf a (getD lists j [])))) → h ≡ gridOf (together p (attributesAt a lists) (j + 1))
   unfolding together attributesAt
   grid-more h e f =
       rw (add-one j, e)
       (f ∙ ap (λ (x : List (List ℕ)). filled x (attributesAt a lists j)) was
-      ∙ filled-grid (together p (attributesAt a lists) j) (attributesAt a lists j) (placed-together p (attributesAt a lists) placed-at j) (placed-at j))
+      ∙ filled-grid (together p (attributesAt a lists) j) (attributesAt a lists j) (placed-entries p a lists j) (placed-at p a lists j))
 
   pub grid-same : p j ≡ false → g ≡ gridOf (together p (attributesAt a lists) (j + 1))
   unfolding together

@@ -1,4 +1,3 @@
 pub mod Entries
 pub mod Reading
 pub mod Walking
-pub mod Sets

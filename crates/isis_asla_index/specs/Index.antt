@@ -6,7 +6,6 @@ use Prim.Native.Nat.{ℕ, zero, suc, _-_, _*_, _≤_, _<_}
 use lib.Dec.{eqb}
 use lib.ListN.{length, take, drop, getD}
 use Rattle.linkstate.specs.Lists.{any, each}
-use Rattle.linkstate.specs.Masks.{inNumber}
 use Rattle.linkstate.specs.Replies.{accepted, runA}
 use Rattle.linkstate.specs.Elements.{element, elements, faults}
 use Rattle.linkstate.specs.Attributes.{Attribute}
@@ -16,7 +15,7 @@ use Rattle.isis.specs.RunA.{attributesOf, aslaAdvertisements, sideA}
 use Rattle.asla_bytes.specs.Applications.{inNumbers}
 use Rattle.isis_grids.specs.declared.Which.{Which}
 use Rattle.isis_grids.specs.declared.Which.the-variants.{Naming, General, RsvpTeAlone, WithoutL}
-use Rattle.isis_grids.specs.Grid.{gridOf, unchecked}
+use Rattle.isis_grids.specs.Grid.{unchecked}
 use Rattle.isis_grids.specs.Selected.{selects, listFrom}
 use Rattle.isis_sets.specs.declared.Masks.{Masks}
 use Rattle.isis_sets.specs.Sets.{Holds}
@@ -81,12 +80,6 @@ pub record Indexed (a : List ℕ) (lists : List (List ℕ)) (standard user : Lis
   pub answers : (w : Which) → Asked w → ofEntries w a lists standard user (index .count) ≡ ofLive (selects w) (sideA a)
   pub named : Holds (λ n. named n (sideA a)) (index .named)
   pub flags : Holds (λ n. namedWithL n (sideA a)) (index .flagged)
-
--- W2, W3, W4. The set of the application of bit n by the words of its kind: legacy if its bit is among the flagged, else of the entries that have it if it
--- is among the named, else the general set.
-unfoldable pub setBy : List ℕ → List (List ℕ) → List ℕ → ℕ → ℕ → ℕ → List (List ℕ) → List (List ℕ) → ℕ → List (List ℕ)
-setBy a lists words count names flags legacy general n =
-    cond (inNumber flags n) legacy (cond (inNumber names n) (gridOf (together (λ j. inNumber (getD words j 0) n) (attributesAt a lists) count)) general)
 
 -- What is read of the ASLA with the value v: the L-flag, the applications that it names, and where the list of its entry begins, past the end where it gets none.
 pub record Reads (v : List ℕ) (r : Asla) : Type 0 where

@@ -1,4 +1,4 @@
-// An index of run A's ASLA sub-TLVs, written in one walk, and the sets of applications taken from it (document 01, "Who gets what").
+// An index of run A's ASLA sub-TLVs, written in one walk, and the grid of the entries that name an application (document 01, "Who gets what").
 ghost use mathlib.Core.Path.{_≡_};
 ghost use mathlib.Core.Bool.{cond, _&&_, _||_};
 ghost use Prim.Native.Nat.{_+_, _<_, _≤_};
@@ -7,11 +7,10 @@ ghost use lib.ListN.{length, getD};
 ghost use Rattle.linkstate.specs.Replies.{accepted, runA};
 ghost use Rattle.linkstate.specs.Elements.{elements, faults};
 ghost use Rattle.linkstate.specs.Masks.{inNumber};
-ghost use Rattle.linkstate.specs.Sides.{names, applicationSet, generalSet, ofLive};
-ghost use Rattle.isis.specs.RunA.{checkA, sideA};
+ghost use Rattle.isis.specs.RunA.{checkA};
 ghost use Rattle.isis_grids.specs.Grid.{gridOf};
 ghost use Rattle.isis_grids.specs.Selected.{Headed};
-ghost use Rattle.isis_asla_index.specs.Index.{attributesAt, together, setBy, Lists, Room, Indexed, Reads};
+ghost use Rattle.isis_asla_index.specs.Index.{attributesAt, together, Lists, Room, Indexed, Reads};
 use isis_sets::Masks;
 
 // What is read of an ASLA: its L-flag, the applications that it names as two numbers, and where the list of its entry begins, past the end where it gets none.
@@ -74,7 +73,8 @@ fn where_l(l: bool, m: u64) -> u64
     if l { m } else { 0 }
 }
 
-// Entry j: the attribute list of an ASLA from its first place in run A to its second, and the applications that the ASLA names, n as 2 to the n.
+// The index of run A, at the front of the three lists. Entry j: the attribute list of an ASLA, from its first place in run A to its second, and the applications
+// that the ASLA names, n as 2 to the n. An entry for each six bytes of the run is room enough.
 pub fn index_aslas(
     a: &[u8],
     lists: &mut [[u16; 2]],
@@ -124,7 +124,13 @@ pub fn index_aslas(
 }
 
 // The grid of the entries whose word has bit n.
-fn having(a: &[u8], lists: &[[u16; 2]], words: &[u64], count: usize, n: u32) -> [[usize; 2]; 10]
+pub fn grid_having(
+    a: &[u8],
+    lists: &[[u16; 2]],
+    words: &[u64],
+    count: usize,
+    n: u32,
+) -> [[usize; 2]; 10]
     requires { ⌜ Lists (now a) (now lists) count × (count ≤ length (now words)) × (n < 64) ⌝ }
     ensures { λ r. ⌜ r ≡ gridOf (together (λ j. inNumber (getD (now (words .entry)) j 0) n) (attributesAt (now (a .entry)) (now (lists .entry))) count) ⌝ }
 {
@@ -138,81 +144,4 @@ fn having(a: &[u8], lists: &[[u16; 2]], words: &[u64], count: usize, n: u32) -> 
         }
     }
     g
-}
-
-// The grid of the live ASLAs that name an application.
-pub fn named_grid(
-    a: &[u8],
-    lists: &[[u16; 2]],
-    standard: &[u64],
-    user: &[u64],
-    index: Index,
-    n: u32,
-) -> [[usize; 2]; 10]
-    requires { ⌜ Indexed (now a) (now lists) (now standard) (now user) index × (n < 128) ⌝ }
-    ensures { λ r. ⌜ r ≡ gridOf (ofLive (names n) (sideA (now (a .entry)))) ⌝ }
-{
-    if n < 64 {
-        return having(a, lists, standard, index.count, n);
-    }
-    having(a, lists, user, index.count, n - 64)
-}
-
-// Legacy where the bit is among the flagged, of the entries that have it where it is among the named, else the general set.
-fn set_by(
-    a: &[u8],
-    lists: &[[u16; 2]],
-    words: &[u64],
-    count: usize,
-    named: u64,
-    flagged: u64,
-    legacy: &[[usize; 2]; 10],
-    general: &[[usize; 2]; 10],
-    n: u32,
-) -> [[usize; 2]; 10]
-    requires { ⌜ Lists (now a) (now lists) count × (count ≤ length (now words)) × (n < 64) ⌝ }
-    ensures { λ r. ⌜ r ≡ setBy (now (a .entry)) (now (lists .entry)) (now (words .entry)) count named flagged (now (legacy .entry)) (now (general .entry)) n ⌝ }
-{
-    if masks::has(flagged, n) {
-        let g = *legacy;
-        return g;
-    }
-    if masks::has(named, n) {
-        return having(a, lists, words, count, n);
-    }
-    let g = *general;
-    g
-}
-
-// The set of an application other than RSVP-TE, from the index and the grids of legacy and of the general set.
-pub fn set_grid(
-    a: &[u8],
-    lists: &[[u16; 2]],
-    standard: &[u64],
-    user: &[u64],
-    index: Index,
-    legacy: &[[usize; 2]; 10],
-    general: &[[usize; 2]; 10],
-    n: u32,
-) -> [[usize; 2]; 10]
-    requires { ⌜ Indexed (now a) (now lists) (now standard) (now user) index × (now legacy ≡ gridOf ((sideA (now a)) .legacy)) × (now general ≡ gridOf (generalSet (sideA (now a)))) × (n < 128) ⌝ }
-    ensures { λ r. ⌜ r ≡ gridOf (applicationSet n (sideA (now (a .entry)))) ⌝ }
-{
-    let count = index.count;
-    let named = index.named;
-    let flagged = index.flagged;
-    if n < 64 {
-        return set_by(
-            a,
-            lists,
-            standard,
-            count,
-            named.standard,
-            flagged.standard,
-            legacy,
-            general,
-            n,
-        );
-    }
-    set_by(a, lists, user, count, named.user, flagged.user, legacy, general, n - 64)
 }

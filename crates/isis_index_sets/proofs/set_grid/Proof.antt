@@ -1,9 +1,9 @@
 -- The words of the application's kind.
-use Rattle.isis_asla_index.proofs.Sets.{standard-set, user-set}
+use Rattle.isis_index_sets.proofs.Sets.{standard-set, user-set}
 use denote.Ref.{now}
 use borrow.Author.Needs.{needs}
-use Rattle.isis_asla_index.proofs.set_grid.Statement.{statement}
-use Rattle.isis_asla_index.proofs.set_grid.Tie as tie
+use Rattle.isis_index_sets.proofs.set_grid.Statement.{statement}
+use Rattle.isis_index_sets.proofs.set_grid.Tie as tie
 
 set-by-requires : tie.Need-set-by-requires
 set-by-requires c κs = search needs

@@ -14,8 +14,8 @@ use mathlib.Core.List.{[]}
 use mathlib.Core.Logic.{⊎-elim}
 use Prim.Native.Nat.{ℕ, _+_, _≤_, _-_}
 use borrow.Author.Needs.{needs}
-use Rattle.isis_asla_index.proofs.having.Statement.{statement}
-use Rattle.isis_asla_index.proofs.having.Tie as tie
+use Rattle.isis_asla_index.proofs.grid_having.Statement.{statement}
+use Rattle.isis_asla_index.proofs.grid_having.Tie as tie
 
 abbrev Inv-loop : tie.InvT-loop
 Inv-loop a lists words count n g₀ j₀ g j = (j ≤ count) × (g ≡ gridOf (together (λ i. inNumber (getD words i 0) n) (attributesAt a lists) j))
@@ -87,7 +87,7 @@ loop-again c = let l = c .before .before .before .loop in
     let p : ℕ → Bool = λ (i : ℕ). inNumber (getD (now (x .words)) i 0) (x .n) in (
       omega arith,
       ⊎-elim (λ w. w .5 ∙ grid-more p (now (x .a)) (now (x .lists)) (l .j) (l .g) (l .inv .1) (w .4 .result) (eq-eqb _ _ (w .0 .taken)) (w .4 .ensures))
-      (λ w. w .1 ∙ grid-same p (now (x .a)) (now (x .lists)) (l .j) (l .g) (l .inv .1) (ne-eqb _ _ (w .0 .left))) (c .if1 .came),
+          (λ w. w .1 ∙ grid-same p (now (x .a)) (now (x .lists)) (l .j) (l .g) (l .inv .1) (ne-eqb _ _ (w .0 .left))) (c .if1 .came),
     )
 
 returns : tie.Need-returns Inv-loop μ-loop
@@ -96,8 +96,8 @@ returns c = let l = c .before .loop in
     let e : l .j ≡ x .count = omega arith in
     l .inv .1 ∙ ap (λ (k : ℕ). gridOf (together (λ i. inNumber (getD (now (x .words)) i 0) (x .n)) (attributesAt (now (x .a)) (now (x .lists))) k)) e
 
-pub having-spec : {M : Type 1} → statement M
-having-spec =
+pub grid-having-spec : {M : Type 1} → statement M
+grid-having-spec =
     tie.close
     (tie.spec
     Inv-loop
