@@ -150,7 +150,7 @@ module _ (b : List ℕ) (at : ℕ) (g : Gathered) (before after : List ℕ) (so 
 
 -- ---- all numbers, sorted
 
-legacy-short : (s u : ℕ) (c : List ℕ) → length (legacyUsed s u c) ≤ length c
+pub legacy-short : (s u : ℕ) (c : List ℕ) → length (legacyUsed s u c) ≤ length c
 unfolding legacyUsed
 legacy-short s u c = go (ltb s 2 && eqb u 0)
   where

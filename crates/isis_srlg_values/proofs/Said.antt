@@ -39,6 +39,10 @@ pub values-read : (v : List ℕ) (k i : ℕ) → lFlag v ≡ false → k ≡ hea
 unfolding srlgValues
 values-read v k i l e f = rw (l, e, f)
 
+pub head-two : (v : List ℕ) → 2 ≤ headerLength v
+unfolding headerLength
+head-two v = omega arith
+
 -- ---- a TLV that says nothing
 
 pub says-nothing : (e : Element) (value : List ℕ) (r : Tlv) → srlgAdvertisements e ≡ [] → r ≡ noTlv (length value) → Says e value r
@@ -51,6 +55,7 @@ says-nothing e value r none is =
       naming = λ n. rw none tlv.words-none;
       generals = rw none tlv.words-none;
       within = omega arith;
+      head = λ h. absurd (omega arith);
     }
 
 pub dead-none : (at t : ℕ) (value v : List ℕ) (l : Bool) → t ≡ 238 → v ≡ afterNeighbour value → l ≡ liveSrlg at v → l ≡ false → srlgAdvertisements (element at t value) ≡ []
@@ -123,9 +128,9 @@ module _ (at t : ℕ) (value v : List ℕ) (is : t ≡ 238) (e : v ≡ afterNeig
           high = λ n h. tlv.user-joined at t value v is e l f 0 (asNumber (bit u)) (asNumber (bit u)) n h (rw (zero-none n)) live u eu refl ∙ rw (zero-none n);
         }
 
-    pub says-live : (r : Tlv) (k : ℕ) → headerLength v ≤ length v → 7 ≤ length value → words (drop k v) ≡ read → k ≤ length v
+    pub says-live : (r : Tlv) (k : ℕ) → headerLength v ≤ length v → 7 ≤ length value → words (drop k v) ≡ read → k ≤ length v → (k < length v → 3 ≤ k)
         → r .l ≡ lFlag v → r .general ≡ (eqb (sabmLength v) 0 && eqb (udabmLength v) 0) → r .standard ≡ asNumber (bit s) → r .user ≡ asNumber (bit u) → r .start ≡ 7 + k → Says here value r
-    says-live r k h seven ws kl el eg est eus est′ =
+    says-live r k h seven ws kl kh el eg est eus est′ =
         let w : words (drop (r .start) value) ≡ read = ap (λ (i : ℕ). words (drop i value)) est′ ∙ ap words (sym (drop-drop k 7 value)) ∙ ap (λ (x : List ℕ). words (drop k x)) (sym (e ∙ after-drop value)) ∙ ws in
         record {
           named = rw (est, eus) masks-one;
@@ -134,6 +139,7 @@ module _ (at t : ℕ) (value v : List ℕ) (is : t ≡ 238) (e : v ≡ afterNeig
           naming = λ n. naming-one n ∙ ap (λ (ws : List ℕ). cond (namesIn here n) ws []) (sym w);
           generals = general-one h ∙ ap₂ (λ (b : Bool) (ws : List ℕ). cond b ws []) (sym eg) (sym w);
           within = omega (arith, ap length (e ∙ after-drop value), length-drop 7 value);
+          head = λ i. let z : 3 ≤ k = kh (omega (arith, ap length (e ∙ after-drop value), length-drop 7 value)) in omega arith;
         }
 
 -- ---- whether run C is used

@@ -48,6 +48,7 @@ pub record Says (e : Element) (value : List ℕ) (r : Tlv) : Type 0 where
   pub naming : (n : ℕ) → wordsIn (Naming n) e ≡ cond (namesIn e n) (words (drop (r .start) value)) []
   pub generals : wordsIn General e ≡ cond (r .general) (words (drop (r .start) value)) []
   pub within : r .start ≤ length value
+  pub head : r .start < length value → 10 ≤ r .start
 
 -- Two numbers with the applications of two others that pass a test too.
 pub record Joins (p : ℕ → Bool) (standard users standard′ users′ : ℕ) : Type 0 where

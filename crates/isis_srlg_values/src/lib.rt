@@ -41,7 +41,7 @@ fn no_tlv(n: usize) -> Tlv
 // Where the SRLG values begin in what follows the neighbour bytes; past the end with L, where they are not read.
 fn values_at(v: &[u8], h: Header) -> usize
     requires { ⌜ (h ≡ headerOf (now v)) × (h .standard < 128) × (h .user < 128) × (headerLength (now v) + 1 + identifierBytes (now v) ≤ length (now v)) ⌝ }
-    ensures { λ r. ⌜ (words (drop r (now (v .entry))) ≡ cond (lFlag (now (v .entry))) [] (words (srlgValues (now (v .entry))))) × (r ≤ length (now (v .entry))) ⌝ }
+    ensures { λ r. ⌜ (words (drop r (now (v .entry))) ≡ cond (lFlag (now (v .entry))) [] (words (srlgValues (now (v .entry))))) × (r ≤ length (now (v .entry))) × (r < length (now (v .entry)) → 3 ≤ r) ⌝ }
 {
     let unread = h.l;
     if unread {

@@ -85,7 +85,7 @@ returns-3 c =
     λ at.
     says-live at _ _ _ (omega arith) (after-is _ (whole v .0)) _ (e .before .live-srlg .ensures at) (not-false _ (e .if2 .left)) _ _
     (c .before .before .before .before .before .before .standard-mask .ensures) (c .before .before .before .before .user-mask .ensures)
-    _ _ (omega (arith, within e)) (omega (arith, whole v .0)) (x .0) (x .1) (header-l _ _ h) (general-header _ _ h) (c .before .before .before .before .before .mask-number .ensures) (c .before .before .before .mask-number2 .ensures) refl
+    _ _ (omega (arith, within e)) (omega (arith, whole v .0)) (x .0) (x .1) (x .2) (header-l _ _ h) (general-header _ _ h) (c .before .before .before .before .before .mask-number .ensures) (c .before .before .before .mask-number2 .ensures) refl
 
 pub read-tlv-spec : {M : Type 1} → statement M
 read-tlv-spec =

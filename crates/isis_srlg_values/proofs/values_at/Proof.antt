@@ -8,13 +8,13 @@ use Rattle.isis.specs.MaskHeader.{headerLength}
 use Rattle.isis.specs.RunB.{identifierBytes}
 use Rattle.isis_check_a.proofs.Laws.{header-l, header-bytes}
 use Rattle.isis_check_b.proofs.SrlgLaws.{length-byte}
-use Rattle.isis_srlg_values.proofs.Said.{values-unread, values-read}
+use Rattle.isis_srlg_values.proofs.Said.{values-unread, values-read, head-two}
 use borrow.Author.Needs.{needs}
 use Rattle.isis_srlg_values.proofs.values_at.Statement.{statement}
 use Rattle.isis_srlg_values.proofs.values_at.Tie as tie
 
 returns : tie.Need-returns
-returns c = let a = c .before .before in (values-unread _ (sym (header-l _ _ (a .pre .0)) ∙ c .if1 .taken), omega arith)
+returns c = let a = c .before .before in (values-unread _ (sym (header-l _ _ (a .pre .0)) ∙ c .if1 .taken), omega arith, λ h. absurd (omega arith))
 
 header-length-requires : tie.Need-header-length-requires
 header-length-requires c κs = search needs
@@ -40,7 +40,7 @@ returns-2 c =
     let a = c .before .before .before .before in
     let v = now (a .args .v) in
     let e = length-byte v (c .before .header-length .result) (bytes c) in
-    (values-read v _ _ (sym (header-l _ _ (a .pre .0)) ∙ c .before .before .if1 .left) (bytes c) e, omega (arith, bytes c, e))
+    (values-read v _ _ (sym (header-l _ _ (a .pre .0)) ∙ c .before .before .if1 .left) (bytes c) e, omega (arith, bytes c, e), λ h. omega (arith, bytes c, head-two v))
 
 pub values-at-spec : {M : Type 1} → statement M
 values-at-spec =
