@@ -76,7 +76,19 @@ fn write_whole(
     ensures { λ q. ⌜ (q ≡ length (wholeBytes (now (a .entry)) l r (now (rs .entry)) g (now (gs .entry)) (now (values .entry)) count (now (grids .entry)) (now (bits .entry)) (now (heads .entry)))) × (now (out .exit) ≡ put (now (out .entry)) 0 (wholeBytes (now (a .entry)) l r (now (rs .entry)) g (now (gs .entry)) (now (values .entry)) count (now (grids .entry)) (now (bits .entry)) (now (heads .entry)))) ⌝ }
 {
     let low = set_bytes::write_top_low(a, l, r, rs, out, 0);
-    let aslas = write_aslas(a, g, gs, values, count, grids, bits, heads, scratch, out, low);
+    let aslas = write_aslas(
+        a,
+        g,
+        gs,
+        values,
+        count,
+        grids,
+        bits,
+        heads,
+        scratch,
+        out,
+        low,
+    );
     set_bytes::write_top_high(a, l, r, rs, out, aslas)
 }
 
@@ -123,5 +135,19 @@ pub fn export_sets(
     if out.len() < size {
         return Written::Refused(replies::refuse_call(5));
     }
-    Written::Bytes(write_whole(a, l, r, rs, g, gs, values, count, grids, bits, heads, scratch, out))
+    Written::Bytes(write_whole(
+        a,
+        l,
+        r,
+        rs,
+        g,
+        gs,
+        values,
+        count,
+        grids,
+        bits,
+        heads,
+        scratch,
+        out,
+    ))
 }

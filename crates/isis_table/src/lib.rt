@@ -101,8 +101,24 @@ pub fn fill_groups(
     let mut n = next_named(standard, user, 1);
     while n < 128 {
         count = join_next(
-            a, b, c, lists, standards, users, index, legacy, general, values, sets, takers,
-            entries, n, count, grids, bits, heads,
+            a,
+            b,
+            c,
+            lists,
+            standards,
+            users,
+            index,
+            legacy,
+            general,
+            values,
+            sets,
+            takers,
+            entries,
+            n,
+            count,
+            grids,
+            bits,
+            heads,
         );
         n = next_named(standard, user, n + 1);
     }

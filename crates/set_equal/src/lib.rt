@@ -49,7 +49,13 @@ fn same_grids(a: &[u8], g: [[usize; 2]; 10], h: [[usize; 2]; 10]) -> bool
 }
 
 // Whether two sets are the same, whose SRLGs are bits over one list.
-pub fn same_sets(a: &[u8], g: [[usize; 2]; 10], h: [[usize; 2]; 10], x: [u64; 12], y: [u64; 12]) -> bool
+pub fn same_sets(
+    a: &[u8],
+    g: [[usize; 2]; 10],
+    h: [[usize; 2]; 10],
+    x: [u64; 12],
+    y: [u64; 12],
+) -> bool
     requires { ⌜ Fits (now a) g × Fits (now a) h ⌝ }
     ensures { λ r. ⌜ ((values : List ℕ) → ascending values ≡ true → length values ≤ 768 → Within values x → Within values y → r ≡ sameRows (row (setOf (now (a .entry)) g (picked values x))) (row (setOf (now (a .entry)) h (picked values y)))) ⌝ }
 {

@@ -46,8 +46,7 @@ write-listed-requires c κs = let b = c .before .before .before .before .before 
     let a = b .args in
     let p = b .pre in
     let r = c .before .before .before .before .before .before .pick in
-    let e = p .1 .entry (a .i) (p .2) in
-    (
+    let e = p .1 .entry (a .i) (p .2) in (
       e .fits,
       omega (arith, r .ensures .0, r .kept .1 .1 .0, p .3 (a .i) (p .2)),
       omega (arith, r .ensures .0, e .counted, e .few),

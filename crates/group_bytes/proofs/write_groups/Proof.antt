@@ -41,8 +41,7 @@ loop-again c = let b = c .before .before .before .before .before .before .before
     let a = b .args in
     let p = b .pre in
     let l = c .before .before .before .before .before .before .before .before .loop in
-    let w = c .before .before .before .before .write-entry in
-    (
+    let w = c .before .before .before .before .write-entry in (
       omega arith,
       w .kept .1 .1 .1 .1 .1 .1 .1 .0 ∙ l .inv .1,
       w .kept .1 .1 .1 .1 .1 .1 .1 .1 .0 ∙ l .inv .2,
