@@ -1,5 +1,5 @@
 -- `isis_export::export` meets its contract.
-use Rattle.isis_export.proofs.Laws.{passed-link, exported, not-exported}
+use Rattle.isis_export.proofs.Laws.{passed-link, short-a, exported, not-exported}
 use Rattle.replies.specs.Told.{toldChecked, toldRefusal}
 use mathlib.Core.Path.{sym, _∙_, ap}
 use borrow.Author.Needs.{needs}
@@ -14,7 +14,8 @@ enum-told c = search needs
 
 export-accepted-requires : tie.Need-export-accepted-requires
 export-accepted-requires c κs = let a = c .before .before .before .before .before .before .before .before .args in
-    passed-link (a .a .now) (a .b .now) (a .c .now) (sym (c .before .before .before .check-link .ensures) ∙ ap toldChecked (c .before .enum-told .given .1))
+    let e = sym (c .before .before .before .check-link .ensures) ∙ ap toldChecked (c .before .enum-told .given .1) in
+    (passed-link (a .a .now) (a .b .now) (a .c .now) e, short-a (a .a .now) (a .b .now) (a .c .now) e)
 
 enum-known-r : tie.Need-enum-known-r
 enum-known-r c = search needs
