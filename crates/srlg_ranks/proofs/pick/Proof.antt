@@ -24,7 +24,7 @@ add-n c = search needs
 
 loop-holds : tie.Need-loop-holds Inv-loop μ-loop
 unfolding picked
-loop-holds c = (omega arith, refl, refl, zero-add _, refl)
+loop-holds c = (omega arith, omega arith, refl, zero-add _, refl)
 
 mul-pick-word : tie.Need-mul-pick-word Inv-loop μ-loop
 mul-pick-word c = search needs
