@@ -1,6 +1,6 @@
 -- What the proofs of the functions cite: one law for each way that a turn can go. Assumes nothing.
 use Prim.Native.Nat.{ℕ, zero, suc, _+_, _-_, _*_, _/_, _%_, _^_, _≤_, _<_}
-use mathlib.Core.Path.{_≡_, refl, sym, _∙_, ap, ap₂}
+use mathlib.Core.Path.{_≡_, refl, sym, _∙_, ap}
 use mathlib.Core.Bool.{Bool, true, false, _||_, _&&_, not, false≢true}
 use mathlib.Core.List.{List, [], _∷_, _++_, append-nil, append-assoc}
 use native.Mathlib.Numerals.{add-one}
@@ -20,9 +20,9 @@ use Rattle.srlg.proofs.Laws.{Order, less, more, same, order}
 use Rattle.octets.proofs.Laws.{same-complete, same-not}
 use Rattle.masks.proofs.Laws.{below-suc}
 use Rattle.masks.proofs.Steps.{zero-none}
-use Rattle.srlg_ranks.specs.Ranks.{keepFrom, inWords, picked, Within, Inside, TopPower}
-use Rattle.srlg_ranks.proofs.Members.{member-place, ascending-lt, same-place}
-use Rattle.srlg_ranks.proofs.Bits.{Lowest, lowest, or-none}
+use Rattle.srlg_ranks.specs.Ranks.{inWords, picked, Within, Inside, TopPower}
+use Rattle.srlg_ranks.proofs.Members.{or-assoc, member-place, ascending-lt, same-place}
+use Rattle.srlg_ranks.proofs.Bits.{lowest, or-none}
 use Rattle.srlg_ranks.proofs.Laws.{keep-none, keep-first, keep-member, picked-same, share, rest, word-next, word-end}
 
 -- ---- the place of a number
@@ -151,10 +151,6 @@ module _ (values ws b : List ℕ) (i p : ℕ) (c : List ℕ) (asc : ascending va
   add-next e h j k =
       let f : eqb (getD values j 0) (getD ws i 0) ≡ eqb j p = ap (eqb (getD values j 0)) (sym e) ∙ same-place values j p asc k inside in
       rw (set-so j, add-one i, drop-cons ws i 0 h, f) (or-assoc (inWords b j) (eqb j p) (member (getD values j 0) (drop (suc i) ws)))
-    where
-      or-assoc : (x y z : Bool) → (x || y) || z ≡ x || (y || z)
-      or-assoc true y z = refl
-      or-assoc false y z = refl
 
   pub add-within : Within values b → Within values c
   add-within w j h = set-so j ∙ rw (w j h) (ne-eqb j p (λ e. omega arith))

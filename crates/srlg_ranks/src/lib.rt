@@ -1,5 +1,5 @@
 // Sets of SRLGs as bits over one ascending list of numbers: made from values, joined, counted, compared, and listed again.
-ghost use mathlib.Core.Bool.{true, false, _||_};
+ghost use mathlib.Core.Bool.{true, _||_};
 ghost use mathlib.Core.Path.{_≡_};
 ghost use mathlib.Core.List.{List, _++_};
 ghost use Prim.Native.Nat.{ℕ, _+_, _≤_, _<_};
@@ -21,7 +21,7 @@ fn top_power(n: usize) -> usize
     1 << (63 - usize::leading_zeros(n))
 }
 
-// Where a number of an ascending list stands: a search by halves, after which of two parts of `size` it stands in is told.
+// Where a number of an ascending list stands: a search by halves, among the last `size` numbers or the first.
 fn place_of(values: &[u32], size: usize, v: u32) -> usize
     requires { ⌜ (ascending (now values) ≡ true) × (member v (now values) ≡ true) × TopPower (length (now values)) size ⌝ }
     ensures { λ r. ⌜ (r < length (now (values .entry))) × (getD (now (values .entry)) r 0 ≡ v) ⌝ }

@@ -1,7 +1,7 @@
 -- `srlg_ranks::add_words` meets its contract: the bits and the numbers yet to be added are the set and all numbers of the value. Assumes nothing.
-use Prim.Native.Nat.{ℕ, _+_, _-_, _*_, _/_, _≤_, _<_}
+use Prim.Native.Nat.{ℕ, _-_, _≤_, _<_}
 use mathlib.Core.Path.{_≡_, refl, sym, _∙_, ap}
-use mathlib.Core.Bool.{_||_, true}
+use mathlib.Core.Bool.{_||_}
 use lib.ListN.{length, drop, getD, length-set}
 use denote.Ref.{now}
 use native.Mathlib.Omega.{arith}

@@ -3,11 +3,11 @@ use Prim.Native.Nat.{_+_, _-_, _/_, _≤_}
 use native.Mathlib.Nat.{zero-add}
 use mathlib.Core.Path.{_≡_, refl, _∙_, ap}
 use mathlib.Core.List.{_++_}
-use lib.ListN.{length, take, drop, getD}
+use lib.ListN.{length, take}
 use denote.Ref.{now}
 use native.Mathlib.Omega.{arith}
-use Rattle.srlg_ranks.specs.Ranks.{picked, Within}
-use Rattle.srlg_ranks.proofs.Laws.{rest, share, word-inside, word-end}
+use Rattle.srlg_ranks.specs.Ranks.{picked}
+use Rattle.srlg_ranks.proofs.Laws.{rest, word-inside, word-end}
 use Rattle.srlg_ranks.proofs.Steps.{length-next, pick-next, pick-end}
 use borrow.Author.Needs.{needs}
 use Rattle.srlg_ranks.proofs.pick.Statement.{statement}
