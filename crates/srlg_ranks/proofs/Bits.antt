@@ -1,17 +1,17 @@
 -- Laws of the bits of a word: its lowest bit, one bit more, and how many there are. Assumes nothing.
-use Prim.Native.Nat.{ℕ, zero, suc, _+_, _-_, _*_, _/_, _%_, _^_, _≤_, _<_, min, zero-le}
+use Prim.Native.Nat.{ℕ, zero, suc, _+_, _-_, _*_, _/_, _%_, _^_, _<_, min}
 use mathlib.Core.Path.{_≡_, refl, sym, _∙_, ap}
 use mathlib.Core.Bool.{Bool, true, false, _||_, _&&_, not, and-true, and-false}
-use native.Mathlib.Nat.{pow-suc, div-eq-of-lt, mul-one, one-mul, add-zero, zero-add, zero-div}
+use native.Mathlib.Nat.{pow-suc, div-eq-of-lt, one-mul, zero-div}
 use native.Mathlib.Omega.{arith}
 use borrow.Author.Tests.{eq-eqb, ne-eqb}
-use lib.Dec.{eqb, eqb·zero-suc, eqb·suc-zero, eqb·suc-suc}
+use lib.Dec.{eqb, eqb·suc-zero, eqb·suc-suc}
 use lib.Pow.{pow-lt, pow-pos, high, shr-shr, shl-exact}
 use lib.Bits.{bitAnd, bitOr, bitXor, and-step, and-self, and-le-l, and-le-r, or-add-and, xor-add-and, xor-self}
 use lib.Count.{trailingZeros, under}
 use Rattle.linkstate.specs.Masks.{inNumber}
 use Rattle.srlg.proofs.Laws.{Order, less, more, same, order}
-use Rattle.masks.proofs.Laws.{low-digit, same-members}
+use Rattle.masks.proofs.Laws.{low-digit}
 use Rattle.masks.proofs.Steps.{or-in}
 
 -- Above its lowest digit, a number has the bits of its half.

@@ -1,14 +1,14 @@
 -- Laws of the sets that bits stand for: one word's share, the next number, members, and the set of given numbers. Assumes nothing.
-use Prim.Native.Nat.{ℕ, zero, suc, _+_, _-_, _*_, _/_, _%_, _^_, _≤_, _<_}
+use Prim.Native.Nat.{ℕ, zero, suc, _+_, _*_, _/_, _%_, _^_, _≤_, _<_}
 use mathlib.Core.Path.{_≡_, refl, sym, _∙_, ap, ap₂}
 use mathlib.Core.Bool.{Bool, true, false, cond, _||_, _&&_, not, and-true, and-false, false≢true}
 use mathlib.Core.List.{List, [], _∷_, _++_}
 use native.Mathlib.Nat.{add-zero, pow-suc}
 use native.Mathlib.Omega.{arith}
-use borrow.Author.Tests.{eq-eqb, ne-eqb, lt-ltb, ltb-true, ltb-false}
-use lib.Dec.{eqb, ltb, eqb·zero-suc, eqb·suc-zero, eqb·suc-suc}
+use borrow.Author.Tests.{eq-eqb, ne-eqb, ltb-true, ltb-false}
+use lib.Dec.{eqb, ltb, eqb·suc-zero, eqb·suc-suc}
 use lib.Count.{ones, ones-step}
-use lib.ListN.{length, getD, take, drop, replicate, List·getD-eq-default, length-replicate, getD-replicate, drop-of-length-le, length-drop, length-take}
+use lib.ListN.{length, getD, take, drop, replicate, List·getD-eq-default, getD-replicate, drop-of-length-le, length-drop, length-take}
 use lib.Seq.{drop-drop}
 use lib.Pow.{pow-pos}
 use Rattle.linkstate.specs.Lists.{member}
@@ -18,8 +18,8 @@ use Rattle.srlg.specs.Ascending.{below, ascending}
 use Rattle.srlg.proofs.Laws.{below-trans, ascending-first, ascending-rest, ascending-cons, ascending-distinct}
 use Rattle.masks.proofs.Laws.{same-members}
 use Rattle.masks.proofs.Steps.{zero-none}
-use Rattle.srlg_ranks.specs.Ranks.{keepFrom, inWords, picked, Within, Inside, Among}
-use Rattle.srlg_ranks.proofs.Members.{Place, member-place, member-distinct, below-not, ascending-same, below-at}
+use Rattle.srlg_ranks.specs.Ranks.{keepFrom, inWords, picked, Within, Inside, Among, Says}
+use Rattle.srlg_ranks.proofs.Members.{member-place, member-distinct, member-append, among-distinct, below-not, ascending-same, below-at}
 use Rattle.srlg_ranks.proofs.Bits.{half-in, even-in, odd-in}
 
 -- ---- numbers kept by a test of their places
@@ -75,6 +75,15 @@ keep-first (suc t) p q (v ∷ l) h n e c =
     (keep-suc p l
     ∙ keep-first t (λ j. p (suc j)) (λ j. q (suc j)) l (omega arith) (λ j b. n (suc j) (omega arith)) e (λ j. c (suc j) ∙ rw (eqb·suc-suc j t))
     ∙ ap (λ (r : List ℕ). getD l t 0 ∷ r) (sym (keep-suc q l)))
+
+pub keep-length : (p : ℕ → Bool) (i : ℕ) (l : List ℕ) → length (keepFrom p i l) ≤ length l
+unfolding keepFrom
+keep-length p i [] = omega arith
+keep-length p i (v ∷ l) = go (p i) (keep-length p (suc i) l)
+  where
+    go : (b : Bool) → length (keepFrom p (suc i) l) ≤ length l → length (cond b (v ∷ keepFrom p (suc i) l) (keepFrom p (suc i) l)) ≤ suc (length l)
+    go true h = omega arith
+    go false h = omega arith
 
 -- ---- members
 
@@ -135,9 +144,12 @@ unfolding picked
 picked-same values x y h =
     keep-same (inWords x) (inWords y) 0 0 values (λ j a. let e : 0 + j ≡ j = omega arith in rw e (h j a))
 
--- Bits that say which numbers of the list are among xs stand for the different numbers of xs.
-pub picked-is : (values bits xs : List ℕ) → ascending values ≡ true → Among xs values
-    → ((i : ℕ) → i < length values → inWords bits i ≡ member (getD values i 0) xs) → picked values bits ≡ distinct xs
+pub length-picked : (values bits : List ℕ) → length (picked values bits) ≤ length values
+unfolding picked
+length-picked values bits = keep-length (inWords bits) 0 values
+
+-- Bits that say which numbers of the list are members of xs stand for the different numbers of xs.
+pub picked-is : (values bits xs : List ℕ) → ascending values ≡ true → Among xs values → Says values bits xs → picked values bits ≡ distinct xs
 unfolding picked
 picked-is values bits xs a among so =
     ascending-same (picked values bits) (distinct xs) (keep-ascending (inWords bits) 0 values a) (ascending-distinct xs) (λ n. go n (member n values) refl ∙ sym (member-distinct n xs))
@@ -153,10 +165,20 @@ picked-is values bits xs a among so =
         rw f at (keep-member (inWords bits) 0 values i a h ∙ ap (inWords bits) g ∙ so i h)
     go n false e = keep-sub n (inWords bits) 0 values e ∙ outside n e (member n xs) refl
 
-pub picked-distinct : (values bits xs ys : List ℕ) → values ≡ distinct ys → Among xs ys
-    → ((i : ℕ) → i < length values → inWords bits i ≡ member (getD values i 0) xs) → picked values bits ≡ distinct xs
+pub picked-distinct : (values bits xs ys : List ℕ) → values ≡ distinct ys → Among xs ys → Says values bits xs → picked values bits ≡ distinct xs
 picked-distinct values bits xs ys e among so =
-    picked-is values bits xs (ap ascending e ∙ ascending-distinct ys) (λ n h. ap (member n) e ∙ member-distinct n ys ∙ among n h) so
+    picked-is values bits xs (ap ascending e ∙ ascending-distinct ys) (λ n h. ap (member n) e ∙ among-distinct xs ys among n h) so
+
+-- What bits say after more numbers were added to them, and of two sets that were joined.
+module _ (values x r xs ys : List ℕ) where
+  pub says-add : Says values x xs → ((i : ℕ) → i < length values → inWords r i ≡ inWords x i || member (getD values i 0) ys) → Says values r (xs ++ ys)
+  says-add p so i h = so i h ∙ ap (λ (b : Bool). b || member (getD values i 0) ys) (p i h) ∙ sym (member-append (getD values i 0) xs ys)
+
+  pub says-join : (y : List ℕ) → Says values x xs → Says values y ys → ((i : ℕ) → inWords r i ≡ inWords x i || inWords y i) → Says values r (xs ++ ys)
+  says-join y p q so = says-add p (λ i h. so i ∙ ap (λ (b : Bool). inWords x i || b) (q i h))
+
+pub join-within : (values x y r : List ℕ) → Within values x → Within values y → ((i : ℕ) → inWords r i ≡ inWords x i || inWords y i) → Within values r
+join-within values x y r p q so i h = so i ∙ rw (p i h, q i h)
 
 -- The zero bits.
 pub zero-bits : (i : ℕ) → inWords (replicate 12 0) i ≡ false
@@ -169,6 +191,10 @@ zero-bits i = go (ltb (i / 64) 12) refl
 
 pub zero-within : (values : List ℕ) → Within values (replicate 12 0)
 zero-within values i h = zero-bits i
+
+pub zero-says : (values : List ℕ) → Says values (replicate 12 0) []
+unfolding member
+zero-says values i h = zero-bits i
 
 pub zero-picked : (values : List ℕ) → picked values (replicate 12 0) ≡ []
 unfolding picked

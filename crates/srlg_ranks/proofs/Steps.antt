@@ -1,15 +1,16 @@
 -- What the proofs of the functions cite: one law for each way that a turn can go. Assumes nothing.
 use Prim.Native.Nat.{ℕ, zero, suc, _+_, _-_, _*_, _/_, _%_, _^_, _≤_, _<_}
-use mathlib.Core.Path.{_≡_, refl, sym, _∙_, ap, ap₂}
+use mathlib.Core.Path.{_≡_, refl, sym, _∙_, ap}
 use mathlib.Core.Bool.{Bool, true, false, _||_, _&&_, not, false≢true}
 use mathlib.Core.List.{List, [], _∷_, _++_, append-nil, append-assoc}
 use native.Mathlib.Numerals.{add-one}
-use native.Mathlib.Nat.{lt-of-le-of-lt}
+use native.Mathlib.Nat.{lt-of-le-of-lt, pow-suc, one-mul, add-zero}
 use native.Mathlib.Omega.{arith}
 use borrow.Author.Tests.{eq-eqb, ne-eqb, eqb-true, eqb-false, ltb-true, ltb-false}
 use lib.Dec.{eqb, ltb}
 use lib.Bits.{bitAnd, bitOr, and-le-l, or-zero-l}
-use lib.Count.{trailingZeros}
+use lib.Pow.{pow-pos, shl-exact}
+use lib.Count.{trailingZeros, leadingZeros, leading-top}
 use lib.ListN.{length, getD, take, drop, set, length-drop, length-take, length-append, List·getD-eq-default, drop-of-length-le}
 use lib.Seq.{take-suc-set, append-snoc, getD-drop, getD-take, getD-set-same, getD-set-other, drop-cons}
 use Rattle.linkstate.specs.Lists.{member, sameBytes}
@@ -19,10 +20,10 @@ use Rattle.srlg.proofs.Laws.{Order, less, more, same, order}
 use Rattle.octets.proofs.Laws.{same-complete, same-not}
 use Rattle.masks.proofs.Laws.{below-suc}
 use Rattle.masks.proofs.Steps.{zero-none}
-use Rattle.srlg_ranks.specs.Ranks.{keepFrom, inWords, picked, Within, Inside, Among}
-use Rattle.srlg_ranks.proofs.Members.{member-place, ascending-lt, same-place}
-use Rattle.srlg_ranks.proofs.Bits.{Lowest, lowest, or-none}
-use Rattle.srlg_ranks.proofs.Laws.{keep-none, keep-first, keep-member, picked-same, share, rest, word-next}
+use Rattle.srlg_ranks.specs.Ranks.{inWords, picked, Within, Inside, TopPower}
+use Rattle.srlg_ranks.proofs.Members.{or-assoc, member-place, ascending-lt, same-place}
+use Rattle.srlg_ranks.proofs.Bits.{lowest, or-none}
+use Rattle.srlg_ranks.proofs.Laws.{keep-none, keep-first, keep-member, picked-same, share, rest, word-next, word-end}
 
 -- ---- the place of a number
 
@@ -47,11 +48,65 @@ module _ (l : List ℕ) (v at n half : ℕ) (asc : ascending l ≡ true) (room :
       go (more k) = absurd (omega (arith, ascending-lt l (at + half) p asc k (omega arith)))
       go (same k) = absurd (omega (arith, ap (λ (j : ℕ). getD l j 0) k))
 
-pub found-one : (l : List ℕ) (v at n : ℕ) → n ≤ 1 → at + n ≤ length l → Found l v at n → (at < length l) × (getD l at 0 ≡ v)
-found-one l v at n h k (p, a, b, f) = let e : at ≡ p = omega arith in (omega arith, ap (λ (j : ℕ). getD l j 0) e ∙ f)
+-- v stands among twice as many numbers as a step has, or is the number there.
+abbrev pub Search : List ℕ → ℕ → ℕ → ℕ → Type 0
+Search l v at step = (e : ℕ) × (step ≡ 2 ^ e / 2) × (at + 2 ^ e ≤ length l) × Found l v at (2 ^ e)
 
-pub found-all : (l : List ℕ) (v : ℕ) → member v l ≡ true → (1 ≤ length l) × Found l v 0 (length l)
-found-all l v m = let (p, h, f) = member-place v l m in (omega arith, (p, omega arith, omega arith, f))
+module _ (l : List ℕ) (v : ℕ) (asc : ascending l ≡ true) where
+  pub search-high : (at step next : ℕ) → 0 < step → getD l (at + step) 0 ≤ v → next ≡ at + step → Search l v at step → Search l v next (step / 2)
+  search-high at step next h le n (zero, a, b, f) = absurd (omega arith)
+  search-high at step next h le n (suc e, a, b, f) =
+      let p = pow-suc 2 e in
+      let s : step ≡ 2 ^ e = omega arith in
+      let d : 2 ^ suc e - step ≡ 2 ^ e = omega arith in
+      (e, ap (λ (x : ℕ). x / 2) s, omega arith, rw d at (found-high l v at (2 ^ suc e) step asc b next (omega arith) le n f))
+
+  pub search-low : (at step next : ℕ) → 0 < step → v < getD l (at + step) 0 → next ≡ at → Search l v at step → Search l v next (step / 2)
+  search-low at step next h lt n (zero, a, b, f) = absurd (omega arith)
+  search-low at step next h lt n (suc e, a, b, f) =
+      let p = pow-suc 2 e in
+      let s : step ≡ 2 ^ e = omega arith in
+      let d : 2 ^ suc e - step ≡ 2 ^ e = omega arith in
+      (e, ap (λ (x : ℕ). x / 2) s, omega arith, rw d at (found-low l v at (2 ^ suc e) step asc b next (omega arith) lt n f))
+
+  -- The first step tells whether v stands in the last part.
+  module _ (size next : ℕ) (top : TopPower (length l) size) (all : member v l ≡ true) where
+    whole : Found l v 0 (length l)
+    whole = let (p, h, f) = member-place v l all in (p, omega arith, omega arith, f)
+
+    pub search-last : getD l (length l - size) 0 ≤ v → next ≡ length l - size → Search l v next (size / 2)
+    search-last le n =
+        let (e, s, a, b) = top in
+        let p = pow-suc 2 e in
+        let q = pow-pos e in
+        let z : 0 + (length l - size) ≡ length l - size = omega arith in
+        let d : length l - (length l - size) ≡ 2 ^ e = omega arith in
+        (e, ap (λ (x : ℕ). x / 2) s, omega arith, rw d at (found-high l v 0 (length l) (length l - size) asc (omega arith) next (omega arith) (rw z le) (omega arith) whole))
+
+    pub search-front : v < getD l (length l - size) 0 → next ≡ 0 → Search l v next (size / 2)
+    search-front lt n =
+        let (e, s, a, b) = top in
+        let p = pow-suc 2 e in
+        let z : 0 + (length l - size) ≡ length l - size = omega arith in
+        let d : length l - (length l - size) ≡ 2 ^ e = omega arith in
+        (e, ap (λ (x : ℕ). x / 2) s, omega arith, rw d at (found-low l v 0 (length l) (length l - size) asc (omega arith) next (omega arith) (rw z lt) n whole))
+
+pub search-in : (l : List ℕ) (v at step : ℕ) → Search l v at step → (0 < step → at + step < length l)
+search-in l v at step (e, a, b, f) h = omega arith
+
+pub search-end : (l : List ℕ) (v at step : ℕ) → step ≡ 0 → Search l v at step → (at < length l) × (getD l at 0 ≡ v)
+search-end l v at step z (zero, a, b, (p, c, d, f)) = let e : at ≡ p = omega arith in (omega arith, ap (λ (j : ℕ). getD l j 0) e ∙ f)
+search-end l v at step z (suc e, a, b, f) = let p = pow-suc 2 e in let q = pow-pos e in absurd (omega arith)
+
+pub some-place : (v : ℕ) (l : List ℕ) → member v l ≡ true → 0 < length l
+some-place v l m = let (p, h, f) = member-place v l m in omega arith
+
+-- The place of a number's highest bit.
+pub top-power : (n : ℕ) → 0 < n → n < 2 ^ 64 → (leadingZeros 64 n ≤ 63) × TopPower n ((1 * 2 ^ (63 - leadingZeros 64 n)) % 2 ^ 64)
+top-power n h l =
+    let (j, e, a, b) = leading-top 64 n h l in
+    let f : 63 - leadingZeros 64 n ≡ j = omega arith in
+    (omega arith, (j, rw f (shl-exact {a = 1} 1 j 64 (omega arith) (omega arith) ∙ one-mul (2 ^ j)), a, b))
 
 -- ---- one bit more
 
@@ -96,10 +151,6 @@ module _ (values ws b : List ℕ) (i p : ℕ) (c : List ℕ) (asc : ascending va
   add-next e h j k =
       let f : eqb (getD values j 0) (getD ws i 0) ≡ eqb j p = ap (eqb (getD values j 0)) (sym e) ∙ same-place values j p asc k inside in
       rw (set-so j, add-one i, drop-cons ws i 0 h, f) (or-assoc (inWords b j) (eqb j p) (member (getD values j 0) (drop (suc i) ws)))
-    where
-      or-assoc : (x y z : Bool) → (x || y) || z ≡ x || (y || z)
-      or-assoc true y z = refl
-      or-assoc false y z = refl
 
   pub add-within : Within values b → Within values c
   add-within w j h = set-so j ∙ rw (w j h) (ne-eqb j p (λ e. omega arith))
@@ -197,6 +248,11 @@ pick-next values ws out after w k r whole e f =
 
 pub length-next : (values ws : List ℕ) (w : ℕ) → length (rest values ws w) ≡ length (share values (64 * w) (getD ws w 0)) + length (rest values ws (w + 1))
 length-next values ws w = ap length (word-next values ws w) ∙ length-append (share values (64 * w) (getD ws w 0)) (rest values ws (w + 1))
+
+-- A list of at most 64 numbers needs one word.
+pub one-word : (values ws : List ℕ) → length values ≤ 64 → length (share values 0 (getD ws 0 0)) ≡ length (picked values ws)
+unfolding picked
+one-word values ws h = let e = ap length (word-end values ws 1 (omega arith)) in sym (length-next values ws 0 ∙ ap (λ (n : ℕ). length (share values 0 (getD ws 0 0)) + n) e ∙ add-zero (length (share values 0 (getD ws 0 0))))
 
 -- ---- two sets compared, word by word
 

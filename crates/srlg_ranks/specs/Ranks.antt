@@ -2,7 +2,7 @@
 use mathlib.Core.Path.{_≡_}
 use mathlib.Core.Bool.{Bool, true, false, cond}
 use mathlib.Core.List.{List, [], _∷_}
-use Prim.Native.Nat.{ℕ, suc, _/_, _%_, _≤_, _<_}
+use Prim.Native.Nat.{ℕ, suc, _/_, _%_, _≤_, _<_, _^_}
 use lib.ListN.{length, getD}
 use Rattle.linkstate.specs.Lists.{member}
 use Rattle.linkstate.specs.Masks.{inNumber}
@@ -31,3 +31,11 @@ Inside values x = (j : ℕ) → length values ≤ j → j < 64 → inNumber x j 
 -- Every number of a list stands in another.
 abbrev pub Among : List ℕ → List ℕ → Type 0
 Among xs ys = (n : ℕ) → member n xs ≡ true → member n ys ≡ true
+
+-- Bits say which numbers of the list are members of xs.
+abbrev pub Says : List ℕ → List ℕ → List ℕ → Type 0
+Says values ws xs = (i : ℕ) → i < length values → inWords ws i ≡ member (getD values i 0) xs
+
+-- The greatest power of two that is not above n.
+abbrev pub TopPower : ℕ → ℕ → Type 0
+TopPower n r = (e : ℕ) × (r ≡ 2 ^ e) × (2 ^ e ≤ n) × (n < 2 ^ suc e)

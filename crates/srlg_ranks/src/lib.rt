@@ -1,5 +1,5 @@
 // Sets of SRLGs as bits over one ascending list of numbers: made from values, joined, counted, compared, and listed again.
-ghost use mathlib.Core.Bool.{true, false, _||_};
+ghost use mathlib.Core.Bool.{true, _||_};
 ghost use mathlib.Core.Path.{_≡_};
 ghost use mathlib.Core.List.{List, _++_};
 ghost use Prim.Native.Nat.{ℕ, _+_, _≤_, _<_};
@@ -9,21 +9,34 @@ ghost use Rattle.linkstate.specs.Lists.{member, sameBytes};
 ghost use Rattle.linkstate.specs.Bytes.{words};
 ghost use Rattle.linkstate.specs.Masks.{inNumber};
 ghost use Rattle.srlg.specs.Ascending.{ascending};
-ghost use Rattle.srlg_ranks.specs.Ranks.{keepFrom, inWords, picked, Within, Among, Inside};
+ghost use Rattle.srlg_ranks.specs.Ranks.{keepFrom, inWords, picked, Within, Inside, Among, TopPower};
 
-// Where a number of an ascending list stands. No jump depends on the numbers.
-fn place_of(values: &[u32], v: u32) -> usize
-    requires { ⌜ (ascending (now values) ≡ true) × (member v (now values) ≡ true) ⌝ }
+// The greatest power of two that is not above n.
+fn top_power(n: usize) -> usize
+    ensures { λ r. ⌜ (0 < n → TopPower n r) ⌝ }
+{
+    if n == 0 {
+        return 1;
+    }
+    1 << (63 - usize::leading_zeros(n))
+}
+
+// Where a number of an ascending list stands: a search by halves, among the last `size` numbers or the first.
+fn place_of(values: &[u32], size: usize, v: u32) -> usize
+    requires { ⌜ (ascending (now values) ≡ true) × (member v (now values) ≡ true) × TopPower (length (now values)) size ⌝ }
     ensures { λ r. ⌜ (r < length (now (values .entry))) × (getD (now (values .entry)) r 0 ≡ v) ⌝ }
 {
+    let last = values.len() - size;
     let mut at = 0;
-    let mut n = values.len();
-    while 1 < n {
-        let half = n / 2;
-        if values[at + half] <= v {
-            at += half;
+    if values[last] <= v {
+        at = last;
+    }
+    let mut step = size / 2;
+    while step != 0 {
+        if values[at + step] <= v {
+            at += step;
         }
-        n -= half;
+        step = step / 2;
     }
     at
 }
@@ -41,9 +54,10 @@ pub fn add_words(values: &[u32], s: &[u8], bits: [u64; 12]) -> [u64; 12]
     requires { ⌜ (ascending (now values) ≡ true) × (length (now values) ≤ 768) × Among (words (now s)) (now values) × Within (now values) bits ⌝ }
     ensures { λ r. ⌜ ((i : ℕ) → i < length (now (values .entry)) → inWords r i ≡ inWords bits i || member (getD (now (values .entry)) i 0) (words (now (s .entry)))) × Within (now (values .entry)) r ⌝ }
 {
+    let size = top_power(values.len());
     let mut b = bits;
     for i in 0..s.len() / 4 {
-        let p = place_of(values, octets::read32(s, i * 4));
+        let p = place_of(values, size, octets::read32(s, i * 4));
         let w = p / 64;
         b[w] = with_bit(b[w], (p % 64) as u32);
     }
@@ -68,10 +82,14 @@ fn word_count(x: u64) -> usize
     u64::count_ones(x) as usize
 }
 
-// How many numbers a set has.
-pub fn count_bits(bits: [u64; 12]) -> usize
-    ensures { λ r. ⌜ ((values : List ℕ) → length values ≤ 768 → Within values bits → r ≡ length (picked values bits)) ⌝ }
+// How many numbers a set has, over a list of at most `len`.
+pub fn count_bits(bits: [u64; 12], len: usize) -> usize
+    requires { ⌜ len ≤ 768 ⌝ }
+    ensures { λ r. ⌜ ((values : List ℕ) → length values ≤ len → Within values bits → r ≡ length (picked values bits)) ⌝ }
 {
+    if len <= 64 {
+        return word_count(bits[0]);
+    }
     let mut n = 0;
     for i in 0..12 {
         n += word_count(bits[i]);

@@ -1,7 +1,7 @@
 -- `srlg_ranks::add_words` meets its contract: the bits and the numbers yet to be added are the set and all numbers of the value. Assumes nothing.
-use Prim.Native.Nat.{ℕ, _+_, _-_, _*_, _/_, _≤_, _<_}
+use Prim.Native.Nat.{ℕ, _-_, _≤_, _<_}
 use mathlib.Core.Path.{_≡_, refl, sym, _∙_, ap}
-use mathlib.Core.Bool.{_||_, true}
+use mathlib.Core.Bool.{_||_}
 use lib.ListN.{length, drop, getD, length-set}
 use denote.Ref.{now}
 use native.Mathlib.Omega.{arith}
@@ -9,19 +9,22 @@ use Rattle.linkstate.specs.Lists.{member}
 use Rattle.linkstate.specs.Bytes.{words}
 use Rattle.srlg.proofs.Laws.{length-words, word-at}
 use Rattle.srlg_ranks.specs.Ranks.{inWords, Within}
-use Rattle.srlg_ranks.proofs.Steps.{member-at, word-set, add-next, add-within, add-all}
+use Rattle.srlg_ranks.proofs.Steps.{member-at, some-place, word-set, add-next, add-within, add-all}
 use borrow.Author.Needs.{needs}
 use Rattle.srlg_ranks.proofs.add_words.Statement.{statement}
 use Rattle.srlg_ranks.proofs.add_words.Tie as tie
 
 abbrev Inv-loop : tie.InvT-loop
-Inv-loop values s b₀ i₀ i-end b i = (i ≤ i-end) × (i-end ≡ length (words s)) × (length b ≡ 12) × ((j : ℕ) → j < length values → inWords b j || member (getD values j 0) (drop i (words s)) ≡ inWords b₀ j || member (getD values j 0) (words s)) × Within values b
+Inv-loop values s size b₀ i₀ i-end b i = (i ≤ i-end) × (i-end ≡ length (words s)) × (length b ≡ 12) × ((j : ℕ) → j < length values → inWords b j || member (getD values j 0) (drop i (words s)) ≡ inWords b₀ j || member (getD values j 0) (words s)) × Within values b
 
 abbrev μ-loop : tie.MeasureT-loop
-μ-loop values s b₀ i₀ i-end b i = i-end - i
+μ-loop values s size b₀ i₀ i-end b i = i-end - i
+
+top-power-requires : tie.Need-top-power-requires Inv-loop μ-loop
+top-power-requires c κs = search needs
 
 loop-holds : tie.Need-loop-holds Inv-loop μ-loop
-loop-holds c = (omega arith, sym (length-words _), search needs, λ j h. refl, c .before .before .pre .3)
+loop-holds c = (omega arith, sym (length-words _), search needs, λ j h. refl, c .before .before .before .pre .3)
 
 mul-read32 : tie.Need-mul-read32 Inv-loop μ-loop
 mul-read32 c = search needs
@@ -31,10 +34,11 @@ read32-requires c κs = search needs
 
 place-of-requires : tie.Need-place-of-requires Inv-loop μ-loop
 place-of-requires c κs = let l = c .before .before .loop in
-    let s = c .before .before .before .before .before in
+    let s = c .before .before .before .before .before .before in
     let ws = words (now (s .args .s)) in
     let e = c .read32 .ensures .0 ∙ sym (word-at (now (s .args .s)) (l .i) (omega arith)) in
-    (s .pre .0, s .pre .2 _ (ap (λ (v : ℕ). member v ws) e ∙ member-at ws (l .i) (omega arith)))
+    let m = s .pre .2 _ (ap (λ (v : ℕ). member v ws) e ∙ member-at ws (l .i) (omega arith)) in
+    (s .pre .0, m, c .before .before .before .top-power .ensures (some-place _ (now (s .args .values)) m))
 
 mul-with-bit : tie.Need-mul-with-bit Inv-loop μ-loop
 mul-with-bit c = omega (arith, c .place-of .ensures .0)
@@ -62,7 +66,7 @@ loop-less c = search needs
 
 loop-again : tie.Need-loop-again Inv-loop μ-loop
 loop-again c = let l = c .before .before .before .before .loop in
-    let s = c .before .before .before .before .before .before .before in
+    let s = c .before .before .before .before .before .before .before .before in
     let vs = now (s .args .values) in
     let ws = words (now (s .args .s)) in
     let p = c .before .place-of in
@@ -85,6 +89,7 @@ add-words-spec =
     (tie.spec
     Inv-loop
     μ-loop
+    top-power-requires
     loop-holds
     mul-read32
     read32-requires

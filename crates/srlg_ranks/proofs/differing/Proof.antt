@@ -1,7 +1,6 @@
 -- `srlg_ranks::differing` meets its contract. Assumes nothing.
 use Rattle.masks.proofs.Laws.{same-members}
 use Rattle.srlg_ranks.proofs.Bits.{differ-none, differ-same}
-use borrow.Author.Needs.{needs}
 use Rattle.srlg_ranks.proofs.differing.Statement.{statement}
 use Rattle.srlg_ranks.proofs.differing.Tie as tie
 

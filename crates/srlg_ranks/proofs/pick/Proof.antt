@@ -3,11 +3,11 @@ use Prim.Native.Nat.{_+_, _-_, _/_, _≤_}
 use native.Mathlib.Nat.{zero-add}
 use mathlib.Core.Path.{_≡_, refl, _∙_, ap}
 use mathlib.Core.List.{_++_}
-use lib.ListN.{length, take, drop, getD}
+use lib.ListN.{length, take}
 use denote.Ref.{now}
 use native.Mathlib.Omega.{arith}
-use Rattle.srlg_ranks.specs.Ranks.{picked, Within}
-use Rattle.srlg_ranks.proofs.Laws.{rest, share, word-inside, word-end}
+use Rattle.srlg_ranks.specs.Ranks.{picked}
+use Rattle.srlg_ranks.proofs.Laws.{rest, word-inside, word-end}
 use Rattle.srlg_ranks.proofs.Steps.{length-next, pick-next, pick-end}
 use borrow.Author.Needs.{needs}
 use Rattle.srlg_ranks.proofs.pick.Statement.{statement}
@@ -24,7 +24,7 @@ add-n c = search needs
 
 loop-holds : tie.Need-loop-holds Inv-loop μ-loop
 unfolding picked
-loop-holds c = (omega arith, refl, refl, zero-add _, refl)
+loop-holds c = (omega arith, omega arith, refl, zero-add _, refl)
 
 mul-pick-word : tie.Need-mul-pick-word Inv-loop μ-loop
 mul-pick-word c = search needs

@@ -1,6 +1,6 @@
 -- `srlg_ranks::pick_word` meets its contract: what is written and what the bits left stand for are the numbers of the word. Assumes nothing.
-use Prim.Native.Nat.{ℕ, _+_, _-_, _≤_, _<_, _^_}
-use mathlib.Core.Path.{_≡_, refl, _∙_, ap}
+use Prim.Native.Nat.{_+_, _-_, _<_, _^_}
+use mathlib.Core.Path.{_≡_, refl, ap}
 use mathlib.Core.List.{_++_}
 use lib.ListN.{length, take, drop, length-set}
 use lib.Bits.{and-le-r}

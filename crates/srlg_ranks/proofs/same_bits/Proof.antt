@@ -1,5 +1,5 @@
 -- `srlg_ranks::same_bits` meets its contract: no difference so far says that the words passed are equal. Assumes nothing.
-use Prim.Native.Nat.{ℕ, _+_, _-_, _≤_, _<_}
+use Prim.Native.Nat.{_-_, _≤_}
 use mathlib.Core.Path.{_≡_, refl}
 use native.Mathlib.Omega.{arith}
 use Rattle.srlg_ranks.proofs.Steps.{Equal, Alike, equal-next, alike-next, same-is}

@@ -2,7 +2,6 @@
 use native.Mathlib.Omega.{arith}
 use lib.Count.{ones-le}
 use Rattle.srlg_ranks.proofs.Laws.{word-ones}
-use borrow.Author.Needs.{needs}
 use Rattle.srlg_ranks.proofs.word_count.Statement.{statement}
 use Rattle.srlg_ranks.proofs.word_count.Tie as tie
 
