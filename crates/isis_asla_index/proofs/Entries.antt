@@ -1,13 +1,13 @@
 -- The entries of an index: their attributes together, one entry more, and the grid that is filled from them.
 use mathlib.Core.Path.{_≡_, refl, sym, ap, ap₂, _∙_}
 use mathlib.Core.Bool.{Bool, true, false, cond}
-use mathlib.Core.List.{List, [], _∷_, _++_}
-use Prim.Native.Nat.{ℕ, zero, suc, _+_, _-_, _≤_, _<_}
+use mathlib.Core.List.{List, [], _++_}
+use Prim.Native.Nat.{ℕ, zero, suc, _+_, _-_, _<_}
 use native.Mathlib.Omega.{arith}
 use native.Mathlib.Numerals.{add-one}
 use borrow.Author.Tests.{eqb-true, eqb-false}
 use lib.Dec.{eqb}
-use lib.ListN.{length, take, drop, getD, set, length-take}
+use lib.ListN.{length, drop, getD, set, length-take}
 use lib.Seq.{getD-set-same, getD-set-other}
 use Rattle.linkstate.specs.Lists.{each}
 use Rattle.linkstate.specs.Elements.{elements}

@@ -1,12 +1,11 @@
 -- The walk that writes the index: what holds at each position, and the turns.
-use mathlib.Core.Path.{_≡_, refl, sym, ap, ap₂, _∙_, subst}
+use mathlib.Core.Path.{_≡_, refl, sym, ap, ap₂, _∙_}
 use mathlib.Core.Bool.{Bool, true, false, cond, _&&_, _||_}
 use mathlib.Core.List.{List, [], _∷_, _++_, append-assoc}
 use Prim.Native.Nat.{ℕ, _+_, _-_, _*_, _≤_, _<_}
 use native.Mathlib.Omega.{arith}
 use borrow.Author.Tests.{ne-eqb}
-use lib.Dec.{eqb}
-use lib.ListN.{length, take, drop, getD, set, length-set, length-take, length-drop}
+use lib.ListN.{length, drop, getD, set, length-set, length-take, length-drop}
 use Rattle.linkstate.specs.Lists.{any, each}
 use Rattle.linkstate.specs.Masks.{user, inNumber}
 use Rattle.linkstate.specs.Replies.{accepted, runA}
@@ -21,15 +20,12 @@ use Rattle.isis_check_a.proofs.Laws.{part-length}
 use Rattle.isis_grids.specs.declared.Which.{Which}
 use Rattle.isis_grids.specs.declared.Which.the-variants.{WithoutL}
 use Rattle.isis_grids.specs.Grid.{unchecked}
-use Rattle.isis_grids.specs.Selected.{selects, selected, listFrom, listAt}
+use Rattle.isis_grids.specs.Selected.{selects, selected, listAt}
 use Rattle.isis_grids.proofs.Walks.{inside, rest-ok, turn, left-all}
-use Rattle.isis_grids.proofs.Aslas.{append-nil, live-all, listPart, asla-headed, list-asla, list-other, list-part-framed, list-part-room, live-read, live-unread}
-use Rattle.isis_sets.specs.declared.Masks.{Masks}
-use Rattle.isis_sets.specs.Sets.{Holds}
+use Rattle.isis_grids.proofs.Aslas.{append-nil, live-all, listPart, asla-headed, list-asla, list-other, list-part-framed, live-read, live-unread}
 use Rattle.isis_sets.proofs.Names.{Left, any-append, named-asla}
 use Rattle.isis_asla_index.specs.declared.Asla.{Asla}
-use Rattle.isis_asla_index.specs.declared.Index.{Index}
-use Rattle.isis_asla_index.specs.Index.{tells, Asked, listOf, together, ofEntries, InRun, Lists, Room, Indexed, Reads}
+use Rattle.isis_asla_index.specs.Index.{tells, Asked, together, ofEntries, InRun, Room, Indexed, Reads}
 use Rattle.isis_asla_index.proofs.Entries.{entries-more, in-run-more}
 use Rattle.isis_asla_index.proofs.Reading.{no-member}
 
@@ -160,7 +156,7 @@ joins ts us vs = sym (append-assoc ts us vs)
 abbrev join : List Attribute → List Attribute → List Attribute
 join ts us = ts ++ us
 
-module _ (a : List ℕ) (lists : List (List ℕ)) (standard users : List ℕ) (count s u ls lu at : ℕ) (was : Walk a lists standard users count s u ls lu at) (here : at < length a) where
+module _ {a : List ℕ} {lists : List (List ℕ)} {standard users : List ℕ} {count s u ls lu at : ℕ} (was : Walk a lists standard users count s u ls lu at) (here : at < length a) where
   abbrev end : ℕ
   end = at + 2 + getD a (at + 1) 0
 
@@ -182,9 +178,7 @@ module _ (a : List ℕ) (lists : List (List ℕ)) (standard users : List ℕ) (c
     userL = gathers-other a at here (was .ok) other (withL user) lu (was .userL);
   }
 
-  module _ (asla : getD a at 0 ≡ 16) (r : Asla) (read : Reads (listPart a at (at + 2)) r) (s′ u′ ls′ lu′ : ℕ)
-      (js : (n : ℕ) → inNumber s′ n ≡ inNumber s n || inNumber (r .standard) n) (ju : (n : ℕ) → inNumber u′ n ≡ inNumber u n || inNumber (r .user) n)
-      (jls : (n : ℕ) → inNumber ls′ n ≡ inNumber ls n || inNumber (cond (r .l) (r .standard) 0) n) (jlu : (n : ℕ) → inNumber lu′ n ≡ inNumber lu n || inNumber (cond (r .l) (r .user) 0) n) where
+  module _ (asla : getD a at 0 ≡ 16) {r : Asla} (read : Reads (listPart a at (at + 2)) r) where
     abbrev value : List ℕ
     value = listPart a at (at + 2)
 
@@ -200,38 +194,7 @@ module _ (a : List ℕ) (lists : List (List ℕ)) (standard users : List ℕ) (c
     pub walk-from : from ≤ length a
     walk-from = omega (arith, walk-inside, value-length, read .inside)
 
-    more-standard : Gathers (plain same) a end s′
-    more-standard = gathers-more a at here (was .ok) asla (plain same) s (r .standard) s′ (λ n h. named-here a at here (was .ok) asla n (inNumber (r .standard) n) (read .names .standard n h)) js (was .standardNamed)
-
-    more-user : Gathers (plain user) a end u′
-    more-user = gathers-more a at here (was .ok) asla (plain user) u (r .user) u′ (λ n h. named-here a at here (was .ok) asla (user n) (inNumber (r .user) n) (read .names .user n h)) ju (was .userNamed)
-
-    more-standard-l : Gathers (withL same) a end ls′
-    more-standard-l = gathers-more a at here (was .ok) asla (withL same) ls (cond (r .l) (r .standard) 0) ls′ (λ n h. named-with-l a at here (was .ok) asla n n (r .standard) (r .l) (read .flag) (read .names .standard n h)) jls (was .standardL)
-
-    more-user-l : Gathers (withL user) a end lu′
-    more-user-l = gathers-more a at here (was .ok) asla (withL user) lu (cond (r .l) (r .user) 0) lu′ (λ n h. named-with-l a at here (was .ok) asla (user n) n (r .user) (r .l) (read .flag) (read .names .user n h)) jlu (was .userL)
-
-    -- an ASLA without a list to read
-    pub walk-unentered : end ≤ from → Walk a lists standard users count s′ u′ ls′ lu′ end
-    walk-unentered h = record {
-      within = walk-inside;
-      ok = rest-ok checkA 0 a at here (was .ok);
-      few = omega (arith, was .few);
-      room = was .room;
-      entries = was .entries;
-      answers = λ w k. live-unread w a at here (was .ok) join append-nil joins (ofEntries w a lists standard users count) (at + 2 + cond (tells w (r .standard) (r .user)) (r .from) (length value)) (begins-at w k) (past (tells w (r .standard) (r .user))) ∙ was .answers w k;
-      standardNamed = more-standard;
-      userNamed = more-user;
-      standardL = more-standard-l;
-      userL = more-user-l;
-    }
-      where
-        past : (b : Bool) → end ≤ at + 2 + cond b (r .from) (length value)
-        past true = h
-        past false = omega (arith, value-length)
-
-    -- one with a list
+    -- an ASLA with a list
     module _ (h : from < end) where
       begins : from ≡ listAt WithoutL a at
       begins = list-asla WithoutL a at asla (asla-headed a at here (was .ok) asla) (r .from) (read .begins (omega (arith, value-length)))
@@ -257,19 +220,53 @@ module _ (a : List ℕ) (lists : List (List ℕ)) (standard users : List ℕ) (c
       pub room-users : count < length users
       room-users = omega (arith, six, walk-inside, was .room .users)
 
-      pub walk-entered : Walk a (set lists count (from ∷ end ∷ [])) (set standard count (r .standard)) (set users count (r .user)) (count + 1) s′ u′ ls′ lu′ end
-      walk-entered = record {
+    -- whom it names is gathered
+    module _ (s′ u′ ls′ lu′ : ℕ) (js : (n : ℕ) → inNumber s′ n ≡ inNumber s n || inNumber (r .standard) n) (ju : (n : ℕ) → inNumber u′ n ≡ inNumber u n || inNumber (r .user) n)
+        (jls : (n : ℕ) → inNumber ls′ n ≡ inNumber ls n || inNumber (cond (r .l) (r .standard) 0) n) (jlu : (n : ℕ) → inNumber lu′ n ≡ inNumber lu n || inNumber (cond (r .l) (r .user) 0) n) where
+      more-standard : Gathers (plain same) a end s′
+      more-standard = gathers-more a at here (was .ok) asla (plain same) s (r .standard) s′ (λ n h. named-here a at here (was .ok) asla n (inNumber (r .standard) n) (read .names .standard n h)) js (was .standardNamed)
+
+      more-user : Gathers (plain user) a end u′
+      more-user = gathers-more a at here (was .ok) asla (plain user) u (r .user) u′ (λ n h. named-here a at here (was .ok) asla (user n) (inNumber (r .user) n) (read .names .user n h)) ju (was .userNamed)
+
+      more-standard-l : Gathers (withL same) a end ls′
+      more-standard-l = gathers-more a at here (was .ok) asla (withL same) ls (cond (r .l) (r .standard) 0) ls′ (λ n h. named-with-l a at here (was .ok) asla n n (r .standard) (r .l) (read .flag) (read .names .standard n h)) jls (was .standardL)
+
+      more-user-l : Gathers (withL user) a end lu′
+      more-user-l = gathers-more a at here (was .ok) asla (withL user) lu (cond (r .l) (r .user) 0) lu′ (λ n h. named-with-l a at here (was .ok) asla (user n) n (r .user) (r .l) (read .flag) (read .names .user n h)) jlu (was .userL)
+
+      -- an ASLA without a list to read
+      pub walk-unentered : end ≤ from → Walk a lists standard users count s′ u′ ls′ lu′ end
+      walk-unentered h = record {
         within = walk-inside;
         ok = rest-ok checkA 0 a at here (was .ok);
-        few = six;
+        few = omega (arith, was .few);
+        room = was .room;
+        entries = was .entries;
+        answers = λ w k. live-unread w a at here (was .ok) join append-nil joins (ofEntries w a lists standard users count) (at + 2 + cond (tells w (r .standard) (r .user)) (r .from) (length value)) (begins-at w k) (past (tells w (r .standard) (r .user))) ∙ was .answers w k;
+        standardNamed = more-standard;
+        userNamed = more-user;
+        standardL = more-standard-l;
+        userL = more-user-l;
+      }
+        where
+          past : (b : Bool) → end ≤ at + 2 + cond b (r .from) (length value)
+          past true = h
+          past false = omega (arith, value-length)
+
+      pub walk-entered : (h : from < end) → Walk a (set lists count (from ∷ end ∷ [])) (set standard count (r .standard)) (set users count (r .user)) (count + 1) s′ u′ ls′ lu′ end
+      walk-entered h = record {
+        within = walk-inside;
+        ok = rest-ok checkA 0 a at here (was .ok);
+        few = six h;
         room = record {
           small = was .room .small;
           places = omega (arith, was .room .places, length-set lists count (from ∷ end ∷ []));
           standards = omega (arith, was .room .standards, length-set standard count (r .standard));
           users = omega (arith, was .room .users, length-set users count (r .user));
         };
-        entries = in-run-more a lists standard users count (from ∷ end ∷ []) (r .standard) (r .user) room-lists room-standard room-users entry (was .entries);
-        answers = λ w k. ap (λ (ts : List Attribute). ts ++ each (selected w) (left 1 0 a end)) (entries-more a lists standard users count (from ∷ end ∷ []) (r .standard) (r .user) room-lists room-standard room-users w)
+        entries = in-run-more a lists standard users count (from ∷ end ∷ []) (r .standard) (r .user) (room-lists h) (room-standard h) (room-users h) (entry h) (was .entries);
+        answers = λ w k. ap (λ (ts : List Attribute). ts ++ each (selected w) (left 1 0 a end)) (entries-more a lists standard users count (from ∷ end ∷ []) (r .standard) (r .user) (room-lists h) (room-standard h) (room-users h) w)
             ∙ taken w (tells w (r .standard) (r .user)) (begins-at w k) ∙ was .answers w k;
         standardNamed = more-standard;
         userNamed = more-user;

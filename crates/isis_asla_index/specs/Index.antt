@@ -17,7 +17,6 @@ use Rattle.isis_grids.specs.declared.Which.{Which}
 use Rattle.isis_grids.specs.declared.Which.the-variants.{Naming, General, RsvpTeAlone, WithoutL}
 use Rattle.isis_grids.specs.Grid.{unchecked}
 use Rattle.isis_grids.specs.Selected.{selects, listFrom}
-use Rattle.isis_sets.specs.declared.Masks.{Masks}
 use Rattle.isis_sets.specs.Sets.{Holds}
 use Rattle.isis_asla_index.specs.declared.Asla.{Asla}
 use Rattle.isis_asla_index.specs.declared.Index.{Index}

@@ -40,10 +40,6 @@ module _ (p : ℕ → Bool) (a : List ℕ) (lists : List (List ℕ)) (c j : ℕ)
       go true e = first-present c before (attributesAt a lists j) (before ++ attributesAt a lists j) (placed-entries p a lists j) refl row was (eqb-false (getD row 0 0) 0 e)
       go false e = was ∙ ap (rowOf c) (sym (append-nil before))
 
-pub both : (a b : Bool) → a && b ≡ true → (a ≡ true) × (b ≡ true)
-both true b e = (refl, e)
-both false b e = absurd (let z : _≡_ {A = ℕ} 0 1 = cc in omega arith)
-
 -- ---- a grid with the rows of another
 
 length-or : (gs hs : List (List ℕ)) → length (orElse gs hs) ≡ length gs

@@ -1,12 +1,11 @@
 -- The sets of applications, from an index of the run.
 use mathlib.Core.Path.{_≡_, refl, sym, ap, ap₂, _∙_, subst}
 use mathlib.Core.Bool.{Bool, true, false, cond}
-use mathlib.Core.List.{List, []}
+use mathlib.Core.List.{List}
 use Prim.Native.Nat.{ℕ, _+_, _-_, _≤_, _<_}
 use native.Mathlib.Omega.{arith}
 use borrow.Author.Tests.{lt-ltb, le-ltb}
-use lib.Dec.{ltb}
-use lib.ListN.{length, getD}
+use lib.ListN.{getD}
 use Rattle.linkstate.specs.Masks.{user, inNumber}
 use Rattle.linkstate.specs.Lists.{each}
 use Rattle.linkstate.specs.Replies.{accepted, runA}

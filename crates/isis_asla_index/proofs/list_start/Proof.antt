@@ -1,5 +1,4 @@
 -- One test decides.
-use borrow.Author.Needs.{needs}
 use Rattle.isis_asla_index.proofs.list_start.Statement.{statement}
 use Rattle.isis_asla_index.proofs.list_start.Tie as tie
 

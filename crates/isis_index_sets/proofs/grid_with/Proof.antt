@@ -6,13 +6,13 @@ use Rattle.isis_grids.proofs.Grids.{grid-empty}
 use Rattle.isis_asla_index.specs.Index.{together}
 use denote.Ref.{now}
 use lib.Dec.{eqb}
-use lib.ListN.{length, getD}
+use lib.ListN.{getD}
 use native.Mathlib.Omega.{arith}
 use mathlib.Core.Bool.{Bool, _&&_}
 use mathlib.Core.List.{[]}
 use mathlib.Core.Logic.{⊎-elim}
-use mathlib.Core.Path.{_≡_, ap, sym, _∙_}
-use Prim.Native.Nat.{ℕ, _+_, _≤_, _-_}
+use mathlib.Core.Path.{_≡_, ap, _∙_}
+use Prim.Native.Nat.{ℕ, _≤_, _-_}
 use borrow.Author.Needs.{needs}
 use Rattle.isis_index_sets.proofs.grid_with.Statement.{statement}
 use Rattle.isis_index_sets.proofs.grid_with.Tie as tie

@@ -1,5 +1,6 @@
 -- A turn looks into an entry with the two words while nothing is found.
-use Rattle.isis_index_sets.proofs.Rows.{row-more, row-same, both}
+use Rattle.isis_index_sets.proofs.Rows.{row-more, row-same}
+use Rattle.isis_asla_index.proofs.Reading.{both}
 use Rattle.isis_asla_index.proofs.Entries.{list-fits}
 use Rattle.isis_index_sets.specs.Sets.{withWords}
 use Rattle.isis_grids.specs.Grid.{rowOf, firstRow}
@@ -10,13 +11,13 @@ use Rattle.linkstate.specs.Lists.{keep}
 use borrow.Author.Tests.{eqb-true}
 use denote.Ref.{now}
 use lib.Dec.{eqb}
-use lib.ListN.{length, getD}
+use lib.ListN.{getD}
 use native.Mathlib.Omega.{arith}
 use mathlib.Core.Bool.{Bool, _&&_}
 use mathlib.Core.List.{[]}
 use mathlib.Core.Logic.{⊎-elim}
-use mathlib.Core.Path.{_≡_, refl, ap, sym, _∙_}
-use Prim.Native.Nat.{ℕ, _+_, _≤_, _-_}
+use mathlib.Core.Path.{_≡_, refl, ap, _∙_}
+use Prim.Native.Nat.{ℕ, _≤_, _-_}
 use borrow.Author.Needs.{needs}
 use Rattle.isis_index_sets.proofs.row_with.Statement.{statement}
 use Rattle.isis_index_sets.proofs.row_with.Tie as tie
