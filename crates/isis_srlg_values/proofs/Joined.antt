@@ -4,6 +4,7 @@ use mathlib.Core.Bool.{Bool, true, false, cond, _&&_, _||_, or-assoc, or-false}
 use mathlib.Core.List.{List, [], _∷_, _++_, append-assoc, append-nil}
 use Prim.Native.Nat.{ℕ, _+_, _-_, _/_, _≤_, _<_}
 use native.Mathlib.Omega.{arith}
+use native.Mathlib.Nat.{sub-zero}
 use lib.Dec.{ltb, eqb}
 use lib.ListN.{length, getD, take, drop, length-append, length-take, length-drop}
 use Rattle.linkstate.specs.Lists.{any, each, put}
@@ -184,3 +185,7 @@ module _ (b c : List ℕ) (g : Gathered) (list list₁ legacy : List ℕ) (so : 
           numbers = e ∙ ap distinct (all-numbers room ∙ ap (λ (l : List ℕ). liveNumbers b ++ words l) is) ∙ rw el;
           few = omega (arith, so .place, so .few);
         }
+
+-- As the part of a list that is lent.
+pub values-part : (b c : List ℕ) (r : Gathered) (l : List ℕ) → Values b c r (take (r .count) l) → Values b c r (take (r .count - 0) l)
+values-part b c r l so = rw sub-zero so

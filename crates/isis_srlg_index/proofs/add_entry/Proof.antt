@@ -13,7 +13,7 @@ use Rattle.isis_srlg_index.proofs.add_entry.Tie as tie
 
 -- where there is a number, there is room for its entry
 long : (c : tie.After-entry-members) → 14 ≤ length (now (c .before .before .before .before .before .before .before .args .value))
-long c = entry-long (c .before .before .before .before .before .before .before .args .g) (now (c .before .before .before .before .before .before .before .args .values)) _ _ _ (c .before .before .before .before .read-tlv .ensures 0) (c .before .before .before .if1 .left)
+long c = entry-long (c .before .before .before .before .before .before .before .args .g) (now (c .before .before .before .before .before .before .before .args .values)) _ _ _ (c .before .before .before .before .read-tlv .ensures 0) (omega arith)
 
 room : (c : tie.After-entry-members) → (c .before .before .before .before .before .before .before .args .count < length (now (c .before .before .before .before .before .before .before .args .bits))) × (c .before .before .before .before .before .before .before .args .count < length (now (c .before .before .before .before .before .before .before .args .members)))
 room c = c .before .before .before .before .before .before .before .pre .4 (long c)
@@ -30,7 +30,7 @@ returns c =
     let g = a .g in
     let values = now (a .values) in
     let s = c .before .read-tlv .ensures in (
-      λ at rest left all e so. entries-left values _ _ _ rest all so left (λ n i. e n i ∙ ap (λ (b : Bool). b || left n i) (gives-nothing g values _ _ _ (s at) (c .if1 .taken) n i)),
+      λ at rest left all e so. entries-left values _ _ _ rest all so left (λ n i. e n i ∙ ap (λ (b : Bool). b || left n i) (gives-nothing g values _ _ _ (s at) (omega arith) n i)),
       omega arith,
     )
 
