@@ -3,14 +3,14 @@ ghost use mathlib.Core.Path.{_≡_};
 ghost use mathlib.Core.List.{List, map};
 ghost use Prim.Native.Nat.{ℕ, _+_, _*_, _/_, _≤_, _<_};
 ghost use lib.ListN.{length, take};
-ghost use Rattle.linkstate.specs.Replies.{accepted, runA};
+ghost use Rattle.linkstate.specs.Replies.{accepted, runA, bytes};
 ghost use Rattle.linkstate.specs.Elements.{elements, faults};
 ghost use Rattle.linkstate.specs.Kinds.{linkCodes};
 ghost use Rattle.linkstate.specs.Sides.{named, bandwidthKind};
 ghost use Rattle.linkstate.specs.Questions.{write};
 ghost use Rattle.linkstate.specs.Meaning.{meaning};
 ghost use Rattle.linkstate.specs.Export as Definitions;
-ghost use Rattle.replies.specs.Told.{toldExported};
+ghost use Rattle.replies.specs.Told.{toldWritten, toldExported};
 ghost use Rattle.isis.specs.RunA.{checkA, sideA};
 ghost use Rattle.isis.specs.RunB.{sideB};
 ghost use Rattle.isis.specs.Link.{linkSource, exportLink};
@@ -22,6 +22,7 @@ ghost use Rattle.asla_bytes.specs.Applications.{inNumbers};
 ghost use Rattle.isis_table.specs.Filled.{PassedLink, NamedBy, ReadyA, Ready, left, Filled};
 ghost use Rattle.isis_table.specs.Filled as T;
 ghost use Rattle.isis_export.specs.Tables.{Srlgs};
+ghost use Rattle.isis_export.specs.Delivered.{Delivered};
 use isis_asla_index::Index;
 use isis_sets::Masks;
 use isis_srlg_values::Gathered;
@@ -532,9 +533,11 @@ fn export_accepted(a: &[u8], b: &[u8], c: &[u8], out: &mut [u8]) -> Written
     export_large(a, b, c, out)
 }
 
-// The link as BGP-LS TLVs: refused as its bytes are, then by 5; else they stand at the buffer's front, and their length is the answer.
+// The link as BGP-LS TLVs: refused as its bytes are, then by 5; else they stand at the buffer's front, and their length is the answer. What was written is
+// then a rival of the link, and no rival is shorter.
 pub fn export(a: &[u8], b: &[u8], c: &[u8], out: &mut [u8]) -> Written
     ensures { λ r. ⌜ toldExported r (now (out .exit)) ≡ exportLink (now (a .entry)) (now (b .entry)) (now (c .entry)) (now (out .entry)) ⌝ }
+    ensures { λ r. ⌜ ((n : ℕ) → toldWritten r ≡ bytes n → Delivered (now (a .entry)) (now (b .entry)) (now (c .entry)) n (now (out .exit))) ⌝ }
 {
     match isis_check::check_link(a, b, c) {
         Checked::Accepted => export_accepted(a, b, c, out),

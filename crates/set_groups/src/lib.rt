@@ -113,7 +113,7 @@ pub fn join(
         heads[i] = joined;
         return count;
     }
-    let srlgs = srlg_ranks::count_bits(w) as u64;
+    let srlgs = srlg_ranks::count_bits(w, values.len()) as u64;
     let h = [0, 0, srlgs, mark];
     let joined = with_member(h, n);
     grids[count] = g;

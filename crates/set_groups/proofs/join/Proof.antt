@@ -81,7 +81,7 @@ returns-2 : tie.Need-returns-2
 returns-2 c = let b = c .before .before .before .before .before .before .before .before .before .before in
     let a = b .args in
     let p = b .pre in
-    joined-new (now (a .a)) (now (a .values)) (a .n) (a .count) (now (a .grids)) (now (a .bits)) (now (a .heads)) (p .6) (a .g) (a .w) _ (p .7) (p .8) (p .9) _ _ _ (c .before .before .if1 .left) (c .before .before .before .find .ensures) (c .with-member2 .ensures) (p .3) (p .4) (c .before .count-bits .ensures (now (a .values)) (p .1) (p .4)) (p .5) (c .before .before .before .before .before .before .before .mark-of .ensures)
+    joined-new (now (a .a)) (now (a .values)) (a .n) (a .count) (now (a .grids)) (now (a .bits)) (now (a .heads)) (p .6) (a .g) (a .w) _ (p .7) (p .8) (p .9) _ _ _ (c .before .before .if1 .left) (c .before .before .before .find .ensures) (c .with-member2 .ensures) (p .3) (p .4) (c .before .count-bits .ensures (now (a .values)) (omega arith) (p .4)) (p .5) (c .before .before .before .before .before .before .before .mark-of .ensures)
 
 pub join-spec : {M : Type 1} → statement M
 join-spec =
