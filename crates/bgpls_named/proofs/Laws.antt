@@ -16,7 +16,7 @@ use Rattle.linkstate.specs.Sides.{Advertisement, names, named}
 use Rattle.linkstate.specs.BgpLs.{sabmLength, udabmLength, isMaskLength, notIgnored, advertisement, advertisementsOf, aslas, runSide, runSource}
 use Rattle.octets.proofs.Laws.{part-is}
 use Rattle.masks.proofs.Laws.{in-number, is-number}
-use Rattle.rivals.proofs.ListLaws.{and-l, and-r}
+use Rattle.linkstate.proofs.ListLaws.{and-l, and-r}
 use Rattle.rivals.proofs.KindLaws.{standard-other, user-other}
 use Rattle.bgpls_find.specs.declared.Set.the-variants.{Every}
 use Rattle.bgpls_find.specs.Sets.{chosen, chosenBy}

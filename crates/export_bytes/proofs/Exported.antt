@@ -12,10 +12,10 @@ use Rattle.linkstate.specs.Kinds.{codes, applicationCodes}
 use Rattle.linkstate.specs.Masks.{user, others, inNumber, maskSize, mask}
 use Rattle.linkstate.specs.Meaning.{Meaning, row}
 use Rattle.linkstate.specs.Export.{Tlv, tlv, bytesOf, present, topValue, aslaValue, generalValues, leader, inGroup, leaders, groupValue, aslaValues, tlvs, export}
+use Rattle.linkstate.proofs.ListLaws.{each-append, map-append}
 use Rattle.linkstate.proofs.Computing.{computing}
 use Rattle.set_bytes.specs.Sets.{setOf, topOf, inTlvs, lowCodes, highCodes}
 use Rattle.asla_bytes.specs.Applications.{inNumbers}
-use Rattle.rivals.proofs.ListLaws.{each-append, map-append}
 use Rattle.set_groups.specs.Groups.{groupTlv}
 use Rattle.set_groups.proofs.Tlvs.{present-same, asla-same, asla-row, groups-are}
 use Rattle.group_bytes.specs.Groups.{groupsBytes}

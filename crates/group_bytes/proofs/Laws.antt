@@ -6,11 +6,11 @@ use native.Mathlib.Nat.{zero-add, sub-zero}
 use native.Mathlib.Numerals.{add-one}
 use native.Mathlib.Omega.{arith}
 use lib.ListN.{length, getD, take, drop, length-append, length-take}
+use Rattle.linkstate.proofs.ListLaws.{each-append, map-append}
 use Rattle.linkstate.specs.Lists.{numbers, each, put}
 use Rattle.linkstate.specs.Meaning.{row}
 use Rattle.linkstate.specs.Export.{tlv, bytesOf, aslaValue}
 use Rattle.octets.proofs.Laws.{put-then}
-use Rattle.rivals.proofs.ListLaws.{each-append, map-append}
 use Rattle.srlg_ranks.specs.Ranks.{picked}
 use Rattle.set_bytes.specs.Sets.{setOf}
 use Rattle.asla_bytes.specs.Applications.{inNumbers}

@@ -10,8 +10,9 @@ use lib.Dec.{eqb, ltb}
 use lib.ListN.{length, take, drop, length-take, length-drop}
 use Rattle.linkstate.specs.Masks.{bit, inMasks, asNumber, inNumber}
 use Rattle.linkstate.specs.Sides.{names}
+use Rattle.linkstate.proofs.MaskLaws.{number-same}
 use Rattle.linkstate.proofs.Computing.{computing}
-use Rattle.masks.proofs.Laws.{in-number, number-same, bit-beyond}
+use Rattle.masks.proofs.Laws.{in-number, bit-beyond}
 use Rattle.asla_bytes.specs.Applications.{inNumbers}
 use Rattle.isis_check_a.specs.declared.Header.{Header}
 use Rattle.isis_check_a.specs.Headers.{headerOf, tooLong}

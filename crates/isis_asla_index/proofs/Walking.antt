@@ -12,6 +12,7 @@ use Rattle.linkstate.specs.Replies.{accepted, runA}
 use Rattle.linkstate.specs.Elements.{Element, element, elements, faults}
 use Rattle.linkstate.specs.Attributes.{Attribute}
 use Rattle.linkstate.specs.Sides.{Advertisement, names, named, namedWithL, ofLive}
+use Rattle.linkstate.proofs.ListLaws.{any-append}
 use Rattle.linkstate.proofs.WalkLaws.{left, each-end}
 use Rattle.octets.proofs.Laws.{part-is}
 use Rattle.isis.specs.MaskHeader.{lFlag, advertisement}
@@ -23,7 +24,7 @@ use Rattle.isis_grids.specs.Grid.{unchecked}
 use Rattle.isis_grids.specs.Selected.{selects, selected, listAt}
 use Rattle.isis_grids.proofs.Walks.{inside, rest-ok, turn, left-all}
 use Rattle.isis_grids.proofs.Aslas.{append-nil, live-all, listPart, asla-headed, list-asla, list-other, list-part-framed, live-read, live-unread}
-use Rattle.isis_sets.proofs.Names.{Left, any-append, named-asla}
+use Rattle.isis_sets.proofs.Names.{Left, named-asla}
 use Rattle.isis_asla_index.specs.declared.Asla.{Asla}
 use Rattle.isis_asla_index.specs.Index.{tells, Asked, together, ofEntries, InRun, Room, Indexed, Reads}
 use Rattle.isis_asla_index.proofs.Entries.{entries-more, in-run-more}

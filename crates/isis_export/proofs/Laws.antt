@@ -24,9 +24,8 @@ use Rattle.kinds.proofs.Computing.{computing}
 use Rattle.isis.specs.RunA.{sideA}
 use Rattle.isis.specs.RunB.{sideB}
 use Rattle.isis.specs.Link.{linkVerdict, sideOf, linkSource, exportLink}
-use Rattle.rivals.proofs.ListLaws.{or-l, or-r, mem-member, mem-numbers, length-numbers}
-use Rattle.rivals.proofs.Sizes.{then-l, then-r}
-use Rattle.demands.proofs.Passed.{unrefused}
+use Rattle.linkstate.proofs.ListLaws.{or-l, or-r, mem-member, mem-numbers, length-numbers}
+use Rattle.linkstate.proofs.WalkLaws.{then-first, then-second, unrefused}
 use Rattle.set_bytes.specs.Sets as S
 use Rattle.set_bytes.specs.Sets.{Fits}
 use Rattle.asla_bytes.specs.Applications.{inNumbers}
@@ -52,19 +51,19 @@ use Rattle.isis_export.specs.Tables.{Srlgs}
 pub passed-link : (a b c : List ℕ) → linkVerdict a b c ≡ accepted → PassedLink a b c
 unfolding linkVerdict
 passed-link a b c h =
-    let long = unrefused (ltb 2048 (length a) || ltb 2048 (length b) || ltb 1024 (length c)) 1 (then-l _ _ h) in
+    let long = unrefused (ltb 2048 (length a) || ltb 2048 (length b) || ltb 1024 (length c)) 1 (then-first _ _ h) in
     let longB = or-r (ltb 2048 (length a)) (ltb 2048 (length b)) (or-l (ltb 2048 (length a) || ltb 2048 (length b)) (ltb 1024 (length c)) long) in
     let longC = or-r (ltb 2048 (length a) || ltb 2048 (length b)) (ltb 1024 (length c)) long in
-    let rest = then-r _ _ (then-r _ _ h) in
+    let rest = then-second _ _ (then-second _ _ h) in
     record {
-      runA = then-l _ _ rest;
-      runB = record { checked = then-r _ _ rest; shortB = ltb-false 2048 (length b) longB; shortC = ltb-false 1024 (length c) longC };
+      runA = then-first _ _ rest;
+      runB = record { checked = then-second _ _ rest; shortB = ltb-false 2048 (length b) longB; shortC = ltb-false 1024 (length c) longC };
     }
 
 pub short-a : (a b c : List ℕ) → linkVerdict a b c ≡ accepted → length a ≤ 2048
 unfolding linkVerdict
 short-a a b c h =
-    let long = unrefused (ltb 2048 (length a) || ltb 2048 (length b) || ltb 1024 (length c)) 1 (then-l _ _ h) in
+    let long = unrefused (ltb 2048 (length a) || ltb 2048 (length b) || ltb 1024 (length c)) 1 (then-first _ _ h) in
     ltb-false 2048 (length a) (or-l (ltb 2048 (length a)) (ltb 2048 (length b)) (or-l (ltb 2048 (length a) || ltb 2048 (length b)) (ltb 1024 (length c)) long))
 
 -- ---- the tables

@@ -9,6 +9,7 @@ use lib.Pow.{pow-pos}
 use borrow.Author.Tests.{ltb-true, ltb-false, eq-eqb}
 use lib.Dec.{T, ltb, eqb, eqb→eq}
 use lib.ListN.{length, getD, length-append}
+use Rattle.linkstate.proofs.ListLaws.{each-append}
 use Rattle.linkstate.specs.Lists.{any, keep, each, member}
 use Rattle.linkstate.specs.Bytes.{words, distinct}
 use Rattle.linkstate.specs.Elements.{Element, elements}
@@ -25,7 +26,7 @@ use Rattle.isis.specs.RunB.{srlgAdvertisements, sideB}
 use Rattle.isis_tlvs_238.specs.declared.Which.the-variants.{Naming, General}
 use Rattle.isis_tlvs_238.specs.Selected.{selects, srlgWords, wordsIn}
 use Rattle.isis_tlvs_238.proofs.Tlvs.{words-none}
-use Rattle.isis_tlvs_238.proofs.Walks.{live-words, each-append, words-append}
+use Rattle.isis_tlvs_238.proofs.Walks.{live-words, words-append}
 use Rattle.isis_srlgs.specs.Runs.{Passed}
 use Rattle.isis_srlgs.proofs.Subjects.{legacy-words, keep-none}
 use Rattle.isis_srlg_values.specs.declared.Gathered.{Gathered}

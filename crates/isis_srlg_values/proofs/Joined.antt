@@ -13,13 +13,14 @@ use Rattle.linkstate.specs.Replies.{accepted, runB}
 use Rattle.linkstate.specs.Elements.{Element, elements, faults}
 use Rattle.linkstate.specs.Masks.{inNumber}
 use Rattle.linkstate.specs.Sides.{Advertisement, names, named, namedWithL}
+use Rattle.linkstate.proofs.ListLaws.{any-append}
 use Rattle.linkstate.proofs.WalkLaws.{left}
 use Rattle.octets.proofs.Laws.{put-nil, put-then, front-is}
 use Rattle.masks.proofs.Steps.{zero-none}
 use Rattle.isis.specs.RunB.{checkB, srlgAdvertisements, sideB}
 use Rattle.srlg.proofs.Laws.{length-words}
 use Rattle.isis_check_a.proofs.Laws.{rest-is}
-use Rattle.isis_tlvs_238.proofs.Walks.{tlvAt, turn, none-left, any-append}
+use Rattle.isis_tlvs_238.proofs.Walks.{tlvAt, turn, none-left}
 use Rattle.isis_srlg_values.specs.declared.Tlv.{Tlv}
 use Rattle.isis_srlg_values.specs.declared.Gathered.{Gathered}
 use Rattle.isis_srlg_values.specs.Gathered.{Holds, Joins, namesIn, namesWithL, numbersIn, liveNumbers, Says, Adds, Named, Gathers, legacyUsed, Values}

@@ -7,6 +7,7 @@ use native.Mathlib.Omega.{arith}
 use borrow.Author.Tests.{lt-ltb, le-ltb, ltb-true, ltb-false}
 use lib.Dec.{ltb}
 use lib.ListN.{length, getD}
+use Rattle.linkstate.proofs.ListLaws.{and-l, member-mem, numbers-mem}
 use Rattle.linkstate.specs.Lists.{numbers, keep, member}
 use Rattle.linkstate.specs.Masks.{others, inNumber}
 use Rattle.linkstate.specs.Attributes.{srlgs}
@@ -16,7 +17,6 @@ use Rattle.isis.specs.RunA.{sideA}
 use Rattle.isis.specs.RunB.{sideB}
 use Rattle.isis.specs.Link.{linkSource}
 use Rattle.kinds.specs.Rules.{gridCodes}
-use Rattle.rivals.proofs.ListLaws.{and-l, member-mem, numbers-mem}
 use Rattle.masks.specs.Sets.{IsNext}
 use Rattle.masks.proofs.Laws.{walk-next, walk-member}
 use Rattle.srlg_ranks.specs.Ranks.{picked}

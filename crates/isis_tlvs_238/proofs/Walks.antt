@@ -13,6 +13,7 @@ use Rattle.linkstate.specs.Replies.{Verdict, accepted, runB}
 use Rattle.linkstate.specs.Elements.{Element, element, cut, elements, faults}
 use Rattle.linkstate.specs.Attributes.{Attribute, ofKind}
 use Rattle.linkstate.specs.Sides.{Advertisement, names, ofLive}
+use Rattle.linkstate.proofs.ListLaws.{any-append, keep-append, each-append}
 use Rattle.linkstate.proofs.WalkLaws.{left, typeAt, type-one, length-one, faults-passed, each-end, each-turn}
 use Rattle.octets.proofs.Laws.{part-is, put-nil, put-then}
 use Rattle.isis.specs.RunB.{checkB, srlgAdvertisements, sideB}
@@ -23,25 +24,6 @@ use Rattle.isis_tlvs_238.specs.Selected.{selects, howAmong, stronger, sr
 use Rattle.isis_tlvs_238.proofs.Tlvs as tlv
 
 -- ---- lists joined
-
-pub each-append : {A B : Type 0} (f : A → List B) (xs ys : List A) → each f (xs ++ ys) ≡ each f xs ++ each f ys
-unfolding each
-each-append f [] ys = refl
-each-append f (x ∷ xs) ys = ap (λ (l : List _). f x ++ l) (each-append f xs ys) ∙ sym (append-assoc (f x) (each f xs) (each f ys))
-
-pub keep-append : {A : Type 0} (p : A → Bool) (xs ys : List A) → keep p (xs ++ ys) ≡ keep p xs ++ keep p ys
-unfolding keep
-keep-append p [] ys = refl
-keep-append p (x ∷ xs) ys = go (p x) (keep-append p xs ys)
-  where
-    go : (b : Bool) → keep p (xs ++ ys) ≡ keep p xs ++ keep p ys → cond b (x ∷ keep p (xs ++ ys)) (keep p (xs ++ ys)) ≡ cond b (x ∷ keep p xs) (keep p xs) ++ keep p ys
-    go true e = ap (λ (l : List _). x ∷ l) e
-    go false e = e
-
-pub any-append : {A : Type 0} (p : A → Bool) (xs ys : List A) → any p (xs ++ ys) ≡ any p xs || any p ys
-unfolding any
-any-append p [] ys = refl
-any-append p (x ∷ xs) ys = ap (λ (b : Bool). p x || b) (any-append p xs ys) ∙ sym (or-assoc (p x) (any p xs) (any p ys))
 
 pub words-append : (ts us : List Attribute) → srlgWords (ts ++ us) ≡ srlgWords ts ++ srlgWords us
 unfolding srlgWords ofKind

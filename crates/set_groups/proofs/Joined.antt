@@ -7,13 +7,14 @@ use native.Mathlib.Omega.{arith}
 use native.Mathlib.Nat.{add-zero}
 use borrow.Author.Tests.{eqb-true, eqb-false, eq-eqb, ne-eqb, lt-ltb, le-ltb, ltb-true, ltb-false}
 use lib.Dec.{eqb, ltb}
+use Rattle.linkstate.proofs.MaskLaws.{number-same}
+use Rattle.linkstate.proofs.ListLaws.{and-l, and-r, keep-append, keep-mem, map-append, map-ext, numbers-mem, rows-refl, rows-eq}
 use Rattle.linkstate.specs.Lists.{numbers, keep, lookup, sameRows}
 use Rattle.linkstate.specs.Masks.{user, others, asNumber, inNumber}
 use Rattle.linkstate.specs.Meaning.{Meaning, row}
 use Rattle.linkstate.specs.Export.{leader, inGroup}
-use Rattle.rivals.proofs.ListLaws.{and-l, and-r, keep-append, keep-mem, map-append, map-ext, numbers-mem, rows-refl, rows-eq}
 use Rattle.rivals.proofs.Groups.{leader-row}
-use Rattle.masks.proofs.Laws.{in-number, number-same, number-of}
+use Rattle.masks.proofs.Laws.{in-number, number-of}
 use Rattle.masks.proofs.Steps.{zero-none}
 use Rattle.set_groups.specs.Groups.{Group, group, added, join, groupBelow, groupsBelow}
 

@@ -9,12 +9,12 @@ use borrow.Author.Tests.{eqb-true, ltb-true, ltb-false}
 use lib.Dec.{eqb, ltb}
 use lib.ListN.{length, getD, drop, drop-of-length-le}
 use lib.Seq.{drop-at}
+use Rattle.linkstate.proofs.MaskLaws.{number-same}
+use Rattle.linkstate.proofs.ListLaws.{and-l, and-r, rows-eq}
 use Rattle.linkstate.specs.Lists.{sameBytes, sameRows, member}
 use Rattle.linkstate.specs.Bytes.{bytesAt, bytesOfWords}
 use Rattle.linkstate.specs.Masks.{asNumber, inNumber}
 use Rattle.linkstate.specs.Meaning.{row}
-use Rattle.rivals.proofs.ListLaws.{and-l, and-r, rows-eq}
-use Rattle.masks.proofs.Laws.{number-same}
 use Rattle.octets.proofs.Laws.{same-sound}
 use Rattle.kinds.specs.Rules.{gridCodes}
 use Rattle.srlg.specs.Ascending.{ascending}

@@ -10,9 +10,10 @@ use borrow.Author.Tests.{eq-eqb, ne-eqb, lt-ltb, le-ltb}
 use lib.Dec.{eqb, ltb}
 use lib.ListN.{length, getD, take, drop}
 use lib.Seq.{take-at, drop-at}
+use Rattle.linkstate.proofs.MaskLaws.{number-same}
 use Rattle.linkstate.specs.Bytes.{number, bytesAt}
 use Rattle.linkstate.specs.Masks.{asNumber, inNumber}
-use Rattle.masks.proofs.Laws.{number-same, number-of}
+use Rattle.masks.proofs.Laws.{number-of}
 use Rattle.octets.proofs.Laws.{length-bytesAt, bytesAt-add, bytesAt-suc}
 use Rattle.set_bytes.specs.Sets.{RowFits}
 use Rattle.set_marks.specs.Marks.{mixed, valueMixed, rowBytes, gridMark, wordsMark}

@@ -1,11 +1,11 @@
 -- `isis_export::export_accepted` meets its contract.
-use Rattle.rivals.proofs.ListLaws.{and-l, and-r}
 use borrow.Author.Tests.{leb-true}
 use lib.Dec.{leb}
 use lib.ListN.{length}
 use denote.Ref.{now}
 use mathlib.Core.Bool.{_&&_}
 use borrow.Author.Needs.{needs}
+use Rattle.linkstate.proofs.ListLaws.{and-l, and-r}
 use Rattle.isis_export.proofs.export_accepted.Statement.{statement}
 use Rattle.isis_export.proofs.export_accepted.Tie as tie
 

@@ -70,6 +70,15 @@ module _ {A : Type 0} where
   unfolding any
   any-no p [] h = refl
   any-no p (x ∷ xs) h = rw (h x (List·Memᴰ·head refl)) (any-no p xs (λ y k. h y (List·Memᴰ·tail k)))
+
+  pub any-append : (p : A → Bool) (xs ys : List A) → any p (xs ++ ys) ≡ any p xs || any p ys
+  unfolding any
+  any-append p [] ys = refl
+  any-append p (x ∷ xs) ys = go (p x) (any-append p xs ys)
+    where
+      go : (b : Bool) → any p (xs ++ ys) ≡ any p xs || any p ys → b || any p (xs ++ ys) ≡ (b || any p xs) || any p ys
+      go true e = refl
+      go false e = e
 
   pub all-mem : (p : A → Bool) {x : A} (xs : List A) → all p xs ≡ true → List·Memᴰ x xs → p x ≡ true
   unfolding all
@@ -299,12 +308,12 @@ keep-number n (m ∷ ns) d = go (eqb n m) refl (keep-number n ns (and-r (not (me
 
 -- ---- equal bytes, equal rows
 
-bytes-refl : (x : List ℕ) → sameBytes x x ≡ true
+pub bytes-refl : (x : List ℕ) → sameBytes x x ≡ true
 unfolding sameBytes
 bytes-refl [] = refl
 bytes-refl (b ∷ x) = rw (eq-eqb b b refl) (bytes-refl x)
 
-bytes-eq : (x y : List ℕ) → sameBytes x y ≡ true → x ≡ y
+pub bytes-eq : (x y : List ℕ) → sameBytes x y ≡ true → x ≡ y
 unfolding sameBytes
 bytes-eq [] [] h = refl
 bytes-eq [] (c ∷ y) h = absurd (false≢true h)

@@ -9,9 +9,9 @@ use native.Mathlib.Omega.{arith}
 use borrow.Author.Tests.{eqb-true, ltb-true, ltb-false}
 use lib.Dec.{eqb, ltb}
 use lib.ListN.{length, length-map, List·getD-eq-default}
-use Rattle.linkstate.specs.Masks.{bit, one, Last, none, last, lastBelow, bytesToHold, maskSize, maskByte, mask}
+use Rattle.linkstate.specs.Masks.{bit, one, powersBelow, asNumber, Last, none, last, lastBelow, bytesToHold, maskSize, maskByte, mask}
 use Rattle.linkstate.specs.BgpLs.{isMaskLength}
-use Rattle.rivals.proofs.ListLaws.{length-numbers, getD-numbers}
+use Rattle.linkstate.proofs.ListLaws.{length-numbers, getD-numbers}
 
 -- ---- the last set bit
 
@@ -118,7 +118,7 @@ mask-least p s h = go (last-of 64 p)
 
 -- ---- a mask that is written
 
-one-le : (b : Bool) → one b ≤ 1
+pub one-le : (b : Bool) → one b ≤ 1
 unfolding one
 one-le true = le-refl 1
 one-le false = zero-le
@@ -129,14 +129,14 @@ one-bit true = refl
 one-bit false = refl
 
 module _ (p : ℕ → Bool) (b : ℕ) where
-  ones : (one (p b) ≤ 1) × (one (p (b + 1)) ≤ 1) × (one (p (b + 2)) ≤ 1) × (one (p (b + 3)) ≤ 1) × (one (p (b + 4)) ≤ 1) × (one (p (b + 5)) ≤ 1) × (one (p (b + 6)) ≤ 1) × (one (p (b + 7)) ≤ 1)
+  pub ones : (one (p b) ≤ 1) × (one (p (b + 1)) ≤ 1) × (one (p (b + 2)) ≤ 1) × (one (p (b + 3)) ≤ 1) × (one (p (b + 4)) ≤ 1) × (one (p (b + 5)) ≤ 1) × (one (p (b + 6)) ≤ 1) × (one (p (b + 7)) ≤ 1)
   ones = (one-le (p b), one-le (p (b + 1)), one-le (p (b + 2)), one-le (p (b + 3)), one-le (p (b + 4)), one-le (p (b + 5)), one-le (p (b + 6)), one-le (p (b + 7)))
 
   digit : (d i : ℕ) → maskByte p b / d % 2 ≡ one (p i) → eqb (maskByte p b / d % 2) 1 ≡ p i
   digit d i e = ap (λ (x : ℕ). eqb x 1) e ∙ one-bit (p i)
 
   -- Bit j of a byte is the test at b + j.
-  bit-byte : (j : ℕ) → j < 8 → eqb (maskByte p b / 2 ^ (7 - j) % 2) 1 ≡ p (b + j)
+  pub bit-byte : (j : ℕ) → j < 8 → eqb (maskByte p b / 2 ^ (7 - j) % 2) 1 ≡ p (b + j)
   unfolding maskByte
   bit-byte zero h = digit 128 b (omega (arith, ones)) ∙ ap p (omega arith)
   bit-byte (suc zero) h = digit 64 (b + 1) (omega (arith, ones))
@@ -176,3 +176,14 @@ module _ (p : ℕ → Bool) (n : ℕ) (h : n < 64) where
       go true e c d = bit-in (ltb-true (n / 8) (maskSize p) e)
       go false e true d = absurd (omega (arith, bit-length (mask p) n d, length-mask p, ltb-false (n / 8) (maskSize p) e))
       go false e false d = d ∙ sym (bit-out (ltb-false (n / 8) (maskSize p) e))
+
+-- ---- a set as a number
+
+pub powers-same : (k : ℕ) (p q : ℕ → Bool) → ((n : ℕ) → n < k → p n ≡ q n) → powersBelow k p ≡ powersBelow k q
+unfolding powersBelow
+powers-same zero p q h = refl
+powers-same (suc k) p q h = cc (powers-same k p q (λ n l. h n (omega arith)), h k (omega arith))
+
+pub number-same : (p q : ℕ → Bool) → ((n : ℕ) → n < 64 → p n ≡ q n) → asNumber p ≡ asNumber q
+unfolding asNumber
+number-same p q h = powers-same 64 p q h
