@@ -1,0 +1,68 @@
+-- What a C program is answered: a status and the two numbers of the reply, as one list of three. What a status does not name is 0.
+use mathlib.Core.Bool.{cond}
+use mathlib.Core.List.{List, [], _∷_}
+use Prim.Native.Nat.{ℕ, _+_}
+use lib.Dec.{eqb, ltb}
+use Rattle.linkstate.specs.Bytes.{number}
+use Rattle.linkstate.specs.Replies.{Run, runA, runB, runC, runBgpLs, Refusal, unless, Reading, whole, pair, bandwidth, part, count, Reply, absent, found, askRefused, Named, listed, namedRefused, Length, bytes, exportRefused}
+use Rattle.linkstate.specs.Attributes.{Attribute, ofKind}
+use Rattle.linkstate.specs.Questions.{Source, Subject, generally, standardNo, userNo, given, beforeAnswer, ask, value}
+use Rattle.statuses.specs.declared.Words.{Words}
+
+abbrev pub words : Words → List ℕ
+words w = w .status ∷ w .first ∷ w .second ∷ []
+
+abbrev pub nothing : List ℕ
+nothing = 0 ∷ 0 ∷ 0 ∷ []
+
+-- Whom a call asks about: 0 the general set, 1 a standard application, 2 a user application. Any other value is no application: its number is too high.
+abbrev pub whomOf : ℕ → ℕ → Subject
+whomOf who number = cond (eqb who 0) generally (cond (eqb who 1) (standardNo number) (cond (eqb who 2) (userNo number) (standardNo 64)))
+
+-- A number above 63 as 64: both are refused by 6 (`asks-low` and `values-low` in proofs/).
+abbrev pub least : ℕ → ℕ
+least n = cond (ltb 63 n) 64 n
+
+-- R8. Refusal n has status 128 + n; then its run and its offset. No refusal names run C.
+abbrev pub runNumber : Run → ℕ
+runNumber runA = 0
+runNumber runB = 1
+runNumber runBgpLs = 2
+runNumber runC = 3
+
+abbrev pub refusalWords : Refusal → List ℕ
+refusalWords r = (128 + r .number) ∷ runNumber (r .at .run) ∷ r .at .offset ∷ []
+
+-- K4. A reading. A bandwidth is told by its bits, not by the float: a NaN's pattern is kept.
+abbrev pub readingWords : (bits : ℕ) → Reading → List ℕ
+readingWords bits (whole n) = 1 ∷ n ∷ 0 ∷ []
+readingWords bits (pair m n) = 2 ∷ m ∷ n ∷ []
+readingWords bits (bandwidth x) = 3 ∷ bits ∷ 0 ∷ []
+readingWords bits (part p n) = 4 ∷ p .offset ∷ n ∷ []
+readingWords bits (count n) = 5 ∷ n ∷ 0 ∷ []
+
+abbrev pub replyWords : (bits : ℕ) → Reply → List ℕ
+replyWords bits absent = nothing
+replyWords bits (found x) = readingWords bits x
+replyWords bits (askRefused r) = refusalWords r
+
+-- I5, K4. A question: the bits of a bandwidth are those of the value's own bytes in the run.
+unfoldable pub askWords : Source → Subject → ℕ → List ℕ → List ℕ
+askWords s whom k list = replyWords (number (value s whom k)) ((ask s whom k list) .reply)
+
+-- K6. Where the value stands that a question asks for, and its length; nothing where it is absent, refused, or SRLG.
+unfoldable pub placeWords : List Attribute → List ℕ
+placeWords [] = nothing
+placeWords (t ∷ ts) = 4 ∷ t .at ∷ t .len ∷ []
+
+unfoldable pub valueWords : Source → Subject → ℕ → List ℕ
+valueWords s whom k = unless (beforeAnswer s whom k) (λ r. nothing) (cond (eqb k 1096) nothing (placeWords (ofKind k (given s whom k))))
+
+-- I5. The named applications, and an export.
+abbrev pub namedWords : Named → List ℕ
+namedWords (listed standard user) = 6 ∷ standard ∷ user ∷ []
+namedWords (namedRefused r) = refusalWords r
+
+abbrev pub lengthWords : Length → List ℕ
+lengthWords (bytes n) = 7 ∷ n ∷ 0 ∷ []
+lengthWords (exportRefused r) = refusalWords r

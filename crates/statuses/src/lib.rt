@@ -1,0 +1,183 @@
+// Answers as a C program reads them: a status and two numbers. What each status says is `specs/Words.antt`.
+ghost use mathlib.Core.Path.{_≡_};
+ghost use mathlib.Core.List.{List, [], _∷_};
+ghost use Prim.Native.Nat.{ℕ, _≤_};
+ghost use lib.ListN.{length};
+ghost use Rattle.linkstate.specs.Bytes.{number};
+ghost use Rattle.replies.specs.Told.{toldRun, toldRefusal, toldReading, toldAnswer, toldNamed, toldWritten, subjectOf};
+ghost use Rattle.statuses.specs.Words.{words, nothing, whomOf, least, runNumber, refusalWords, readingWords, replyWords, namedWords, lengthWords};
+use replies::Answer;
+use replies::Named;
+use replies::Reading;
+use replies::Refusal;
+use replies::Run;
+use replies::Subject;
+use replies::Written;
+
+// A status with the two numbers of its reply.
+pub struct Words {
+    pub status: u64,
+    pub first: u64,
+    pub second: u64,
+}
+
+// Absent.
+pub fn no_words() -> Words
+    ensures { λ r. ⌜ words r ≡ nothing ⌝ }
+{
+    Words {
+        status: 0,
+        first: 0,
+        second: 0,
+    }
+}
+
+// A value by its place.
+pub fn place_words(place: usize, len: usize) -> Words
+    ensures { λ r. ⌜ words r ≡ 4 ∷ place ∷ len ∷ [] ⌝ }
+{
+    Words {
+        status: 4,
+        first: place as u64,
+        second: len as u64,
+    }
+}
+
+// A bandwidth, by the four bytes of its value.
+pub fn bits_words(v: &[u8]) -> Words
+    requires { ⌜ length (now v) ≡ 4 ⌝ }
+    ensures { λ r. ⌜ words r ≡ 3 ∷ number (now (v .entry)) ∷ 0 ∷ [] ⌝ }
+{
+    let bits = octets::read32(v, 0) as u64;
+    Words {
+        status: 3,
+        first: bits,
+        second: 0,
+    }
+}
+
+fn run_number(run: Run) -> u64
+    ensures { λ r. ⌜ r ≡ runNumber (toldRun run) ⌝ }
+{
+    match run {
+        Run::A => 0,
+        Run::B => 1,
+        Run::BgpLs => 2,
+        Run::C => 3,
+    }
+}
+
+fn refusal_words(x: Refusal) -> Words
+    ensures { λ r. ⌜ words r ≡ refusalWords (toldRefusal x) ⌝ }
+{
+    let number = x.number as u64;
+    let place = x.place;
+    let run = place.run;
+    let offset = place.offset as u64;
+    let of_run = run_number(run);
+    Words {
+        status: 128 + number,
+        first: of_run,
+        second: offset,
+    }
+}
+
+// A reading; a bandwidth without its bits.
+fn reading_words(x: Reading) -> Words
+    ensures { λ r. ⌜ words r ≡ readingWords 0 (toldReading x) ⌝ }
+{
+    match x {
+        Reading::Number(n) => Words {
+            status: 1,
+            first: n as u64,
+            second: 0,
+        },
+        Reading::Pair(m, n) => Words {
+            status: 2,
+            first: m as u64,
+            second: n as u64,
+        },
+        Reading::Bandwidth(_) => Words {
+            status: 3,
+            first: 0,
+            second: 0,
+        },
+        Reading::Part { place, length } => {
+            let offset = place.offset;
+            place_words(offset, length)
+        }
+        Reading::Count(n) => Words {
+            status: 5,
+            first: n as u64,
+            second: 0,
+        },
+    }
+}
+
+// The answer to a question; a bandwidth without its bits.
+pub fn answer_words(x: Answer) -> Words
+    ensures { λ r. ⌜ words r ≡ replyWords 0 (toldAnswer x) ⌝ }
+{
+    match x {
+        Answer::Absent => no_words(),
+        Answer::Found(y) => reading_words(y),
+        Answer::Refused(y) => refusal_words(y),
+    }
+}
+
+pub fn named_words(x: Named) -> Words
+    ensures { λ r. ⌜ words r ≡ namedWords (toldNamed x) ⌝ }
+{
+    match x {
+        Named::Listed { standard, user } => Words {
+            status: 6,
+            first: standard,
+            second: user,
+        },
+        Named::Refused(y) => refusal_words(y),
+    }
+}
+
+pub fn length_words(x: Written) -> Words
+    ensures { λ r. ⌜ words r ≡ lengthWords (toldWritten x) ⌝ }
+{
+    match x {
+        Written::Bytes(n) => Words {
+            status: 7,
+            first: n as u64,
+            second: 0,
+        },
+        Written::Refused(y) => refusal_words(y),
+    }
+}
+
+// An application's number in 32 bits: every number above 63 is refused alike.
+fn lowered(number: u64) -> u32
+    ensures { λ r. ⌜ r ≡ least number ⌝ }
+{
+    if 63 < number {
+        return 64;
+    }
+    number as u32
+}
+
+// Whom a call asks about.
+pub fn subject(who: u8, number: u64) -> Subject
+    ensures { λ r. ⌜ subjectOf r ≡ whomOf who (least number) ⌝ }
+{
+    match who {
+        0 => Subject::General,
+        1 => Subject::Standard(lowered(number)),
+        2 => Subject::User(lowered(number)),
+        _ => Subject::Standard(64),
+    }
+}
+
+// The two numbers of the reply are written, and the status is the result.
+pub fn hand_over(w: Words, reply: &mut [u64; 2]) -> u64
+    ensures { λ r. ⌜ r ∷ now (reply .exit) ≡ words w ⌝ }
+{
+    let both = [w.first, w.second];
+    *reply = both;
+    w.status
+}
