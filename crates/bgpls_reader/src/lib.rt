@@ -36,7 +36,7 @@ fn answer_words(
     answering::answer_front(out, k, list)
 }
 
-// With room for few numbers, for those of a large link, and for as many as a run can have.
+// With room for few numbers, for those of most runs, and for as many as a run can have.
 fn answer_few(r: &[u8], set: Set, n: usize, list: &mut [u32]) -> Answer
     requires { ⌜ Counted (now r) set n × (n ≤ 64) ⌝ }
     ensures { λ x. ⌜ toldAsked x (now (list .exit)) ≡ srlgAnswer (srlgs (attributesIn set (now (r .entry)))) (now (list .entry)) ⌝ }
@@ -48,12 +48,12 @@ fn answer_few(r: &[u8], set: Set, n: usize, list: &mut [u32]) -> Answer
 }
 
 fn answer_many(r: &[u8], set: Set, n: usize, list: &mut [u32]) -> Answer
-    requires { ⌜ Counted (now r) set n × (n ≤ 2048) ⌝ }
+    requires { ⌜ Counted (now r) set n × (n ≤ 512) ⌝ }
     ensures { λ x. ⌜ toldAsked x (now (list .exit)) ≡ srlgAnswer (srlgs (attributesIn set (now (r .entry)))) (now (list .entry)) ⌝ }
 {
-    let mut xs = [0u32; 2048];
-    let mut out = [0u32; 2048];
-    let mut tmp = [0u32; 2048];
+    let mut xs = [0u32; 512];
+    let mut out = [0u32; 512];
+    let mut tmp = [0u32; 512];
     answer_words(r, set, n, list, &mut xs, &mut out, &mut tmp)
 }
 
@@ -67,6 +67,23 @@ fn answer_most(r: &[u8], set: Set, n: usize, list: &mut [u32]) -> Answer
     answer_words(r, set, n, list, &mut xs, &mut out, &mut tmp)
 }
 
+// With eight times the room until it is enough. The call of itself keeps the large arrays apart: without it the compiler lays them into the frame of every question, whose pages are touched one by one.
+fn answer_in_room(r: &[u8], set: Set, n: usize, room: usize, list: &mut [u32]) -> Answer
+    requires { ⌜ Counted (now r) set n × (n ≤ 131072) × (64 ≤ room) ⌝ }
+    ensures { λ x. ⌜ toldAsked x (now (list .exit)) ≡ srlgAnswer (srlgs (attributesIn set (now (r .entry)))) (now (list .entry)) ⌝ }
+{
+    if room < n {
+        return answer_in_room(r, set, n, room * 8, list);
+    }
+    if room <= 64 {
+        return answer_few(r, set, n, list);
+    }
+    if room <= 512 {
+        return answer_many(r, set, n, list);
+    }
+    answer_most(r, set, n, list)
+}
+
 // The reply of SRLG, of a run that passed its checks.
 fn answer_srlg(r: &[u8], whom: Subject, list: &mut [u32]) -> Answer
     requires { ⌜ (runVerdict (now r) ≡ accepted) × (numberTooHigh (subjectOf whom) ≡ false) ⌝ }
@@ -74,13 +91,10 @@ fn answer_srlg(r: &[u8], whom: Subject, list: &mut [u32]) -> Answer
 {
     let set = bgpls_values::set_asked(r, whom, 1096);
     let n = bgpls_srlg::count_words(r, set);
-    if n <= 64 {
-        return answer_few(r, set, n, list);
+    if n == 0 {
+        return Answer::Absent;
     }
-    if n <= 2048 {
-        return answer_many(r, set, n, list);
-    }
-    answer_most(r, set, n, list)
+    answer_in_room(r, set, n, 64, list)
 }
 
 // The answer to a question that nothing refuses but 5.
