@@ -171,7 +171,7 @@ module _ (set : Set) (r : List ℕ) (at : ℕ) where
           let m = v .masks l in
           let z = length-bytesAt r (at + 4) n (f .within) in
           let g = v .fixed in
-          record { behind = h; within = f .within; fixed = omega arith; live = l; masks = omega arith; passes = rest-passes; left = sym e ∙ aslas-turn ∙ rw k }
+          record { behind = h; here = p; skipped = e; within = f .within; fixed = omega arith; live = l; masks = omega arith; passes = rest-passes; left = sym e ∙ aslas-turn ∙ rw k }
 
 -- ---- the attributes of a list of elements, whose first byte is at an offset of the run
 

@@ -27,7 +27,7 @@ use Rattle.bgpls_find.specs.declared.Set.{Set}
 use Rattle.bgpls_find.specs.declared.Set.the-variants.{Top, Every, General, Naming}
 use Rattle.bgpls_find.specs.declared.Found.the-variants.{At, Absent}
 use Rattle.bgpls_find.specs.Sets.{isTop, chosenBy, chosen, attributesIn, foundIn}
-use Rattle.bgpls_find.specs.Walks.{rest, Passes, aslasFrom, attributesFrom, IsAsla, IsPart}
+use Rattle.bgpls_find.specs.Walks.{rest, Passes, aslasFrom, attributesFrom, IsAsla, IsPart, Starts}
 use Rattle.bgpls_find.proofs.Set.{the-type}
 use Rattle.bgpls_find.proofs.Laws.{rest-end, passes-end, aslas-end}
 
@@ -125,6 +125,18 @@ module _ (set : Set) (r : List ℕ) (from : ℕ) where
       where
         list : (i j x y : ℕ) → i ≡ x → j ≡ y → take j (drop i r) ≡ bytesAt r x y
         list i j x y p q = ap₂ (λ (i j : ℕ). take j (drop i r)) p q
+
+-- ---- where a set starts
+
+pub starts-run : (set : Set) (r : List ℕ) → runVerdict r ≡ accepted → Starts set r 0
+starts-run set r ok = record { within = omega arith; passes = run-passes r ok; all = from-run set r }
+
+-- At the first 1122 that names an application.
+pub starts-naming : (r : List ℕ) (a at n : ℕ) → IsAsla (Naming a) r 0 at n → Starts (Naming a) r at
+unfolding attributesFrom isTop
+starts-naming r a at n d =
+    let w = d .within in
+    record { within = omega arith; passes = d .here; all = ap (each (λ d. d .attributes)) (d .skipped) ∙ from-run (Naming a) r }
 
 -- ---- what is found in a set
 

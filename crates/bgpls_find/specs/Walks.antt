@@ -11,7 +11,7 @@ use Rattle.linkstate.specs.Elements.{Element, elements, faults}
 use Rattle.linkstate.specs.Attributes.{Attribute}
 use Rattle.linkstate.specs.Sides.{Advertisement}
 use Rattle.linkstate.specs.BgpLs.{sabmLength, udabmLength, aslaHeader, notIgnored, checkTop, attributesOf, advertisementsOf, advertisement}
-use Rattle.bgpls_find.specs.Sets.{isTop, chosen}
+use Rattle.bgpls_find.specs.Sets.{isTop, chosen, attributesIn}
 use Rattle.bgpls_find.specs.declared.Set.{Set}
 use Rattle.bgpls_find.specs.declared.Asla.{Asla}
 use Rattle.bgpls_find.specs.declared.Asla.the-variants as Next
@@ -46,6 +46,8 @@ pub record Sound (v : List ℕ) : Type 0 where
 -- The next 1122 of a set: the offset of its first byte, and the length of its value.
 pub record IsAsla (set : Set) (r : List ℕ) (from at n : ℕ) : Type 0 where
   pub behind : from ≤ at
+  pub here : Passes r at
+  pub skipped : aslasFrom set r at ≡ aslasFrom set r from
   pub within : at + 4 + n ≤ length r
   pub fixed : 4 ≤ n
   pub live : notIgnored (bytesAt r (at + 4) n) ≡ true
@@ -69,3 +71,9 @@ pub record IsPart (set : Set) (r : List ℕ) (from first next : ℕ) : Type 0 wh
 abbrev pub NextPart : Set → List ℕ → ℕ → Part → Type 0
 NextPart set r from (Parts.At first next) = IsPart set r from first next
 NextPart set r from Parts.Absent = attributesFrom set r from ≡ []
+
+-- From a position on, a walk meets all attributes of a set.
+pub record Starts (set : Set) (r : List ℕ) (from : ℕ) : Type 0 where
+  pub within : from ≤ length r
+  pub passes : Passes r from
+  pub all : attributesFrom set r from ≡ attributesIn set r

@@ -8,10 +8,10 @@ ghost use Rattle.linkstate.specs.Lists.{each};
 ghost use Rattle.linkstate.specs.Replies.{accepted};
 ghost use Rattle.linkstate.specs.Elements.{elements};
 ghost use Rattle.linkstate.specs.Attributes.{ofKind};
-ghost use Rattle.linkstate.specs.Sides.{generalSet, applicationSet};
-ghost use Rattle.linkstate.specs.BgpLs.{notIgnored, attributesOf, runVerdict, topLevel, runSide};
+ghost use Rattle.linkstate.specs.Sides.{applicationSet};
+ghost use Rattle.linkstate.specs.BgpLs.{notIgnored, attributesOf, runVerdict, runSide};
 ghost use Rattle.bgpls_find.specs.Sets.{chosenBy, attributesIn, foundIn};
-ghost use Rattle.bgpls_find.specs.Walks.{Passes, Sound, standardMask, userMask, NextAsla, NextPart};
+ghost use Rattle.bgpls_find.specs.Walks.{Passes, Sound, standardMask, userMask, NextAsla, NextPart, Starts};
 use bgpls_check::Frame;
 use bgpls_check::not_ignored;
 use bgpls_check::read_asla_header;
@@ -130,12 +130,19 @@ fn first_element(s: &[u8], base: usize, code: usize) -> Found
     Found::Absent
 }
 
+// A set, and a position of the run before which it has nothing.
+pub struct Start {
+    pub set: Set,
+    pub from: usize,
+}
+
 // The first attribute of a kind in a set.
-pub fn first_in(r: &[u8], set: Set, code: usize) -> Found
-    requires { ⌜ runVerdict (now r) ≡ accepted ⌝ }
-    ensures { λ f. ⌜ f ≡ foundIn (ofKind code (attributesIn set (now (r .entry)))) ⌝ }
+pub fn first_in(r: &[u8], start: Start, code: usize) -> Found
+    requires { ⌜ (runVerdict (now r) ≡ accepted) × Starts (start .set) (now r) (start .from) ⌝ }
+    ensures { λ f. ⌜ f ≡ foundIn (ofKind code (attributesIn (start .set) (now (r .entry)))) ⌝ }
 {
-    let mut from = 0;
+    let set = start.set;
+    let mut from = start.from;
     while from < r.len() {
         let Part::At { first, next } = next_part(r, from, set) else {
             return Found::Absent;
@@ -149,34 +156,18 @@ pub fn first_in(r: &[u8], set: Set, code: usize) -> Found
 }
 
 // The set that an application other than RSVP-TE gets: of those that name it, else the general one.
-pub fn set_of(r: &[u8], application: u32) -> Set
+pub fn set_of(r: &[u8], application: u32) -> Start
     requires { ⌜ runVerdict (now r) ≡ accepted ⌝ }
-    ensures { λ s. ⌜ attributesIn s (now (r .entry)) ≡ applicationSet application (runSide (now (r .entry))) ⌝ }
+    ensures { λ s. ⌜ Starts (s .set) (now (r .entry)) (s .from) × (attributesIn (s .set) (now (r .entry)) ≡ applicationSet application (runSide (now (r .entry)))) ⌝ }
 {
     match next_asla(r, 0, Set::Naming(application)) {
-        Asla::At { at: _, len: _ } => Set::Naming(application),
-        Asla::Absent => Set::General,
+        Asla::At { at, len: _ } => Start {
+            set: Set::Naming(application),
+            from: at,
+        },
+        Asla::Absent => Start {
+            set: Set::General,
+            from: 0,
+        },
     }
-}
-
-// The first attribute of a kind at the top of the run, in the general set, and in the set of an application.
-pub fn first_top(r: &[u8], code: usize) -> Found
-    requires { ⌜ runVerdict (now r) ≡ accepted ⌝ }
-    ensures { λ f. ⌜ f ≡ foundIn (ofKind code (topLevel (now (r .entry)))) ⌝ }
-{
-    first_in(r, Set::Top, code)
-}
-
-pub fn first_general(r: &[u8], code: usize) -> Found
-    requires { ⌜ runVerdict (now r) ≡ accepted ⌝ }
-    ensures { λ f. ⌜ f ≡ foundIn (ofKind code (generalSet (runSide (now (r .entry))))) ⌝ }
-{
-    first_in(r, Set::General, code)
-}
-
-pub fn first_named(r: &[u8], application: u32, code: usize) -> Found
-    requires { ⌜ runVerdict (now r) ≡ accepted ⌝ }
-    ensures { λ f. ⌜ f ≡ foundIn (ofKind code (applicationSet application (runSide (now (r .entry))))) ⌝ }
-{
-    first_in(r, set_of(r, application), code)
 }

@@ -1,17 +1,17 @@
 -- SRLGs of a run from their counted numbers, and the run's source.
 use mathlib.Core.Path.{_≡_, refl, sym, ap, _∙_}
 use mathlib.Core.Bool.{Bool, true, false}
-use mathlib.Core.List.{List}
+use mathlib.Core.List.{List, [], _∷_}
 use Prim.Native.Nat.{ℕ, _-_, _*_, _≤_}
 use native.Mathlib.Omega.{arith}
 use borrow.Author.Tests.{eq-eqb}
 use lib.ListN.{length, take, drop, replicate, length-replicate}
-use Rattle.linkstate.specs.Lists.{put}
+use Rattle.linkstate.specs.Lists.{empty, put}
 use Rattle.linkstate.specs.Bytes.{distinct}
 use Rattle.linkstate.specs.Attributes.{Attribute, srlgs}
-use Rattle.linkstate.specs.Replies.{Verdict, accepted, Run, Asked, Named, listed, unless}
+use Rattle.linkstate.specs.Replies.{Verdict, accepted, Run, Asked, absent, Named, listed, unless}
 use Rattle.linkstate.specs.Masks.{user, asNumber}
-use Rattle.linkstate.specs.Questions.{Subject, given, srlgAnswer, answer, bytesOfFirst, listNamed}
+use Rattle.linkstate.specs.Questions.{Subject, given, unwritten, srlgAnswer, answer, bytesOfFirst, listNamed}
 use Rattle.linkstate.specs.BgpLs.{runVerdict, runSource}
 use Rattle.octets.proofs.Laws.{front-is}
 use Rattle.bgpls_srlg.specs.Words.{srlgWords}
@@ -24,6 +24,15 @@ words-answer x ts n xs after ns list h c w s e =
     let z : n - 0 ≡ n = omega arith in
     let front : take (n - 0) after ≡ srlgWords ts = ap (λ (i : ℕ). take i after) (z ∙ c) ∙ ap (take (length (srlgWords ts))) w ∙ front-is xs (srlgWords ts) (omega arith) in
     e ∙ ap (λ (l : List ℕ). srlgAnswer l list) (s ∙ ap distinct front)
+
+-- Without numbers the answer is absent.
+pub none-answer : (ts : List Attribute) (n : ℕ) (list : List ℕ) → n ≡ length (srlgWords ts) → n ≡ 0 → record { reply = absent; list = list } ≡ srlgAnswer (srlgs ts) list
+unfolding srlgs srlgWords srlgAnswer unwritten distinct empty
+none-answer ts n list c z = go (srlgWords ts) (omega arith)
+  where
+    go : (ws : List ℕ) → length ws ≡ 0 → record { reply = absent; list = list } ≡ srlgAnswer (distinct ws) list
+    go [] h = refl
+    go (w ∷ ws) h = let f : ⊥ = omega arith in absurd f
 
 -- A list of k zeros has room for k numbers.
 pub room : (n k : ℕ) → n ≤ k → n ≤ length {A = ℕ} (replicate k 0)

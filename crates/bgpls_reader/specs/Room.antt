@@ -3,12 +3,11 @@ use mathlib.Core.Path.{_≡_}
 use mathlib.Core.List.{List}
 use Prim.Native.Nat.{ℕ}
 use lib.ListN.{length}
-use Rattle.linkstate.specs.Replies.{accepted}
-use Rattle.linkstate.specs.BgpLs.{runVerdict}
-use Rattle.bgpls_find.specs.declared.Set.{Set}
+use Rattle.bgpls_find.specs.declared.Start.{Start}
 use Rattle.bgpls_find.specs.Sets.{attributesIn}
+use Rattle.bgpls_find.specs.Walks.{Starts}
 use Rattle.bgpls_srlg.specs.Words.{srlgWords}
 
-pub record Counted (r : List ℕ) (set : Set) (n : ℕ) : Type 0 where
-  pub checked : runVerdict r ≡ accepted
-  pub count : n ≡ length (srlgWords (attributesIn set r))
+pub record Counted (r : List ℕ) (start : Start) (n : ℕ) : Type 0 where
+  pub starts : Starts (start .set) r (start .from)
+  pub count : n ≡ length (srlgWords (attributesIn (start .set) r))

@@ -12,7 +12,7 @@ ghost use Rattle.linkstate.specs.BgpLs.{runVerdict, runSource};
 ghost use Rattle.replies.specs.Told.{subjectOf, toldAsked, toldNamed};
 ghost use Rattle.bgpls_find.specs.Sets.{attributesIn};
 ghost use Rattle.bgpls_reader.specs.Room.{Counted};
-use bgpls_find::Set;
+use bgpls_find::Start;
 use replies::Answer;
 use replies::Checked;
 use replies::Named;
@@ -21,50 +21,67 @@ use replies::Subject;
 // The reply of SRLG: the numbers of a set go into one list, are sorted into another, and are counted before any is written. tmp is room to work in.
 fn answer_words(
     r: &[u8],
-    set: Set,
+    start: Start,
     n: usize,
     list: &mut [u32],
     xs: &mut [u32],
     out: &mut [u32],
     tmp: &mut [u32],
 ) -> Answer
-    requires { ⌜ Counted (now r) set n × (n ≤ length (now xs)) × (n ≤ length (now out)) × (n ≤ length (now tmp)) ⌝ }
-    ensures { λ x. ⌜ toldAsked x (now (list .exit)) ≡ srlgAnswer (srlgs (attributesIn set (now (r .entry)))) (now (list .entry)) ⌝ }
+    requires { ⌜ Counted (now r) start n × (n ≤ length (now xs)) × (n ≤ length (now out)) × (n ≤ length (now tmp)) ⌝ }
+    ensures { λ x. ⌜ toldAsked x (now (list .exit)) ≡ srlgAnswer (srlgs (attributesIn (start .set) (now (r .entry)))) (now (list .entry)) ⌝ }
 {
-    bgpls_srlg::write_words(r, set, xs);
+    bgpls_srlg::write_words(r, start, n, xs);
     let k = srlg_sort::sort_distinct(&xs[0..n], out, tmp);
     answering::answer_front(out, k, list)
 }
 
-// With room for few numbers, for those of a large link, and for as many as a run can have.
-fn answer_few(r: &[u8], set: Set, n: usize, list: &mut [u32]) -> Answer
-    requires { ⌜ Counted (now r) set n × (n ≤ 64) ⌝ }
-    ensures { λ x. ⌜ toldAsked x (now (list .exit)) ≡ srlgAnswer (srlgs (attributesIn set (now (r .entry)))) (now (list .entry)) ⌝ }
+// With room for few numbers, for those of most runs, and for as many as a run can have.
+fn answer_few(r: &[u8], start: Start, n: usize, list: &mut [u32]) -> Answer
+    requires { ⌜ Counted (now r) start n × (n ≤ 64) ⌝ }
+    ensures { λ x. ⌜ toldAsked x (now (list .exit)) ≡ srlgAnswer (srlgs (attributesIn (start .set) (now (r .entry)))) (now (list .entry)) ⌝ }
 {
     let mut xs = [0u32; 64];
     let mut out = [0u32; 64];
     let mut tmp = [0u32; 64];
-    answer_words(r, set, n, list, &mut xs, &mut out, &mut tmp)
+    answer_words(r, start, n, list, &mut xs, &mut out, &mut tmp)
 }
 
-fn answer_many(r: &[u8], set: Set, n: usize, list: &mut [u32]) -> Answer
-    requires { ⌜ Counted (now r) set n × (n ≤ 2048) ⌝ }
-    ensures { λ x. ⌜ toldAsked x (now (list .exit)) ≡ srlgAnswer (srlgs (attributesIn set (now (r .entry)))) (now (list .entry)) ⌝ }
+fn answer_many(r: &[u8], start: Start, n: usize, list: &mut [u32]) -> Answer
+    requires { ⌜ Counted (now r) start n × (n ≤ 512) ⌝ }
+    ensures { λ x. ⌜ toldAsked x (now (list .exit)) ≡ srlgAnswer (srlgs (attributesIn (start .set) (now (r .entry)))) (now (list .entry)) ⌝ }
 {
-    let mut xs = [0u32; 2048];
-    let mut out = [0u32; 2048];
-    let mut tmp = [0u32; 2048];
-    answer_words(r, set, n, list, &mut xs, &mut out, &mut tmp)
+    let mut xs = [0u32; 512];
+    let mut out = [0u32; 512];
+    let mut tmp = [0u32; 512];
+    answer_words(r, start, n, list, &mut xs, &mut out, &mut tmp)
 }
 
-fn answer_most(r: &[u8], set: Set, n: usize, list: &mut [u32]) -> Answer
-    requires { ⌜ Counted (now r) set n × (n ≤ 131072) ⌝ }
-    ensures { λ x. ⌜ toldAsked x (now (list .exit)) ≡ srlgAnswer (srlgs (attributesIn set (now (r .entry)))) (now (list .entry)) ⌝ }
+fn answer_most(r: &[u8], start: Start, n: usize, list: &mut [u32]) -> Answer
+    requires { ⌜ Counted (now r) start n × (n ≤ 131072) ⌝ }
+    ensures { λ x. ⌜ toldAsked x (now (list .exit)) ≡ srlgAnswer (srlgs (attributesIn (start .set) (now (r .entry)))) (now (list .entry)) ⌝ }
 {
     let mut xs = [0u32; 131072];
     let mut out = [0u32; 131072];
     let mut tmp = [0u32; 131072];
-    answer_words(r, set, n, list, &mut xs, &mut out, &mut tmp)
+    answer_words(r, start, n, list, &mut xs, &mut out, &mut tmp)
+}
+
+// With eight times the room until it is enough. The call of itself keeps the large arrays apart: without it the compiler lays them into the frame of every question, whose pages are touched one by one.
+fn answer_in_room(r: &[u8], start: Start, n: usize, room: usize, list: &mut [u32]) -> Answer
+    requires { ⌜ Counted (now r) start n × (n ≤ 131072) × (64 ≤ room) ⌝ }
+    ensures { λ x. ⌜ toldAsked x (now (list .exit)) ≡ srlgAnswer (srlgs (attributesIn (start .set) (now (r .entry)))) (now (list .entry)) ⌝ }
+{
+    if room < n {
+        return answer_in_room(r, start, n, room * 8, list);
+    }
+    if room <= 64 {
+        return answer_few(r, start, n, list);
+    }
+    if room <= 512 {
+        return answer_many(r, start, n, list);
+    }
+    answer_most(r, start, n, list)
 }
 
 // The reply of SRLG, of a run that passed its checks.
@@ -72,15 +89,12 @@ fn answer_srlg(r: &[u8], whom: Subject, list: &mut [u32]) -> Answer
     requires { ⌜ (runVerdict (now r) ≡ accepted) × (numberTooHigh (subjectOf whom) ≡ false) ⌝ }
     ensures { λ x. ⌜ toldAsked x (now (list .exit)) ≡ srlgAnswer (srlgs (given (runSource (now (r .entry))) (subjectOf whom) 1096)) (now (list .entry)) ⌝ }
 {
-    let set = bgpls_values::set_asked(r, whom, 1096);
-    let n = bgpls_srlg::count_words(r, set);
-    if n <= 64 {
-        return answer_few(r, set, n, list);
+    let start = bgpls_values::set_asked(r, whom, 1096);
+    let n = bgpls_srlg::count_words(r, start);
+    if n == 0 {
+        return Answer::Absent;
     }
-    if n <= 2048 {
-        return answer_many(r, set, n, list);
-    }
-    answer_most(r, set, n, list)
+    answer_in_room(r, start, n, 64, list)
 }
 
 // The answer to a question that nothing refuses but 5.

@@ -4,8 +4,8 @@ use mathlib.Core.Bool.{Bool, true, false, cond}
 use mathlib.Core.List.{List, [], _∷_, _++_, map}
 use Prim.Native.Nat.{ℕ, _+_, _-_, _≤_, _<_}
 use native.Mathlib.Omega.{arith}
-use borrow.Author.Tests.{eq-eqb, ne-eqb}
-use lib.Dec.{eqb}
+use borrow.Author.Tests.{eq-eqb, ne-eqb, ltb-true, ltb-false}
+use lib.Dec.{eqb, ltb}
 use lib.ListN.{length, take, drop, length-append}
 use Rattle.linkstate.specs.Lists.{keep, each, put}
 use Rattle.linkstate.specs.Bytes.{words, bytesAt}
@@ -20,7 +20,6 @@ use Rattle.bgpls_check.specs.declared.Frame.the-variants.{Cut}
 use Rattle.bgpls_check.specs.Framing.{frameAt}
 use Rattle.bgpls_check.proofs.Laws.{IsWhole}
 use Rattle.bgpls_find.specs.declared.Set.{Set}
-use Rattle.bgpls_find.specs.Sets.{attributesIn}
 use Rattle.bgpls_find.specs.Walks.{attributesFrom, IsPart}
 use Rattle.bgpls_find.proofs.Laws.{attributes-end, attributes-cut, attributes-turn}
 use Rattle.bgpls_find.proofs.SetLaws as Set
@@ -113,8 +112,17 @@ module _ (set : Set) (r : List ℕ) (from : ℕ) where
       ∙ srlg-append (each attributesOf (elements 2 first (take (next - first) (drop first r)))) (attributesFrom set r next)
       ∙ ap (λ (l : List ℕ). l ++ srlgWords (attributesFrom set r next)) (list-words first (take (next - first) (drop first r)))
 
-pub set-start : (set : Set) (r : List ℕ) → srlgWords (attributesFrom set r 0) ≡ srlgWords (attributesIn set r)
-set-start set r = ap srlgWords (Set.from-run set r)
+-- Where numbers are left, the run has not ended.
+pub set-more : (set : Set) (r : List ℕ) (from : ℕ) → 0 < length (srlgWords (attributesFrom set r from)) → from < length r
+set-more set r from h = go (ltb from (length r)) refl
+  where
+    go : (b : Bool) → ltb from (length r) ≡ b → from < length r
+    go true e = ltb-true from (length r) e
+    go false e = let z : ⊥ = omega (arith, ap length (set-end set r from (ltb-false from (length r) e))) in absurd z
+
+pub none-left : (l : List ℕ) → length l ≡ 0 → l ≡ []
+none-left [] h = refl
+none-left (x ∷ l) h = let z : ⊥ = omega arith in absurd z
 
 -- ---- counted
 

@@ -6,11 +6,12 @@ ghost use Rattle.linkstate.specs.Lists.{put};
 ghost use Rattle.linkstate.specs.Replies.{accepted};
 ghost use Rattle.linkstate.specs.BgpLs.{runVerdict};
 ghost use Rattle.bgpls_find.specs.Sets.{attributesIn};
+ghost use Rattle.bgpls_find.specs.Walks.{Starts};
 ghost use Rattle.bgpls_srlg.specs.Words.{srlgWords, listWords, elementWords};
 use bgpls_check::Frame;
 use bgpls_check::read_frame;
 use bgpls_find::Part;
-use bgpls_find::Set;
+use bgpls_find::Start;
 use bgpls_find::next_part;
 
 // How many numbers an element has.
@@ -42,12 +43,13 @@ fn count_list(s: &[u8]) -> usize
 }
 
 // How many numbers a set has: the room that they need.
-pub fn count_words(r: &[u8], set: Set) -> usize
-    requires { ⌜ runVerdict (now r) ≡ accepted ⌝ }
-    ensures { λ n. ⌜ (n ≡ length (srlgWords (attributesIn set (now (r .entry))))) × (n * 4 ≤ length (now (r .entry))) ⌝ }
+pub fn count_words(r: &[u8], start: Start) -> usize
+    requires { ⌜ (runVerdict (now r) ≡ accepted) × Starts (start .set) (now r) (start .from) ⌝ }
+    ensures { λ n. ⌜ (n ≡ length (srlgWords (attributesIn (start .set) (now (r .entry))))) × (n * 4 ≤ length (now (r .entry))) ⌝ }
 {
+    let set = start.set;
     let mut n = 0;
-    let mut from = 0;
+    let mut from = start.from;
     while from < r.len() {
         let Part::At { first, next } = next_part(r, from, set) else {
             return n;
@@ -88,19 +90,19 @@ fn write_list(s: &[u8], out: &mut [u32], start: usize) -> usize
     k
 }
 
-// The numbers of a set, written to the front of the list; how many there are.
-pub fn write_words(r: &[u8], set: Set, out: &mut [u32]) -> usize
-    requires { ⌜ (runVerdict (now r) ≡ accepted) × (length (srlgWords (attributesIn set (now r))) ≤ length (now out)) ⌝ }
-    ensures { λ n. ⌜ (n ≡ length (srlgWords (attributesIn set (now (r .entry))))) × (now (out .exit) ≡ put (now (out .entry)) 0 (srlgWords (attributesIn set (now (r .entry))))) ⌝ }
+// The n numbers of a set, written to the front of the list.
+pub fn write_words(r: &[u8], start: Start, n: usize, out: &mut [u32])
+    requires { ⌜ Starts (start .set) (now r) (start .from) × (n ≡ length (srlgWords (attributesIn (start .set) (now r)))) × (n ≤ length (now out)) ⌝ }
+    ensures { λ _. ⌜ now (out .exit) ≡ put (now (out .entry)) 0 (srlgWords (attributesIn (start .set) (now (r .entry)))) ⌝ }
 {
+    let set = start.set;
     let mut k = 0;
-    let mut from = 0;
-    while from < r.len() {
+    let mut from = start.from;
+    while k < n {
         let Part::At { first, next } = next_part(r, from, set) else {
-            return k;
+            return;
         };
         k = write_list(&r[first..next], out, k);
         from = next;
     }
-    k
 }

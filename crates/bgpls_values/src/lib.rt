@@ -11,25 +11,36 @@ ghost use Rattle.linkstate.specs.Questions.{numberTooHigh, given, firstOf, byte
 ghost use Rattle.linkstate.specs.BgpLs.{runVerdict, runSource};
 ghost use Rattle.replies.specs.Told.{subjectOf, toldAnswer};
 ghost use Rattle.bgpls_find.specs.Sets.{attributesIn, foundIn};
+ghost use Rattle.bgpls_find.specs.Walks.{Starts};
 use bgpls_find::Found;
 use bgpls_find::Set;
+use bgpls_find::Start;
 use replies::Answer;
 use replies::Run;
 use replies::Subject;
 
 // The set of attributes that a question is about.
-pub fn set_asked(r: &[u8], whom: Subject, code: usize) -> Set
+pub fn set_asked(r: &[u8], whom: Subject, code: usize) -> Start
     requires { ⌜ (runVerdict (now r) ≡ accepted) × (numberTooHigh (subjectOf whom) ≡ false) ⌝ }
-    ensures { λ s. ⌜ attributesIn s (now (r .entry)) ≡ given (runSource (now (r .entry))) (subjectOf whom) code ⌝ }
+    ensures { λ s. ⌜ Starts (s .set) (now (r .entry)) (s .from) × (attributesIn (s .set) (now (r .entry)) ≡ given (runSource (now (r .entry))) (subjectOf whom) code) ⌝ }
 {
     if answering::is_link_code(code) {
-        return Set::Top;
+        return Start {
+            set: Set::Top,
+            from: 0,
+        };
     }
     match whom {
-        Subject::General => Set::General,
+        Subject::General => Start {
+            set: Set::General,
+            from: 0,
+        },
         Subject::Standard(n) => {
             if n == 0 {
-                return Set::Top;
+                return Start {
+                    set: Set::Top,
+                    from: 0,
+                };
             }
             bgpls_find::set_of(r, n)
         }
@@ -42,8 +53,8 @@ pub fn find_value(r: &[u8], whom: Subject, code: usize) -> Found
     requires { ⌜ (runVerdict (now r) ≡ accepted) × (numberTooHigh (subjectOf whom) ≡ false) ⌝ }
     ensures { λ f. ⌜ f ≡ foundIn (ofKind code (given (runSource (now (r .entry))) (subjectOf whom) code)) ⌝ }
 {
-    let set = set_asked(r, whom, code);
-    bgpls_find::first_in(r, set, code)
+    let start = set_asked(r, whom, code);
+    bgpls_find::first_in(r, start, code)
 }
 
 // The reply of a kind other than SRLG.

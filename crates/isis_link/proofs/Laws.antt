@@ -1,25 +1,26 @@
 -- What an accepted link gives to those who read its runs, and its named applications from the numbers of both sides.
 use mathlib.Core.Path.{_≡_, refl, sym, ap, ap₂, _∙_}
-use mathlib.Core.Bool.{Bool, true, false, _&&_, _||_, not}
-use mathlib.Core.List.{List}
+use mathlib.Core.Bool.{Bool, true, false, cond, _&&_, _||_, not}
+use mathlib.Core.List.{List, [], _∷_}
 use Prim.Native.Nat.{ℕ, zero, suc, _+_, _-_, _^_, _≤_, _<_}
 use native.Mathlib.Omega.{arith}
 use native.Mathlib.Nat.{div-eq-of-lt}
 use borrow.Author.Tests.{eqb-true, ne-eqb, le-ltb, ltb-false}
 use lib.Dec.{eqb, ltb}
 use lib.ListN.{length, take, drop}
-use Rattle.linkstate.specs.Lists.{member, numbers}
+use Rattle.linkstate.specs.Lists.{empty, member, numbers}
 use Rattle.linkstate.specs.Masks.{user, others, inNumber, asNumber}
-use Rattle.linkstate.specs.Replies.{Verdict, Asked, unless, accepted, refusedIf, faultOfCall, fault, _then_, runA, runB, listed, Named}
+use Rattle.linkstate.specs.Replies.{Verdict, Asked, absent, unless, accepted, refusedIf, faultOfCall, fault, _then_, runA, runB, listed, Named}
 use Rattle.linkstate.specs.Elements.{elements, faults}
-use Rattle.linkstate.specs.Sides.{named}
-use Rattle.linkstate.specs.Attributes.{Attribute}
-use Rattle.linkstate.specs.Questions.{Source, bytesOfFirst, srlgAnswer, listNamed}
-use Rattle.linkstate.proofs.ListLaws.{or-l, or-r}
+use Rattle.linkstate.specs.Sides.{named, applicationSet, rsvpTeKind}
+use Rattle.linkstate.specs.Attributes.{Attribute, srlgs}
+use Rattle.linkstate.specs.Questions.{Source, Subject, generally, standardNo, userNo, setOf, unwritten, bytesOfFirst, srlgAnswer, listNamed}
+use Rattle.linkstate.proofs.ListLaws.{or-l, or-r, and-l, and-r}
 use Rattle.linkstate.proofs.WalkLaws.{then-first, then-second, unrefused}
 use Rattle.isis.specs.RunA.{checkA, sideA}
 use Rattle.isis.specs.RunB.{checkB, sideB}
 use Rattle.isis.specs.Link.{linkVerdict, linkSource}
+use Rattle.isis.proofs.Computing.{computing}
 use Rattle.masks.proofs.Laws.{is-number}
 use Rattle.rivals.proofs.KindLaws.{standard-other, user-other}
 use Rattle.isis_srlgs.specs.Runs.{Passed}
@@ -112,3 +113,25 @@ module _ (x y j s : ℕ) (p q : ℕ → Bool) where
   pub user-in : ((n : ℕ) → n < 64 → inNumber x n ≡ p n) → ((n : ℕ) → n < 64 → inNumber y n ≡ q n) → ((n : ℕ) → inNumber j n ≡ inNumber x n || inNumber y n)
       → (n : ℕ) → n < 64 → inNumber j n ≡ p n || q n
   user-in hx hy hj n h = hj n ∙ ap₂ (λ (u v : Bool). u || v) (hx n h) (hy n h)
+
+-- Without runs B and C nobody gets an SRLG.
+no-set : (a : List ℕ) (whom : Subject) → srlgs (setOf (linkSource a [] []) whom 1096) ≡ []
+unfolding computing setOf
+no-set a generally = refl
+no-set a (standardNo n) = go (eqb n 0)
+  where
+    go : (z : Bool) → srlgs (cond z (rsvpTeKind 1096 (sideB [] [])) (applicationSet n (sideB [] []))) ≡ []
+    go true = refl
+    go false = refl
+no-set a (userNo n) = refl
+
+pub no-srlgs : (a b c : List ℕ) (whom : Subject) (list : List ℕ) → (eqb (length b) 0 && eqb (length c) 0) ≡ true
+    → record { reply = absent; list = list } ≡ srlgAnswer (srlgs (setOf (linkSource a b c) whom 1096)) list
+unfolding srlgAnswer unwritten empty
+no-srlgs a b c whom list e =
+    go b c (eqb-true (length b) 0 (and-l (eqb (length b) 0) (eqb (length c) 0) e)) (eqb-true (length c) 0 (and-r (eqb (length b) 0) (eqb (length c) 0) e))
+  where
+    go : (x y : List ℕ) → length x ≡ 0 → length y ≡ 0 → record { reply = absent; list = list } ≡ srlgAnswer (srlgs (setOf (linkSource a x y) whom 1096)) list
+    go [] [] h k = sym (ap (λ (ns : List ℕ). srlgAnswer ns list) (no-set a whom))
+    go [] (v ∷ y) h k = let z : ⊥ = omega arith in absurd z
+    go (v ∷ x) y h k = let z : ⊥ = omega arith in absurd z

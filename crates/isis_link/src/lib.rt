@@ -16,11 +16,14 @@ use replies::Checked;
 use replies::Named;
 use replies::Subject;
 
-// The reply of SRLG, of a link that passed its checks.
+// The reply of SRLG, of a link that passed its checks. Without TLVs 238 and legacy values there is none.
 fn answer_srlg(b: &[u8], c: &[u8], whom: Subject, list: &mut [u32]) -> Answer
     requires { ⌜ Passed (now b) (now c) × (numberTooHigh (subjectOf whom) ≡ false) ⌝ }
     ensures { λ r. ⌜ ((a : List ℕ) → toldAsked r (now (list .exit)) ≡ srlgAnswer (srlgs (setOf (linkSource a (now (b .entry)) (now (c .entry))) (subjectOf whom) 1096)) (now (list .entry))) ⌝ }
 {
+    if (b.len() == 0) & (c.len() == 0) {
+        return Answer::Absent;
+    }
     let mut ns = [0u32; 512];
     let k = isis_srlgs::srlgs_of(b, c, whom, &mut ns);
     answering::answer_front(&ns, k, list)

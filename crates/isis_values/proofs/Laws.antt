@@ -1,7 +1,7 @@
 -- The row of a kind in what a question to an accepted link is given, and that the value stands there, with a length that can be read.
 use mathlib.Core.Path.{_≡_, refl, sym, ap, ap₂, _∙_, subst}
 use mathlib.Core.Bool.{Bool, true, false, cond, _&&_, _||_, not}
-use mathlib.Core.List.{List, [], _∷_, _++_, map}
+use mathlib.Core.List.{List, [], _∷_, _++_}
 use Prim.Native.Nat.{ℕ, zero, suc, _+_, _-_, _≤_, _<_}
 use native.Mathlib.Omega.{arith}
 use borrow.Author.Tests.{eq-eqb, ne-eqb, eqb-true, ltb-false}
@@ -37,31 +37,30 @@ use Rattle.readings.proofs.Lengths.{readable-in-a}
 use Rattle.answering.specs.Rows.{ReadableRow, rowAnswer}
 use Rattle.answering.proofs.Laws.{first-absent, first-present}
 use Rattle.isis_grids.specs.declared.Which.the-variants as W
-use Rattle.isis_grids.specs.Grid.{firstRow, rowOf, gridOf, bgplsValue, wrongOfCode}
+use Rattle.isis_grids.specs.Grid.{firstRow, rowOf, bgplsValue, wrongOfCode}
 use Rattle.isis_grids.specs.Selected.{selects}
 use Rattle.isis_grids.proofs.Grids.{All}
 use Rattle.isis_grids.proofs.Places.{Stands, First, absent, present, first-of, some-bytes, within}
-use Rattle.isis_sets.specs.Sets.{rsvpTeGrid}
 use Rattle.isis_sets.proofs.Stand.{all-cond, general-stands, application-stands, rsvp-te-stands, bandwidth-stands}
-use Rattle.isis_values.specs.Rows.{gridAsked}
+use Rattle.isis_values.specs.Rows.{rowAsked}
 
--- ---- the grid of a subject
+-- ---- the row of a subject
 
-module _ (a : List ℕ) (whom : Whom) (g : List (List ℕ)) where
-  pub asks-general : whom ≡ General → g ≡ gridOf (generalSet (sideA a)) → g ≡ gridAsked a (subjectOf whom)
-  unfolding gridAsked
+module _ (a : List ℕ) (whom : Whom) (row : List ℕ) (k : ℕ) where
+  pub asks-general : whom ≡ General → row ≡ rowOf k (generalSet (sideA a)) → row ≡ rowAsked a (subjectOf whom) k
+  unfolding rowAsked
   asks-general w e = rw w e
 
-  pub asks-rsvp-te : (n : ℕ) → whom ≡ Standard n → n ≡ 0 → g ≡ rsvpTeGrid (sideA a) → g ≡ gridAsked a (subjectOf whom)
-  unfolding gridAsked
+  pub asks-rsvp-te : (n : ℕ) → whom ≡ Standard n → n ≡ 0 → row ≡ rowOf k (rsvpTeKind k (sideA a)) → row ≡ rowAsked a (subjectOf whom) k
+  unfolding rowAsked
   asks-rsvp-te n w z e = rw (w, z) e
 
-  pub asks-standard : (n : ℕ) → whom ≡ Standard n → (n ≡ 0 → ⊥) → g ≡ gridOf (applicationSet n (sideA a)) → g ≡ gridAsked a (subjectOf whom)
-  unfolding gridAsked
+  pub asks-standard : (n : ℕ) → whom ≡ Standard n → (n ≡ 0 → ⊥) → row ≡ rowOf k (applicationSet n (sideA a)) → row ≡ rowAsked a (subjectOf whom) k
+  unfolding rowAsked
   asks-standard n w z e = rw (w, ne-eqb n 0 z) e
 
-  pub asks-user : (n : ℕ) → whom ≡ User n → g ≡ gridOf (applicationSet (64 + n) (sideA a)) → g ≡ gridAsked a (subjectOf whom)
-  unfolding gridAsked user
+  pub asks-user : (n : ℕ) → whom ≡ User n → row ≡ rowOf k (applicationSet (64 + n) (sideA a)) → row ≡ rowAsked a (subjectOf whom) k
+  unfolding rowAsked user
   asks-user n w e = rw w e
 
 pub low-user : (whom : Whom) (n : ℕ) → whom ≡ User n → numberTooHigh (subjectOf whom) ≡ false → n ≤ 63
@@ -70,36 +69,21 @@ low-user whom n e h = omega (arith, ltb-false 63 n (sym (ap (λ (w : Whom). numb
 
 -- ---- rows
 
--- The element of a list that is mapped.
-at-map : (f : ℕ → List ℕ) (cs : List ℕ) (i : ℕ) → i < length cs → getD (map f cs) i [] ≡ f (getD cs i 0)
-at-map f [] i h = absurd (omega arith)
-at-map f (c ∷ cs) zero h = refl
-at-map f (c ∷ cs) (suc i) h = at-map f cs i (omega arith)
-
-ten : length gridCodes ≡ 10
-unfolding kinds-computing
-ten = refl
-
--- The row of an application's kind, in the subject's grid.
-module _ (a b c : List ℕ) (whom : Subject) (k i : ℕ) (e : KindOfCode (Application i) k) (s : eqb k 1096 ≡ false) (l : isLinkCode k ≡ false) where
-  row-of : (f : ℕ → List Attribute) → getD (map (λ x. rowOf x (f x)) gridCodes) i [] ≡ rowOf k (f k)
-  row-of f = at-map (λ x. rowOf x (f x)) gridCodes i (omega (arith, ten, e .0)) ∙ ap (λ (x : ℕ). rowOf x (f x)) (sym (e .1))
-
-  set-row : (w : Subject) → getD (gridAsked a w) i [] ≡ rowOf k (setOf (linkSource a b c) w k)
-  unfolding gridAsked gridOf rsvpTeGrid setOf linkSource sideOf
-  set-row generally = rw s (row-of (λ x. generalSet (sideA a)))
+-- The row of an application's kind.
+module _ (a b c : List ℕ) (k i : ℕ) (e : KindOfCode (Application i) k) (s : eqb k 1096 ≡ false) (l : isLinkCode k ≡ false) where
+  set-row : (w : Subject) → rowAsked a w k ≡ rowOf k (setOf (linkSource a b c) w k)
+  unfolding rowAsked setOf linkSource sideOf
+  set-row generally = rw s
   set-row (standardNo n) = rw s (go (eqb n 0))
     where
-      go : (z : Bool)
-          → getD (cond z (map (λ x. rowOf x (rsvpTeKind x (sideA a))) gridCodes) (map (λ x. rowOf x (applicationSet n (sideA a))) gridCodes)) i []
-          ≡ rowOf k (cond z (rsvpTeKind k (sideA a)) (applicationSet n (sideA a)))
-      go true = row-of (λ x. rsvpTeKind x (sideA a))
-      go false = row-of (λ x. applicationSet n (sideA a))
-  set-row (userNo n) = rw s (row-of (λ x. applicationSet (user n) (sideA a)))
+      go : (z : Bool) → cond z (rowOf k (rsvpTeKind k (sideA a))) (rowOf k (applicationSet n (sideA a))) ≡ rowOf k (cond z (rsvpTeKind k (sideA a)) (applicationSet n (sideA a)))
+      go true = refl
+      go false = refl
+  set-row (userNo n) = rw s
 
-  pub grid-row : getD (gridAsked a whom) i [] ≡ rowOf k (given (linkSource a b c) whom k)
+  pub given-row : (w : Subject) → rowAsked a w (getD gridCodes i 0) ≡ rowOf k (given (linkSource a b c) w k)
   unfolding given
-  grid-row = rw l (set-row whom)
+  given-row w = ap (rowAsked a w) (sym (e .1)) ∙ rw l (set-row w)
 
 -- The row of one of the link's kinds.
 pub link-row : (a b c : List ℕ) (whom : Subject) (k : ℕ) → isLinkCode k ≡ true → rowOf k (bandwidthKind k (sideA a)) ≡ rowOf k (given (linkSource a b c) whom k)

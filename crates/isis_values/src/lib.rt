@@ -1,9 +1,10 @@
 // The values that questions to an IS-IS link find in its run A, where the link passed its checks: every kind but SRLG.
 ghost use mathlib.Core.Path.{_≡_};
 ghost use mathlib.Core.Bool.{true, false};
-ghost use mathlib.Core.List.{List, map};
-ghost use Prim.Native.Nat.{ℕ};
+ghost use mathlib.Core.List.{List};
+ghost use Prim.Native.Nat.{ℕ, _<_};
 ghost use lib.Dec.{eqb};
+ghost use lib.ListN.{getD};
 ghost use Rattle.linkstate.specs.Replies.{accepted, runA};
 ghost use Rattle.linkstate.specs.Elements.{elements, faults};
 ghost use Rattle.linkstate.specs.Kinds.{isCode};
@@ -12,27 +13,28 @@ ghost use Rattle.linkstate.specs.Questions.{numberTooHigh, given, firstOf, byte
 ghost use Rattle.isis.specs.RunA.{checkA};
 ghost use Rattle.isis.specs.Link.{linkSource};
 ghost use Rattle.replies.specs.Told.{subjectOf, toldAnswer};
+ghost use Rattle.kinds.specs.Rules.{gridCodes};
 ghost use Rattle.isis_grids.specs.Grid.{rowOf};
-ghost use Rattle.isis_values.specs.Rows.{gridAsked};
+ghost use Rattle.isis_values.specs.Rows.{rowAsked};
 use kinds::Kind;
 use replies::Answer;
 use replies::Run;
 use replies::Subject;
 
-// The set of a subject on side A, as a grid.
-pub fn subject_grid(a: &[u8], whom: Subject) -> [[usize; 2]; 10]
-    requires { ⌜ (faults runA checkA (elements 1 0 (now a)) ≡ accepted) × (numberTooHigh (subjectOf whom) ≡ false) ⌝ }
-    ensures { λ r. ⌜ r ≡ gridAsked (now (a .entry)) (subjectOf whom) ⌝ }
+// Place and length of the value of a kind, by its row, in the set of a subject on side A; place 0 where there is none.
+fn subject_row(a: &[u8], whom: Subject, k: usize) -> [usize; 2]
+    requires { ⌜ (k < 10) × (faults runA checkA (elements 1 0 (now a)) ≡ accepted) × (numberTooHigh (subjectOf whom) ≡ false) ⌝ }
+    ensures { λ r. ⌜ r ≡ rowAsked (now (a .entry)) (subjectOf whom) (getD gridCodes k 0) ⌝ }
 {
     match whom {
-        Subject::General => isis_sets::general_grid(a),
+        Subject::General => isis_sets::general_row(a, k),
         Subject::Standard(n) => {
             if n == 0 {
-                return isis_sets::rsvp_te_grid(a);
+                return isis_sets::rsvp_te_row(a, k);
             }
-            isis_sets::application_grid(a, n)
+            isis_sets::application_row(a, n, k)
         }
-        Subject::User(n) => isis_sets::application_grid(a, 64 + n),
+        Subject::User(n) => isis_sets::application_row(a, 64 + n, k),
     }
 }
 
@@ -44,10 +46,7 @@ pub fn find_row(a: &[u8], whom: Subject, code: usize) -> [usize; 2]
     let kind = kinds::classify_code(code).kind;
     match kind {
         Kind::Link(_) => isis_sets::bandwidth_row(a, code),
-        Kind::Application(i) => {
-            let g = subject_grid(a, whom);
-            g[i]
-        }
+        Kind::Application(k) => subject_row(a, whom, k),
         Kind::Srlg => [0usize; 2],
         Kind::Asla => [0usize; 2],
         Kind::Unknown => [0usize; 2],

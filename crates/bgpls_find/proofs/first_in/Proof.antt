@@ -1,5 +1,5 @@
 -- `bgpls_find::first_in` meets its contract: no list that was passed has the kind.
-use Rattle.bgpls_find.proofs.SetLaws.{run-passes, from-run, attributes-end, found-first, found-later, found-none, part-within}
+use Rattle.bgpls_find.proofs.SetLaws.{attributes-end, found-first, found-later, found-none, part-within}
 use Rattle.bgpls_find.specs.Walks.{Passes, attributesFrom, IsPart, NextPart}
 use Rattle.bgpls_find.specs.Sets.{attributesIn, foundIn}
 use Rattle.bgpls_find.specs.declared.Set.{Set}
@@ -18,17 +18,17 @@ use Rattle.bgpls_find.proofs.first_element.Reads as first-element-reads
 use Rattle.bgpls_find.proofs.next_part.Reads as next-part-reads
 
 abbrev Inv-loop : tie.InvT-loop
-Inv-loop r set code from₀ from = (from ≤ length r) × Passes r from × (foundIn (ofKind code (attributesFrom set r from)) ≡ foundIn (ofKind code (attributesIn set r)))
+Inv-loop r code set from₀ from = (from ≤ length r) × Passes r from × (foundIn (ofKind code (attributesFrom set r from)) ≡ foundIn (ofKind code (attributesIn set r)))
 
 abbrev μ-loop : tie.MeasureT-loop
-μ-loop r set code from₀ from = length r - from
+μ-loop r code set from₀ from = length r - from
 
 abbrev Known : Type 0
 Known = lts.After-known-told (next-part-reads.Asked, next-part-reads.Learnt, first-element-reads.Asked, first-element-reads.Learnt) reads.Pre reads.Post Inv-loop μ-loop
 
 -- The set, the run, and the list of elements that was found in it.
 abbrev which : Known → Set
-which k = k .before .before .before .before .before .before .before .args .set
+which k = k .before .before .before .before .before .before .before .args .start .set
 
 abbrev run : Known → List ℕ
 run k = k .before .before .before .before .before .before .before .args .r .now
@@ -48,7 +48,7 @@ part k = subst (NextPart (which k) (run k) (place k)) (k .before .first .given .
 loop-holds : tie.Need-loop-holds Inv-loop μ-loop
 loop-holds c =
     let a = c .before .args in
-    (omega arith, run-passes (a .r .now) (c .before .pre), ap (λ (ts : List Attribute). foundIn (ofKind (a .code) ts)) (from-run (a .set) (a .r .now)))
+    let p = c .before .pre .1 in (p .within, p .passes, ap (λ (ts : List Attribute). foundIn (ofKind (a .code) ts)) (p .all))
 
 next-part-requires : tie.Need-next-part-requires Inv-loop μ-loop
 next-part-requires c κs = (c .loop-test .taken, c .before .loop .inv .1)
@@ -64,7 +64,7 @@ returns c =
     let m = c .before .before in
     let l = m .before .before .loop in
     let a = m .before .before .before .before .args in
-    found-none (a .code) _ (subst (NextPart (a .set) (a .r .now) (l .from)) (c .enum-told .given .1) (m .next-part .ensures)) ∙ l .inv .2
+    found-none (a .code) _ (subst (NextPart (a .start .set) (a .r .now) (l .from)) (c .enum-told .given .1) (m .next-part .ensures)) ∙ l .inv .2
 
 sub-first-element : tie.Need-sub-first-element Inv-loop μ-loop
 sub-first-element c = let p = part c in omega arith
@@ -78,7 +78,7 @@ part-first-element-end c = let p = part c in omega arith
 first-element-requires : tie.Need-first-element-requires Inv-loop μ-loop
 first-element-requires c κs =
     let k = c .before in
-    part-within (run k) (first k) (next k) (part k .order) (part k .within) (k .before .before .before .before .before .before .before .pre)
+    part-within (run k) (first k) (next k) (part k .order) (part k .within) (k .before .before .before .before .before .before .before .pre .0)
 
 enum-known-place : tie.Need-enum-known-place Inv-loop μ-loop
 enum-known-place c = search needs
@@ -108,7 +108,7 @@ returns-3 : tie.Need-returns-3 Inv-loop μ-loop
 returns-3 c =
     let l = c .before .loop in
     let a = c .before .before .before .args in
-    found-none (a .code) _ (attributes-end (a .set) (a .r .now) (l .from) (omega arith)) ∙ l .inv .2
+    found-none (a .code) _ (attributes-end (a .start .set) (a .r .now) (l .from) (omega arith)) ∙ l .inv .2
 
 pub first-in-spec : {M : Type 1} → statement M
 first-in-spec =

@@ -36,7 +36,7 @@ same-length-4 c = search needs
 
 returns : tie.Need-returns
 returns c = let a = c .before .before .before .before .before .before .before .before .before .before .before .before .before .before .before .before .before .before .before .before .before .before .before .args in let w = c .before .before .before .before .before .before .before .before .before .before .before .before .before .before .before .before .write-words .ensures in
-    words-answer _ _ (a .n) (a .xs .now) _ _ _ (c .before .before .before .before .before .before .before .before .before .before .before .before .before .before .before .before .before .before .before .before .before .before .before .pre .1) (c .before .before .before .before .before .before .before .before .before .before .before .before .before .before .before .before .before .before .before .before .before .before .before .pre .0 .count) (w .1) (c .before .before .before .before .before .before .before .before .before .sort-distinct .ensures .0) (c .before .before .answer-front .ensures)
+    words-answer _ _ (a .n) (a .xs .now) _ _ _ (c .before .before .before .before .before .before .before .before .before .before .before .before .before .before .before .before .before .before .before .before .before .before .before .pre .1) (c .before .before .before .before .before .before .before .before .before .before .before .before .before .before .before .before .before .before .before .before .before .before .before .pre .0 .count) w (c .before .before .before .before .before .before .before .before .before .sort-distinct .ensures .0) (c .before .before .answer-front .ensures)
 
 pub answer-words-spec : {M : Type 1} → statement M
 answer-words-spec =

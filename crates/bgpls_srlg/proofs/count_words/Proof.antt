@@ -1,11 +1,11 @@
 -- `bgpls_srlg::count_words` meets its contract: with what is left, all are counted.
-use Rattle.bgpls_srlg.proofs.Laws.{set-start, set-turn, set-none, set-end, Counted, count-start, count-next, count-end}
+use Rattle.bgpls_srlg.proofs.Laws.{set-turn, set-none, set-end, Counted, count-start, count-next, count-end}
 use Rattle.bgpls_srlg.specs.Words.{srlgWords, listWords}
-use Rattle.bgpls_find.proofs.SetLaws.{run-passes, part-size}
+use Rattle.bgpls_find.proofs.SetLaws.{part-size}
 use Rattle.bgpls_find.specs.Walks.{Passes, attributesFrom, IsPart, NextPart}
 use Rattle.bgpls_find.specs.Sets.{attributesIn}
 use Rattle.bgpls_find.specs.declared.Set.{Set}
-use mathlib.Core.Path.{_≡_, subst}
+use mathlib.Core.Path.{_≡_, ap, subst}
 use lib.ListN.{length, take, drop}
 use borrow.Author.Needs.{needs}
 use native.Mathlib.Omega.{arith}
@@ -29,7 +29,7 @@ Known = lts.After-known-told (next-part-reads.Asked, next-part-reads.Learnt, cou
 
 -- The set, the run, the position, and the list of elements that was found.
 abbrev which : Known → Set
-which k = k .before .before .before .before .before .before .before .args .set
+which k = k .before .before .before .before .before .before .before .args .start .set
 
 abbrev run : Known → List ℕ
 run k = k .before .before .before .before .before .before .before .args .r .now
@@ -57,7 +57,7 @@ turn : (k : Known) → srlgWords (attributesFrom (which k) (run k) (place k)) �
 turn k = set-turn (which k) (run k) (place k) (first k) (next k) (part k)
 
 loop-holds : tie.Need-loop-holds Inv-loop μ-loop
-loop-holds c = let a = c .before .args in (omega arith, omega arith, run-passes (a .r .now) (c .before .pre), count-start _ _ (set-start (a .set) (a .r .now)))
+loop-holds c = let p = c .before .pre .1 in (p .within, omega arith, p .passes, count-start _ _ (ap srlgWords (p .all)))
 
 next-part-requires : tie.Need-next-part-requires Inv-loop μ-loop
 next-part-requires c κs = (c .loop-test .taken, c .before .loop .inv .2)
@@ -73,7 +73,7 @@ returns c =
     let m = c .before .before in
     let l = m .before .before .loop in
     let a = m .before .before .before .before .args in
-    (count-end _ _ (l .n) (l .inv .3) (set-none (a .set) (a .r .now) (l .from) (subst (NextPart (a .set) (a .r .now) (l .from)) (c .enum-told .given .1) (m .next-part .ensures))), omega arith)
+    (count-end _ _ (l .n) (l .inv .3) (set-none (a .start .set) (a .r .now) (l .from) (subst (NextPart (a .start .set) (a .r .now) (l .from)) (c .enum-told .given .1) (m .next-part .ensures))), omega arith)
 
 sub-count-list : tie.Need-sub-count-list Inv-loop μ-loop
 sub-count-list c = let p = part c in omega arith
@@ -108,7 +108,7 @@ returns-2 : tie.Need-returns-2 Inv-loop μ-loop
 returns-2 c =
     let l = c .before .loop in
     let a = c .before .before .before .args in
-    (count-end _ _ (l .n) (l .inv .3) (set-end (a .set) (a .r .now) (l .from) (omega arith)), omega arith)
+    (count-end _ _ (l .n) (l .inv .3) (set-end (a .start .set) (a .r .now) (l .from) (omega arith)), omega arith)
 
 pub count-words-spec : {M : Type 1} → statement M
 count-words-spec =

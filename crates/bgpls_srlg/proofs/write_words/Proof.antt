@@ -1,11 +1,10 @@
--- `bgpls_srlg::write_words` meets its contract: with what is left, all are written.
-use Rattle.bgpls_srlg.proofs.Laws.{set-start, set-turn, set-none, set-end, Written, written-start, written-next, written-room, from-front}
+-- `bgpls_srlg::write_words` meets its contract: with what is left, all are written; nothing is left once there are n.
+use Rattle.bgpls_srlg.proofs.Laws.{set-turn, set-none, set-more, none-left, Written, written-start, written-next, written-room, from-front}
 use Rattle.bgpls_srlg.specs.Words.{srlgWords, listWords}
-use Rattle.bgpls_find.proofs.SetLaws.{run-passes}
 use Rattle.bgpls_find.specs.Walks.{Passes, attributesFrom, IsPart, NextPart}
 use Rattle.bgpls_find.specs.Sets.{attributesIn}
 use Rattle.bgpls_find.specs.declared.Set.{Set}
-use mathlib.Core.Path.{_≡_, subst}
+use mathlib.Core.Path.{_≡_, ap, subst}
 use lib.ListN.{length, take, drop}
 use borrow.Author.Needs.{needs}
 use native.Mathlib.Omega.{arith}
@@ -19,17 +18,17 @@ use Rattle.bgpls_find.proofs.next_part.Reads as next-part-reads
 use Rattle.bgpls_srlg.proofs.write_list.Reads as write-list-reads
 
 abbrev Inv-loop : tie.InvT-loop
-Inv-loop r set out₀ k₀ from₀ out k from = (from ≤ length r) × Passes r from × Written out₀ 0 (srlgWords (attributesIn set r)) out k (srlgWords (attributesFrom set r from))
+Inv-loop r n out₀ set k₀ from₀ out k from = (from ≤ length r) × Passes r from × Written out₀ 0 (srlgWords (attributesIn set r)) out k (srlgWords (attributesFrom set r from))
 
 abbrev μ-loop : tie.MeasureT-loop
-μ-loop r set out₀ k₀ from₀ out k from = length r - from
+μ-loop r n out₀ set k₀ from₀ out k from = length r - from
 
 abbrev Known : Type 0
 Known = lts.After-known-told (next-part-reads.Asked, next-part-reads.Learnt, write-list-reads.Asked, write-list-reads.Learnt) reads.Pre reads.Post Inv-loop μ-loop
 
 -- The set, the run, the position, and the list of elements that was found.
 abbrev which : Known → Set
-which k = k .before .before .before .before .before .before .before .before .args .set
+which k = k .before .before .before .before .before .before .before .before .args .start .set
 
 abbrev run : Known → List ℕ
 run k = k .before .before .before .before .before .before .before .before .args .r .now
@@ -60,10 +59,15 @@ loop-holds : tie.Need-loop-holds Inv-loop μ-loop
 loop-holds c =
     let a = c .before .before .args in
     let p = c .before .before .pre in
-    (omega arith, run-passes (a .r .now) (p .0), written-start (a .out .now) 0 _ _ (set-start (a .set) (a .r .now)) (omega (arith, p .1)))
+    (p .0 .within, p .0 .passes, written-start (a .out .now) 0 _ _ (ap srlgWords (p .0 .all)) (omega arith))
 
 next-part-requires : tie.Need-next-part-requires Inv-loop μ-loop
-next-part-requires c κs = (c .loop-test .taken, c .before .loop .inv .1)
+next-part-requires c κs =
+    let l = c .before .loop in
+    let q = c .before .before .before .before in
+    let n = q .pre .1 in
+    let w = l .inv .2 .at in
+    (set-more (q .args .start .set) (q .args .r .now) (l .from) (omega arith), l .inv .1)
 
 enum-known-first : tie.Need-enum-known-first Inv-loop μ-loop
 enum-known-first c = search needs
@@ -79,7 +83,7 @@ returns c =
     let m = c .before .before in
     let l = m .before .before .loop in
     let a = m .before .before .before .before .before .args in
-    from-front _ _ _ _ _ (l .inv .2) (set-none (a .set) (a .r .now) (l .from) (subst (NextPart (a .set) (a .r .now) (l .from)) (c .enum-told .given .1) (m .next-part .ensures)))
+    from-front _ _ _ _ _ (l .inv .2) (set-none (a .start .set) (a .r .now) (l .from) (subst (NextPart (a .start .set) (a .r .now) (l .from)) (c .enum-told .given .1) (m .next-part .ensures))) .1
 
 sub-write-list : tie.Need-sub-write-list Inv-loop μ-loop
 sub-write-list c = let p = part c in omega arith
@@ -113,8 +117,9 @@ same-length-2 c = c .before .loop .inv .2 .same
 returns-2 : tie.Need-returns-2 Inv-loop μ-loop
 returns-2 c =
     let l = c .before .loop in
-    let a = c .before .before .before .before .args in
-    from-front _ _ _ _ _ (l .inv .2) (set-end (a .set) (a .r .now) (l .from) (omega arith))
+    let n = c .before .before .before .before .pre .1 in
+    let w = l .inv .2 .at in
+    from-front _ _ _ _ _ (l .inv .2) (none-left _ (omega arith)) .1
 
 pub write-words-spec : {M : Type 1} → statement M
 write-words-spec =

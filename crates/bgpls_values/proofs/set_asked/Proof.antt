@@ -1,5 +1,6 @@
 -- The set that a question is about, subject by subject.
 use Rattle.bgpls_values.proofs.Laws.{asks-top, asks-general, asks-rsvp-te, asks-standard, asks-user, low-user}
+use Rattle.bgpls_find.proofs.SetLaws.{starts-run}
 use native.Mathlib.Omega.{arith}
 use mathlib.Core.Path.{sym, _∙_}
 use borrow.Author.Needs.{needs}
@@ -10,7 +11,7 @@ is-link-code-requires : tie.Need-is-link-code-requires
 is-link-code-requires c κs = search needs
 
 returns : tie.Need-returns
-returns c = let a = c .before .before .before .args in asks-top _ _ (a .whom) (sym (c .before .is-link-code .ensures) ∙ c .if1 .taken)
+returns c = let q = c .before .before .before in (starts-run _ _ (q .pre .0), asks-top _ _ (q .args .whom) (sym (c .before .is-link-code .ensures) ∙ c .if1 .taken))
 
 enum-told : tie.Need-enum-told
 enum-told c = search needs
@@ -19,7 +20,7 @@ enum-known-whom : tie.Need-enum-known-whom
 enum-known-whom c = search needs
 
 returns-2 : tie.Need-returns-2
-returns-2 c = let b = c .before .before .before .before in let a = b .before .before .before .args in asks-rsvp-te _ _ (a .whom) (sym (b .before .is-link-code .ensures) ∙ b .if1 .left) _ (c .before .before .whom .given .1) (c .if2 .taken)
+returns-2 c = let b = c .before .before .before .before in let q = b .before .before .before in (starts-run _ _ (q .pre .0), asks-rsvp-te _ _ (q .args .whom) (sym (b .before .is-link-code .ensures) ∙ b .if1 .left) _ (c .before .before .whom .given .1) (c .if2 .taken))
 
 set-of-requires : tie.Need-set-of-requires
 set-of-requires c κs = search needs
@@ -34,13 +35,13 @@ set-of-requires-2 : tie.Need-set-of-requires-2
 set-of-requires-2 c κs = search needs
 
 returns-3 : tie.Need-returns-3
-returns-3 c = let a = c .before .before .before .before .before .args in asks-general _ _ (a .whom) (sym (c .before .before .before .is-link-code .ensures) ∙ c .before .before .if1 .left) (c .enum-told .given .1)
+returns-3 c = let q = c .before .before .before .before .before in (starts-run _ _ (q .pre .0), asks-general _ _ (q .args .whom) (sym (c .before .before .before .is-link-code .ensures) ∙ c .before .before .if1 .left) (c .enum-told .given .1))
 
 returns-4 : tie.Need-returns-4
-returns-4 c = let b = c .before .before .before .before .before in let a = b .before .before .before .args in asks-standard _ _ (a .whom) (sym (b .before .is-link-code .ensures) ∙ b .if1 .left) _ _ (c .before .before .before .whom .given .1) (c .before .if2 .left) (c .set-of .ensures)
+returns-4 c = let b = c .before .before .before .before .before in let a = b .before .before .before .args in (c .set-of .ensures .0, asks-standard _ _ (a .whom) (sym (b .before .is-link-code .ensures) ∙ b .if1 .left) _ _ (c .before .before .before .whom .given .1) (c .before .if2 .left) (c .set-of .ensures .1))
 
 returns-5 : tie.Need-returns-5
-returns-5 c = let b = c .before .before .before .before in let a = b .before .before .before .args in asks-user _ _ (a .whom) (sym (b .before .is-link-code .ensures) ∙ b .if1 .left) _ _ (c .before .before .whom2 .given .1) (c .set-of2 .ensures)
+returns-5 c = let b = c .before .before .before .before in let a = b .before .before .before .args in (c .set-of2 .ensures .0, asks-user _ _ (a .whom) (sym (b .before .is-link-code .ensures) ∙ b .if1 .left) _ _ (c .before .before .whom2 .given .1) (c .set-of2 .ensures .1))
 
 pub set-asked-spec : {M : Type 1} → statement M
 set-asked-spec =

@@ -1,12 +1,9 @@
 -- The row of the kind that the code's rule names; SRLG and unknown codes never come here.
-use Rattle.isis_values.proofs.Laws.{grid-row, link-row, link-code, of-kind, link-is, known-is, no-srlg, no-code}
+use Rattle.isis_values.proofs.Laws.{given-row, link-row, link-code, of-kind, link-is, known-is, no-srlg, no-code}
 use Rattle.replies.specs.Told.{subjectOf}
 use Rattle.kinds.specs.Rules.{isLink, isKnown}
 use native.Mathlib.Omega.{arith}
-use lib.ListN.{getD}
-use Prim.Native.Nat.{ℕ}
-use mathlib.Core.List.{List, []}
-use mathlib.Core.Path.{sym, ap, _∙_}
+use mathlib.Core.Path.{_∙_}
 use borrow.Author.Needs.{needs}
 use Rattle.isis_values.proofs.find_row.Statement.{statement}
 use Rattle.isis_values.proofs.find_row.Tie as tie
@@ -23,14 +20,10 @@ bandwidth-row-requires c κs = let q = c .before .before .before .before in let 
 enum-known-kind : tie.Need-enum-known-kind
 enum-known-kind c = search needs
 
-subject-grid-requires : tie.Need-subject-grid-requires
-subject-grid-requires c κs = search needs
-
-mul-result : tie.Need-mul-result
-mul-result c = omega (arith, of-kind _ _ _ (c .before .before .before .before .classify-code .ensures) (c .before .before .kind .given .1) .0)
-
-array-copy-out-result : tie.Need-array-copy-out-result
-array-copy-out-result c = of-kind _ _ _ (c .before .before .before .before .classify-code .ensures) (c .before .before .kind .given .1) .0
+subject-row-requires : tie.Need-subject-row-requires
+subject-row-requires c κs =
+    let q = c .before .before .before .before .before in
+    (of-kind _ _ _ (c .before .before .before .classify-code .ensures) (c .before .kind .given .1) .0, q .pre .0, q .pre .1)
 
 enum-told-2 : tie.Need-enum-told-2
 enum-told-2 c = search needs
@@ -47,11 +40,11 @@ returns c = let q = c .before .before .before .before .before in λ b d. c .band
 
 returns-2 : tie.Need-returns-2
 unfolding isLink
-returns-2 c = let q = c .before .before .before .before .before .before .before in
-    let rule = c .before .before .before .before .before .classify-code .ensures in
-    let kind = c .before .before .before .kind .given .1 in
-    λ b d. ap (λ (g : List (List ℕ)). getD g (c .before .before .before .kind .given .0 .0) []) (c .before .subject-grid .ensures)
-    ∙ grid-row _ b d (subjectOf (q .args .whom)) _ _ (of-kind _ _ _ rule kind) (q .pre .3) (link-is _ _ _ rule kind)
+returns-2 c =
+    let q = c .before .before .before .before .before .before in
+    let rule = c .before .before .before .before .classify-code .ensures in
+    let kind = c .before .before .kind .given .1 in
+    λ b d. c .subject-row .ensures ∙ given-row _ b d _ _ (of-kind _ _ _ rule kind) (q .pre .3) (link-is _ _ _ rule kind) (subjectOf (q .args .whom))
 
 returns-3 : tie.Need-returns-3
 returns-3 c = let q = c .before .before .before .before in λ b d. no-srlg _ (q .pre .3) (of-kind _ _ _ (c .before .before .classify-code .ensures) (c .enum-told2 .given .1))
@@ -72,9 +65,7 @@ find-row-spec =
     enum-told
     bandwidth-row-requires
     enum-known-kind
-    subject-grid-requires
-    mul-result
-    array-copy-out-result
+    subject-row-requires
     enum-told-2
     enum-told-3
     enum-told-4
