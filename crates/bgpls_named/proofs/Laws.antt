@@ -84,6 +84,13 @@ held-end r m from held e k h = (last (m .standard) k (held k h .0), last (m .use
     last : (x a : ℕ) → (inSent x k || any (names a) (aslasFrom Every r from)) ≡ any (names a) (aslas r) → inSent x k ≡ any (names a) (aslas r)
     last x a p = sym (or-false (inSent x k)) ∙ ap (λ (ds : List Advertisement). inSent x k || any (names a) ds) (sym e) ∙ p
 
+-- Past an element that is no such 1122.
+pub held-skip : (r : List ℕ) (m : NamedMasks) (at next : ℕ) → Held m r at → aslasFrom Every r next ≡ aslasFrom Every r at → Held m r next
+held-skip r m at next held e k h = (
+  ap (λ (ds : List Advertisement). inSent (m .standard) k || any (names k) ds) e ∙ held k h .0,
+  ap (λ (ds : List Advertisement). inSent (m .user) k || any (names (user k)) ds) e ∙ held k h .1,
+)
+
 -- A 1122's masks, by its value.
 module _ (at : ℕ) (v : List ℕ) (k : ℕ) (h : k < 64) where
   standard-named : names k (advertisement at v) ≡ bit (standardMask v) k

@@ -7,10 +7,11 @@ ghost use Rattle.linkstate.specs.Masks.{user, asNumber};
 ghost use Rattle.linkstate.specs.Replies.{accepted};
 ghost use Rattle.linkstate.specs.BgpLs.{notIgnored, aslaHeader, aslas, runVerdict, runSource};
 ghost use Rattle.bgpls_named.specs.Joined.{HoldSent, HoldBoth};
+use bgpls_check::Frame;
 use bgpls_check::read_asla_header;
-use bgpls_find::Asla;
+use bgpls_check::read_frame;
 use bgpls_find::Set;
-use bgpls_find::next_asla;
+use bgpls_find::is_chosen;
 use masks::joined;
 use masks::sent_number;
 use masks::turned;
@@ -44,16 +45,18 @@ fn all_masks(r: &[u8]) -> NamedMasks
         standard: 0,
         user: 0,
     };
-    let mut from = 0;
-    while from < r.len() {
-        let Asla::At { at, len } = next_asla(r, from, Set::Every) else {
+    let mut at = 0;
+    while at < r.len() {
+        let Frame::Whole { code, len } = read_frame(r, at) else {
             return m;
         };
         let value = at + 4;
         let next = value + len;
-        let j = join_masks(&r[value..next], m);
-        m = j;
-        from = next;
+        if is_chosen(&r[value..next], code, Set::Every) {
+            let j = join_masks(&r[value..next], m);
+            m = j;
+        }
+        at = next;
     }
     m
 }
