@@ -54,10 +54,9 @@ fn wrong_inside(code: usize, n: usize) -> bool
     let rule = classify_code(code);
     let kind = rule.kind;
     let size = rule.size;
-    let wrong = !fits(size, n);
     match kind {
         Kind::Link(_) => false,
-        _ => wrong,
+        _ => !fits(size, n),
     }
 }
 

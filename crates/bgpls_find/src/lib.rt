@@ -45,7 +45,7 @@ pub enum Part {
 }
 
 // Whether an element is a 1122 that is not ignored and that the set takes.
-fn is_chosen(v: &[u8], code: usize, set: Set) -> bool
+pub fn is_chosen(v: &[u8], code: usize, set: Set) -> bool
     requires { ⌜ (code ≡ 1122 → Sound (now v)) ⌝ }
     ensures { λ r. ⌜ r ≡ eqb code 1122 && notIgnored (now (v .entry)) && chosenBy set (standardMask (now (v .entry))) (userMask (now (v .entry))) ⌝ }
 {

@@ -6,16 +6,18 @@ ghost use lib.ListN.{length};
 ghost use Rattle.linkstate.specs.Masks.{user, asNumber};
 ghost use Rattle.linkstate.specs.Replies.{accepted};
 ghost use Rattle.linkstate.specs.BgpLs.{notIgnored, aslaHeader, aslas, runVerdict, runSource};
-ghost use Rattle.bgpls_named.specs.Joined.{HoldNames, HoldBoth};
+ghost use Rattle.bgpls_named.specs.Joined.{HoldSent, HoldBoth};
+use bgpls_check::Frame;
 use bgpls_check::read_asla_header;
-use bgpls_find::Asla;
+use bgpls_check::read_frame;
 use bgpls_find::Set;
-use bgpls_find::next_asla;
+use bgpls_find::is_chosen;
 use masks::joined;
-use masks::mask_number;
+use masks::sent_number;
+use masks::turned;
 use masks::without;
 
-// Standard and user applications, application n as 2 to the n.
+// Standard and user applications as two numbers: application n as 2 to the n, or, while masks are joined, at its place in a mask's bytes.
 pub struct NamedMasks {
     pub standard: u64,
     pub user: u64,
@@ -29,30 +31,32 @@ fn join_masks(v: &[u8], m: NamedMasks) -> NamedMasks
     let h = read_asla_header(v);
     let end = 4 + h.standard;
     let next = end + h.user;
-    let standard = joined(m.standard, mask_number(&v[4..end]));
-    let user = joined(m.user, mask_number(&v[end..next]));
+    let standard = joined(m.standard, sent_number(&v[4..end]));
+    let user = joined(m.user, sent_number(&v[end..next]));
     NamedMasks { standard, user }
 }
 
 // The masks of all 1122s that are not ignored, joined.
 fn all_masks(r: &[u8]) -> NamedMasks
     requires { ⌜ runVerdict (now r) ≡ accepted ⌝ }
-    ensures { λ m. ⌜ HoldNames m (aslas (now (r .entry))) ⌝ }
+    ensures { λ m. ⌜ HoldSent m (aslas (now (r .entry))) ⌝ }
 {
     let mut m = NamedMasks {
         standard: 0,
         user: 0,
     };
-    let mut from = 0;
-    while from < r.len() {
-        let Asla::At { at, len } = next_asla(r, from, Set::Every) else {
+    let mut at = 0;
+    while at < r.len() {
+        let Frame::Whole { code, len } = read_frame(r, at) else {
             return m;
         };
         let value = at + 4;
         let next = value + len;
-        let j = join_masks(&r[value..next], m);
-        m = j;
-        from = next;
+        if is_chosen(&r[value..next], code, Set::Every) {
+            let j = join_masks(&r[value..next], m);
+            m = j;
+        }
+        at = next;
     }
     m
 }
@@ -63,9 +67,7 @@ pub fn named_masks(r: &[u8]) -> NamedMasks
     ensures { λ m. ⌜ (m .standard ≡ asNumber (runSource (now (r .entry)) .names)) × (m .user ≡ asNumber (λ n. runSource (now (r .entry)) .names (user n))) ⌝ }
 {
     let m = all_masks(r);
-    let standard = without(m.standard, 1);
-    NamedMasks {
-        standard,
-        user: m.user,
-    }
+    let standard = without(turned(m.standard), 1);
+    let user = turned(m.user);
+    NamedMasks { standard, user }
 }

@@ -10,7 +10,7 @@ use lib.Dec.{eqb, ltb}
 use lib.ListN.{length, take, drop, getD}
 use Rattle.linkstate.specs.Lists.{any, each}
 use Rattle.linkstate.specs.Bytes.{bytesAt}
-use Rattle.linkstate.specs.Masks.{bit, user, inMasks, asNumber, inNumber}
+use Rattle.linkstate.specs.Masks.{bit, user, inMasks, inNumber}
 use Rattle.linkstate.specs.Replies.{accepted, runA}
 use Rattle.linkstate.specs.Elements.{Element, element, faults}
 use Rattle.linkstate.specs.Attributes.{Attribute}
@@ -18,7 +18,7 @@ use Rattle.linkstate.specs.Sides.{Advertisement, names, named, namedWithL}
 use Rattle.linkstate.proofs.ListLaws.{any-append}
 use Rattle.linkstate.proofs.WalkLaws.{left, each-end}
 use Rattle.octets.proofs.Laws.{part-is}
-use Rattle.masks.proofs.Laws.{in-number}
+use Rattle.masks.specs.Sets.{turnedPlace, inSent}
 use Rattle.isis.specs.MaskHeader.{lFlag, sabmLength, udabmLength, maskTooLong, lForNobody, advertisement}
 use Rattle.isis.specs.RunA.{attributesOf, listElements, liveAsla, aslaAdvertisements, checkA, sideA}
 use Rattle.isis_check_a.specs.declared.Header.{Header}
@@ -31,7 +31,7 @@ use Rattle.isis_grids.proofs.Aslas.{listPart}
 use Rattle.isis_sets.specs.declared.Naming.{Naming}
 use Rattle.isis_sets.specs.declared.Naming.the-variants.{NotNamed, Named, WithL}
 use Rattle.isis_sets.specs.declared.Masks.{Masks}
-use Rattle.isis_sets.specs.Sets.{namingBy, namingOf, strongerOf, Holds}
+use Rattle.isis_sets.specs.Sets.{namingBy, namingOf, strongerOf, HoldsSent}
 
 -- ---- tests of one ASLA
 
@@ -121,23 +121,24 @@ module _ (n : ℕ) (v : List ℕ) where
       pub naming-plain : b ≡ true → h .l ≡ false → Named ≡ namingBy n (aslaAdvertisements (element 0 16 v))
       naming-plain f l = let z : lFlag v ≡ false = sym (header-l h v e) ∙ l in rw (f, z) at naming-read
 
--- The masks of one ASLA as numbers.
+-- The masks of one ASLA, as numbers with their bytes.
 module _ (v : List ℕ) (h : Header) (e : h ≡ headerOf v) (m : Masks) where
   abbrev Named-here : Type 0
-  Named-here = Holds (λ n. any (names n) (aslaAdvertisements (element 0 16 v))) m
+  Named-here = HoldsSent (λ n. any (names n) (aslaAdvertisements (element 0 16 v))) m
 
   pub masks-none : tooLong h ≡ true → m .standard ≡ 0 → m .user ≡ 0 → Named-here
   masks-none t s u =
       let z : maskTooLong v ≡ true = sym (header-too-long h v e) ∙ t in
-      let none : (n : ℕ) → inNumber 0 n ≡ any (names n) (aslaAdvertisements (element 0 16 v)) = λ n. no-member n ∙ sym (named-asla n v 0 ∙ (rw z refl)) in
-      record { standard = λ n l. ap (λ (x : ℕ). inNumber x n) s ∙ none n; user = λ n l. ap (λ (x : ℕ). inNumber x n) u ∙ (no-member n ∙ sym (no-member (user n)) ∙ none (user n)) }
+      let none : (x i n : ℕ) → x ≡ 0 → inNumber x i ≡ any (names n) (aslaAdvertisements (element 0 16 v)) = λ x i n o. ap (λ (y : ℕ). inNumber y i) o ∙ no-member i ∙ sym (named-asla n v 0 ∙ (rw z refl)) in
+      record { standard = λ n l. none (m .standard) (turnedPlace n) n s; user = λ n l. none (m .user) (turnedPlace n) (user n) u }
 
-  pub masks-numbers : tooLong h ≡ false → m .standard ≡ asNumber (bit (take (2 + h .standard - 2) (drop 2 v))) → m .user ≡ asNumber (bit (take (2 + h .standard + h .user - (2 + h .standard)) (drop (2 + h .standard) v))) → Named-here
+  pub masks-numbers : tooLong h ≡ false → ((n : ℕ) → inSent (m .standard) n ≡ bit (take (2 + h .standard - 2) (drop 2 v)) n)
+      → ((n : ℕ) → inSent (m .user) n ≡ bit (take (2 + h .standard + h .user - (2 + h .standard)) (drop (2 + h .standard) v)) n) → Named-here
   masks-numbers t s u =
       let z : maskTooLong v ≡ false = sym (header-too-long h v e) ∙ t in
       record {
-        standard = λ n l. ap (λ (x : ℕ). inNumber x n) (s ∙ ap (λ (x : List ℕ). asNumber (bit x)) (masks-read v h e .0)) ∙ in-number (bit ((advertisement v []) .standardMask)) n l ∙ sym (standard-bit (advertisement v []) n l) ∙ sym (named-asla n v 0 ∙ (rw z refl));
-        user = λ n l. ap (λ (x : ℕ). inNumber x n) (u ∙ ap (λ (x : List ℕ). asNumber (bit x)) (masks-read v h e .1)) ∙ in-number (bit ((advertisement v []) .userMask)) n l ∙ sym (user-bit (advertisement v []) n l) ∙ sym (named-asla (user n) v 0 ∙ (rw z refl));
+        standard = λ n l. s n ∙ ap (λ (x : List ℕ). bit x n) (masks-read v h e .0) ∙ sym (standard-bit (advertisement v []) n l) ∙ sym (named-asla n v 0 ∙ (rw z refl));
+        user = λ n l. u n ∙ ap (λ (x : List ℕ). bit x n) (masks-read v h e .1) ∙ sym (user-bit (advertisement v []) n l) ∙ sym (named-asla (user n) v 0 ∙ (rw z refl));
       }
 
 -- ---- all ASLAs of run A

@@ -7,6 +7,7 @@ use Rattle.linkstate.specs.Lists.{any}
 use Rattle.linkstate.specs.Masks.{user, inNumber}
 use Rattle.linkstate.specs.Attributes.{Attribute}
 use Rattle.linkstate.specs.Sides.{Advertisement, Side, names, named, namedWithL, ofLive, rsvpTeKind}
+use Rattle.masks.specs.Sets.{inSent}
 use Rattle.kinds.specs.Rules.{gridCodes}
 use Rattle.isis_grids.specs.declared.Which.{Which}
 use Rattle.isis_grids.specs.Grid.{rowOf}
@@ -42,3 +43,8 @@ selectedOrLegacy w s = cond (namedWithL 0 s) (s .legacy) (ofLive (selects w) s +
 pub record Holds (p : ℕ → Bool) (m : Masks) : Type 0 where
   pub standard : (n : ℕ) → n < 64 → inNumber (m .standard) n ≡ p n
   pub user : (n : ℕ) → n < 64 → inNumber (m .user) n ≡ p (user n)
+
+-- The same of two numbers that have the bytes of masks.
+pub record HoldsSent (p : ℕ → Bool) (m : Masks) : Type 0 where
+  pub standard : (n : ℕ) → n < 64 → inSent (m .standard) n ≡ p n
+  pub user : (n : ℕ) → n < 64 → inSent (m .user) n ≡ p (user n)

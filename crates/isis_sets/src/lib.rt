@@ -11,7 +11,7 @@ ghost use Rattle.kinds.specs.Rules.{gridCodes};
 ghost use Rattle.isis.specs.RunA.{aslaAdvertisements, checkA, sideA};
 ghost use Rattle.isis_grids.specs.Grid.{rowOf, gridOf};
 ghost use Rattle.isis_grids.specs.Selected.{Headed};
-ghost use Rattle.isis_sets.specs.Sets.{namingBy, namingOf, strongerOf, rsvpTeGrid, selectedOrLegacy, Holds};
+ghost use Rattle.isis_sets.specs.Sets.{namingBy, namingOf, strongerOf, rsvpTeGrid, selectedOrLegacy, Holds, HoldsSent};
 use isis_grids::Which;
 
 // How the live ASLA sub-TLVs name an application.
@@ -184,16 +184,16 @@ pub fn bandwidth_row(a: &[u8], code: usize) -> [usize; 2]
     }
 }
 
-// Applications as two numbers, application n of each kind as 2 to the n.
+// Applications as two numbers: application n of each kind as 2 to the n, or, while masks are joined, at its place in a mask's bytes.
 pub struct Masks {
     pub standard: u64,
     pub user: u64,
 }
 
-// The applications that the ASLA with the value v names.
+// The applications that the ASLA with the value v names, as its masks have them.
 fn masks_of(v: &[u8]) -> Masks
     requires { ⌜ Headed (now v) ⌝ }
-    ensures { λ r. ⌜ Holds (λ n. any (names n) (aslaAdvertisements (element 0 16 (now (v .entry))))) r ⌝ }
+    ensures { λ r. ⌜ HoldsSent (λ n. any (names n) (aslaAdvertisements (element 0 16 (now (v .entry))))) r ⌝ }
 {
     let h = isis_check_a::read_header(v);
     if isis_check_a::mask_too_long(h) {
@@ -205,8 +205,8 @@ fn masks_of(v: &[u8]) -> Masks
     let m = 2 + h.standard;
     let e = m + h.user;
     Masks {
-        standard: masks::mask_number(&v[2..m]),
-        user: masks::mask_number(&v[m..e]),
+        standard: masks::sent_number(&v[2..m]),
+        user: masks::sent_number(&v[m..e]),
     }
 }
 
@@ -228,5 +228,8 @@ pub fn named_in_a(a: &[u8]) -> Masks
         }
         at = next;
     }
-    Masks { standard, user }
+    Masks {
+        standard: masks::turned(standard),
+        user: masks::turned(user),
+    }
 }

@@ -12,8 +12,8 @@ use lib.Arith.{digits-lt, digits-div}
 use lib.Pow.{pow-mono, split, shr-shr, shr-lt, shl-shr}
 use lib.Bits.{bitOr, bitAnd, bitXor, or-shr, or-mod, and-shr, and-mod, xor-shr, xor-mod}
 use lib.Count.{leadingZeros, leading-top, trailingZeros, under}
-use lib.ListN.{length, getD, set, drop, length-drop}
-use lib.Seq.{drop-cons, drop-length, getD-drop, paste, paste-suc, take-length}
+use lib.ListN.{length, getD, set, take, drop, length-drop}
+use lib.Seq.{drop-cons, drop-length, getD-drop, paste, paste-suc, take-all, take-length}
 use Rattle.linkstate.specs.Lists.{put}
 use Rattle.linkstate.specs.Masks.{bit, one, asNumber, inNumber, last, lastBelow, bytesToHold, maskSize, maskByte, mask}
 use Rattle.masks.specs.Sets.{IsNext, littleEndian, turnedPlace, exchanged}
@@ -219,15 +219,48 @@ module _ (s : List ℕ) (i m : ℕ) (so : m ≡ littleEndian (drop i s)) where
   pub little-all : i ≤ 0 → m ≡ littleEndian s
   little-all h = so ∙ ap (λ (j : ℕ). littleEndian (drop j s)) (let e : i ≡ 0 = omega arith in e)
 
+-- four and eight bytes at once
+two-bytes : (s : List ℕ) (at : ℕ) → at + 1 < length s → drop at s ≡ getD s at 0 ∷ getD s (at + 1) 0 ∷ drop (at + 2) s
+two-bytes s at h =
+    let e : suc at ≡ at + 1 = omega arith in
+    let f : suc (at + 1) ≡ at + 2 = omega arith in
+    drop-cons s at 0 (omega arith) ∙ rw (e, drop-cons s (at + 1) 0 h, f)
+
+pub four-at : (s : List ℕ) (at a b c d : ℕ) → at + 4 ≤ length s → a ≡ getD s at 0 → b ≡ getD s (at + 1) 0 → c ≡ getD s (at + 2) 0 → d ≡ getD s (at + 3) 0
+    → ((d * 256 + c) * 256 + b) * 256 + a ≡ littleEndian (take 4 (drop at s))
+unfolding littleEndian
+four-at s at a b c d h p q r t =
+    let e : at + 2 + 1 ≡ at + 3 = omega arith in
+    rw (two-bytes s at (omega arith), two-bytes s (at + 2) (omega arith), e) (omega arith)
+
+pub four-all : (s : List ℕ) → length s ≡ 4 → littleEndian (take 4 (drop 0 s)) ≡ littleEndian s
+four-all s h = ap littleEndian (take-all 4 s (omega arith))
+
+pub eight-all : (s : List ℕ) → length s ≡ 8 → littleEndian (take 4 (drop 4 s)) * 4294967296 + littleEndian (take 4 (drop 0 s)) ≡ littleEndian s
+unfolding littleEndian
+eight-all (a ∷ b ∷ c ∷ d ∷ e ∷ f ∷ g ∷ h ∷ []) l = omega arith
+eight-all [] l = let z : ⊥ = omega arith in absurd z
+eight-all (a ∷ []) l = let z : ⊥ = omega arith in absurd z
+eight-all (a ∷ b ∷ []) l = let z : ⊥ = omega arith in absurd z
+eight-all (a ∷ b ∷ c ∷ []) l = let z : ⊥ = omega arith in absurd z
+eight-all (a ∷ b ∷ c ∷ d ∷ []) l = let z : ⊥ = omega arith in absurd z
+eight-all (a ∷ b ∷ c ∷ d ∷ e ∷ []) l = let z : ⊥ = omega arith in absurd z
+eight-all (a ∷ b ∷ c ∷ d ∷ e ∷ f ∷ []) l = let z : ⊥ = omega arith in absurd z
+eight-all (a ∷ b ∷ c ∷ d ∷ e ∷ f ∷ g ∷ []) l = let z : ⊥ = omega arith in absurd z
+eight-all (a ∷ b ∷ c ∷ d ∷ e ∷ f ∷ g ∷ h ∷ x ∷ s) l = let z : ⊥ = omega arith in absurd z
+
+-- the applications of a mask, by its bytes' number
+pub sent-bit : (s : List ℕ) (m : ℕ) → ((i : ℕ) → getD s i 0 < 256) → m ≡ littleEndian s → (n : ℕ) → inNumber m (turnedPlace n) ≡ bit s n
+unfolding turnedPlace bit
+sent-bit s m small e n =
+    let f : (n / 8 * 8 + (7 - n % 8)) / 8 ≡ n / 8 = omega arith in
+    let g : (n / 8 * 8 + (7 - n % 8)) % 8 ≡ 7 - n % 8 = omega arith in
+    ap (λ (x : ℕ). inNumber x (turnedPlace n)) e ∙ (rw (f, g) at (little-in s small (turnedPlace n)))
+
 -- turned round, it is the number of the mask
 pub read-mask : (s : List ℕ) (m r : ℕ) → ((i : ℕ) → getD s i 0 < 256) → r < 2 ^ 64 → m ≡ littleEndian s
     → ((n : ℕ) → n < 64 → inNumber r n ≡ inNumber m (turnedPlace n)) → r ≡ asNumber (bit s)
-unfolding turnedPlace bit
-read-mask s m r small h e t =
-    is-number r (bit s) h (λ n l.
-    let f : (n / 8 * 8 + (7 - n % 8)) / 8 ≡ n / 8 = omega arith in
-    let g : (n / 8 * 8 + (7 - n % 8)) % 8 ≡ 7 - n % 8 = omega arith in
-    t n l ∙ ap (λ (x : ℕ). inNumber x (turnedPlace n)) e ∙ (rw (f, g) at (little-in s small (turnedPlace n))))
+read-mask s m r small h e t = is-number r (bit s) h (λ n l. t n l ∙ sent-bit s m small e n)
 
 -- ---- a mask that is written
 

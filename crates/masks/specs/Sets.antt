@@ -4,7 +4,7 @@ use mathlib.Core.Bool.{Bool, true, false, _&&_, _||_}
 use mathlib.Core.List.{List, [], _∷_}
 use Prim.Native.Nat.{ℕ, _+_, _-_, _*_, _/_, _%_, _≤_, _<_}
 use lib.Dec.{leb}
-use Rattle.linkstate.specs.Masks.{Last, none, last}
+use Rattle.linkstate.specs.Masks.{Last, none, last, inNumber}
 use Rattle.masks.specs.declared.LastBit.{LastBit}
 use Rattle.masks.specs.declared.LastBit.the-variants.{None, At}
 
@@ -27,6 +27,10 @@ littleEndian (b ∷ bs) = littleEndian bs * 256 + b
 -- The place of bit n when the bits of each byte are in the other order.
 unfoldable pub turnedPlace : ℕ → ℕ
 turnedPlace n = n / 8 * 8 + (7 - n % 8)
+
+-- Whether application n is in the mask that has this number's bytes, the first the lowest.
+abbrev pub inSent : ℕ → ℕ → Bool
+inSent m n = inNumber m (turnedPlace n)
 
 -- Bit n of a set p whose bits at the places of q change places with those k above.
 unfoldable pub exchanged : (q p : ℕ → Bool) → ℕ → ℕ → Bool

@@ -2,10 +2,10 @@
 ghost use mathlib.Core.Path.{_≡_};
 ghost use mathlib.Core.Bool.{_||_, _&&_, not};
 ghost use Prim.Native.Nat.{ℕ, _+_, _≤_, _<_};
-ghost use lib.ListN.{length};
+ghost use lib.ListN.{length, take, drop};
 ghost use Rattle.linkstate.specs.Lists.{put};
 ghost use Rattle.linkstate.specs.Masks.{bit, inMasks, asNumber, inNumber, lastBelow, maskSize, mask};
-ghost use Rattle.masks.specs.Sets.{lastOf, IsNext, littleEndian, turnedPlace, exchanged};
+ghost use Rattle.masks.specs.Sets.{lastOf, IsNext, littleEndian, inSent, exchanged};
 
 // The bits of m at the places of q, and those k above them, in each other's place.
 fn exchange(q: u64, m: u64, k: u32) -> u64
@@ -16,16 +16,35 @@ fn exchange(q: u64, m: u64, k: u32) -> u64
 }
 
 // The number whose bytes have their bits in the other order: neighbours change places, then twos, then fours.
-fn turned(m: u64) -> u64
-    ensures { λ r. ⌜ ((n : ℕ) → n < 64 → inNumber r n ≡ inNumber m (turnedPlace n)) ⌝ }
+pub fn turned(m: u64) -> u64
+    ensures { λ r. ⌜ ((n : ℕ) → n < 64 → inNumber r n ≡ inSent m n) ⌝ }
 {
     let a = exchange(0x5555555555555555, m, 1);
     let b = exchange(0x3333333333333333, a, 2);
     exchange(0x0F0F0F0F0F0F0F0F, b, 4)
 }
 
+// A byte as a number.
+fn wide(b: u8) -> u64
+    ensures { λ r. ⌜ (r ≡ b) × (r < 256) ⌝ }
+{
+    b as u64
+}
+
+// The number of the four bytes from a place on, the first the lowest.
+fn four_bytes(s: &[u8], at: usize) -> u64
+    requires { ⌜ at + 4 ≤ length (now s) ⌝ }
+    ensures { λ r. ⌜ (r ≡ littleEndian (take 4 (drop at (now (s .entry))))) × (r < 4294967296) ⌝ }
+{
+    let a = wide(s[at]);
+    let b = wide(s[at + 1]);
+    let c = wide(s[at + 2]);
+    let d = wide(s[at + 3]);
+    ((d * 256 + c) * 256 + b) * 256 + a
+}
+
 // The number whose bytes these are, the first the lowest.
-fn little_endian(s: &[u8]) -> u64
+fn few_bytes(s: &[u8]) -> u64
     requires { ⌜ length (now s) ≤ 8 ⌝ }
     ensures { λ r. ⌜ r ≡ littleEndian (now (s .entry)) ⌝ }
 {
@@ -37,6 +56,30 @@ fn little_endian(s: &[u8]) -> u64
         m = m * 256 + b;
     }
     m
+}
+
+// The same; masks of four and of eight bytes, as most are, are read at once.
+fn little_endian(s: &[u8]) -> u64
+    requires { ⌜ length (now s) ≤ 8 ⌝ }
+    ensures { λ r. ⌜ r ≡ littleEndian (now (s .entry)) ⌝ }
+{
+    if s.len() == 4 {
+        return four_bytes(s, 0);
+    }
+    if s.len() == 8 {
+        let low = four_bytes(s, 0);
+        let high = four_bytes(s, 4);
+        return high * 4294967296 + low;
+    }
+    few_bytes(s)
+}
+
+// The bytes of a mask as a number, for masks that are joined before their applications are told.
+pub fn sent_number(s: &[u8]) -> u64
+    requires { ⌜ length (now s) ≤ 8 ⌝ }
+    ensures { λ r. ⌜ ((n : ℕ) → inSent r n ≡ bit (now (s .entry)) n) ⌝ }
+{
+    little_endian(s)
 }
 
 // The applications of a mask, as a number.

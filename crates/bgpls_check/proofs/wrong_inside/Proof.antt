@@ -10,22 +10,22 @@ use Rattle.bgpls_check.proofs.wrong_inside.Tie as tie
 classify-code-requires : tie.Need-classify-code-requires
 classify-code-requires c κs = search needs
 
-fits-requires : tie.Need-fits-requires
-fits-requires c κs = search needs
-
 enum-told : tie.Need-enum-told
 enum-told c = search needs
 
+fits-requires : tie.Need-fits-requires
+fits-requires c κs = search needs
+
 returns : tie.Need-returns
 unfolding wrongInsideBy
-returns c = sym (inside-by _ _ _ _ (c .before .before .before .classify-code .ensures) (c .enum-told .given .1))
+returns c = sym (inside-by _ _ _ _ (c .before .before .classify-code .ensures) (c .enum-told .given .1))
 
 returns-2 : tie.Need-returns-2
 returns-2 c =
-    ap not (c .before .fits2 .ensures)
-    ∙ inside-other _ _ (c .before .before .before .args .n) (c .match .keys2)
+    ap not (c .fits2 .ensures)
+    ∙ inside-other _ _ (c .before .before .before .args .n) (c .before .match .keys2)
     ∙ sym (inside-by _ _ _ _ (c .before .before .classify-code .ensures) refl)
 
 pub wrong-inside-spec : {M : Type 1} → statement M
 wrong-inside-spec =
-    tie.close (tie.spec classify-code-requires fits-requires enum-told returns returns-2)
+    tie.close (tie.spec classify-code-requires enum-told fits-requires returns returns-2)

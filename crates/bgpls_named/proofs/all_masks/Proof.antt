@@ -1,55 +1,68 @@
 -- `bgpls_named::all_masks` meets its contract: with what the 1122s that are left name, the numbers hold all that are named.
-use Rattle.bgpls_named.proofs.Laws.{Held, held-start, held-end, held-next}
+use Rattle.bgpls_named.proofs.Laws.{Held, held-start, held-end, held-skip, held-next}
 use Rattle.bgpls_find.proofs.SetLaws.{run-passes}
-use Rattle.bgpls_find.proofs.Laws.{aslas-end}
-use Rattle.bgpls_find.specs.Walks.{Passes, IsAsla, NextAsla}
+use Rattle.bgpls_find.proofs.Laws.{Taken, aslas-end, aslas-cut, aslas-passed, part-taken, part-sound, rest-passes, is-asla}
+use Rattle.bgpls_find.specs.Walks.{Passes, IsAsla}
 use Rattle.bgpls_find.specs.declared.Set.the-variants.{Every}
-use Rattle.bgpls_check.proofs.Laws.{part-length}
+use Rattle.bgpls_check.proofs.Laws.{IsWhole, is-whole, part-length}
 use Rattle.octets.proofs.Laws.{part-is}
+use Rattle.linkstate.specs.Bytes.{bytesAt}
 use Rattle.linkstate.specs.BgpLs.{notIgnored, aslaHeader}
 use lib.ListN.{length}
 use borrow.Author.Needs.{needs}
 use native.Mathlib.Omega.{arith}
+use mathlib.Core.Bool.{true}
 use mathlib.Core.List.{List}
-use mathlib.Core.Path.{refl, subst, _∙_, ap}
+use mathlib.Core.Path.{_≡_, refl, sym, _∙_, ap}
 use Prim.Native.Nat.{ℕ, _+_, _-_, _≤_}
 use Rattle.bgpls_named.proofs.all_masks.Statement.{statement}
 use Rattle.bgpls_named.proofs.all_masks.Tie as tie
 use Rattle.bgpls_named.proofs.all_masks.Reads as reads
 use Rattle.bgpls_named.proofs.all_masks.Lts as lts
-use Rattle.bgpls_find.proofs.next_asla.Reads as next-asla-reads
+use Rattle.bgpls_check.proofs.read_frame.Reads as read-frame-reads
+use Rattle.bgpls_find.proofs.is_chosen.Reads as is-chosen-reads
 use Rattle.bgpls_named.proofs.join_masks.Reads as join-masks-reads
 
 abbrev Inv-loop : tie.InvT-loop
-Inv-loop r m₀ from₀ m from = (from ≤ length r) × Passes r from × Held m r from
+Inv-loop r m₀ at₀ m at = (at ≤ length r) × Passes r at × Held m r at
 
 abbrev μ-loop : tie.MeasureT-loop
-μ-loop r m₀ from₀ m from = length r - from
+μ-loop r m₀ at₀ m at = length r - at
 
 abbrev Known : Type 0
-Known = lts.After-known-told (next-asla-reads.Asked, next-asla-reads.Learnt, join-masks-reads.Asked, join-masks-reads.Learnt) reads.Pre reads.Post Inv-loop μ-loop
+Known = lts.After-known-told (read-frame-reads.Asked, read-frame-reads.Learnt, is-chosen-reads.Asked, is-chosen-reads.Learnt, join-masks-reads.Asked, join-masks-reads.Learnt) reads.Pre reads.Post Inv-loop μ-loop
 
--- The run, and the 1122 that was found in it.
+-- The run, the position, and the type and the length that its frame says.
 abbrev run : Known → List ℕ
 run k = k .before .before .before .before .before .before .before .args .r .now
 
 abbrev place : Known → ℕ
-place k = k .before .at .given .0 .0
+place k = k .before .before .before .before .before .loop .at
+
+abbrev type : Known → ℕ
+type k = k .before .code .given .0 .0
 
 abbrev size : Known → ℕ
-size k = k .before .at .given .0 .1 .0
+size k = k .before .code .given .0 .1 .0
 
-asla : (k : Known) → IsAsla Every (run k) (k .before .before .before .before .before .loop .from) (place k) (size k)
-asla k = subst (NextAsla Every (run k) (k .before .before .before .before .before .loop .from)) (k .before .at .given .1) (k .before .before .before .next-asla .ensures)
+whole : (k : Known) → IsWhole (run k) (place k) (type k) (size k)
+whole k = is-whole _ _ _ _ (sym (k .before .before .before .read-frame .ensures) ∙ k .before .code .given .1)
+
+passes : (k : Known) → Passes (run k) (place k)
+passes k = k .before .before .before .before .before .loop .inv .1
+
+-- A 1122 that is not ignored.
+asla : (k : Known) → Taken Every (type k) (bytesAt (run k) (place k + 4) (size k)) ≡ true → IsAsla Every (run k) (place k) (place k) (size k)
+asla k e = is-asla Every (run k) (place k) (type k) (size k) (whole k) (passes k) (place k) (omega arith) refl e
 
 loop-holds : tie.Need-loop-holds Inv-loop μ-loop
 loop-holds c = let r = c .before .args .r .now in (omega arith, run-passes r (c .before .pre), held-start r _ refl refl)
 
-next-asla-requires : tie.Need-next-asla-requires Inv-loop μ-loop
-next-asla-requires c κs = (c .before .loop .inv .0, c .before .loop .inv .1)
+read-frame-requires : tie.Need-read-frame-requires Inv-loop μ-loop
+read-frame-requires c κs = search needs
 
-enum-known-at : tie.Need-enum-known-at Inv-loop μ-loop
-enum-known-at c = search needs
+enum-known-code : tie.Need-enum-known-code Inv-loop μ-loop
+enum-known-code c = search needs
 
 enum-told : tie.Need-enum-told Inv-loop μ-loop
 enum-told c = search needs
@@ -59,47 +72,72 @@ returns c =
     let m = c .before .before in
     let l = m .before .before .loop in
     let r = m .before .before .before .before .args .r .now in
-    held-end r (l .m) (l .from) (l .inv .2) (subst (NextAsla Every r (l .from)) (c .enum-told .given .1) (m .next-asla .ensures))
+    held-end r (l .m) (l .at) (l .inv .2) (aslas-cut Every r (l .at) (m .before .loop-test .taken) (sym (m .read-frame .ensures) ∙ c .enum-told .given .1))
 
 add-value : tie.Need-add-value Inv-loop μ-loop
-add-value c = let a = asla c in omega arith
+add-value c = let f = whole c in omega arith
 
 add-next : tie.Need-add-next Inv-loop μ-loop
-add-next c = let a = asla c in omega arith
+add-next c = let f = whole c in omega arith
+
+sub-is-chosen : tie.Need-sub-is-chosen Inv-loop μ-loop
+sub-is-chosen c = let f = whole c in omega arith
+
+part-is-chosen-start : tie.Need-part-is-chosen-start Inv-loop μ-loop
+part-is-chosen-start c = let f = whole c in omega arith
+
+part-is-chosen-end : tie.Need-part-is-chosen-end Inv-loop μ-loop
+part-is-chosen-end c = let f = whole c in omega arith
+
+is-chosen-requires : tie.Need-is-chosen-requires Inv-loop μ-loop
+is-chosen-requires c κs = let k = c .before in part-sound Every (run k) (place k) (type k) (size k) (whole k) (passes k)
 
 sub-join-masks : tie.Need-sub-join-masks Inv-loop μ-loop
-sub-join-masks c = omega arith
+sub-join-masks c = let f = whole (c .before .before .before) in omega arith
 
 part-join-masks-start : tie.Need-part-join-masks-start Inv-loop μ-loop
-part-join-masks-start c = let a = asla c in omega arith
+part-join-masks-start c = let f = whole (c .before .before .before) in omega arith
 
 part-join-masks-end : tie.Need-part-join-masks-end Inv-loop μ-loop
-part-join-masks-end c = let a = asla c in omega arith
+part-join-masks-end c = let f = whole (c .before .before .before) in omega arith
 
 join-masks-requires : tie.Need-join-masks-requires Inv-loop μ-loop
 join-masks-requires c κs =
-    let k = c .before in
-    let a = asla k in
+    let k = c .before .before .before .before in
+    let a = asla k (part-taken Every (run k) (place k) (type k) (size k) (whole k) _ (c .before .before .is-chosen .ensures) ∙ c .before .if1 .taken) in
     let n = part-length (run k) (place k + 4) (size k) (a .within) in
     let e = part-is (run k) (place k + 4) (size k) in
     let h = ap aslaHeader e in
     (omega (arith, a .fixed), ap notIgnored e ∙ a .live, omega (arith, a .masks))
 
 loop-less : tie.Need-loop-less Inv-loop μ-loop
-loop-less c = let a = asla (c .before .before) in omega arith
+loop-less c = let f = whole (c .before .before .before .before .before) in omega arith
 
 loop-again : tie.Need-loop-again Inv-loop μ-loop
 loop-again c =
-    let k = c .before .before in
+    let k = c .before .before .before .before .before in
     let l = k .before .before .before .before .before .loop in
-    let a = asla k in
-    (a .within, a .passes, held-next (run k) (l .m) (c .join-masks .result) (l .from) (place k) (size k) (l .inv .2) a (c .join-masks .ensures))
+    let a = asla k (part-taken Every (run k) (place k) (type k) (size k) (whole k) _ (c .before .before .before .is-chosen .ensures) ∙ c .before .before .if1 .taken) in
+    (a .within, a .passes, held-next (run k) (l .m) (c .join-masks .result) (place k) (place k) (size k) (l .inv .2) a (c .join-masks .ensures))
+
+loop-less-2 : tie.Need-loop-less-2 Inv-loop μ-loop
+loop-less-2 c = let f = whole (c .before .before .before) in omega arith
+
+loop-again-2 : tie.Need-loop-again-2 Inv-loop μ-loop
+loop-again-2 c =
+    let k = c .before .before .before in
+    let l = k .before .before .before .before .before .loop in
+    let f = whole k in (
+      f .within,
+      rest-passes Every (run k) (place k) (type k) (size k) f (passes k),
+      held-skip (run k) (l .m) (place k) (place k + 4 + size k) (l .inv .2) (aslas-passed Every (run k) (place k) (type k) (size k) f (part-taken Every (run k) (place k) (type k) (size k) f _ (c .before .is-chosen .ensures) ∙ c .if1 .left)),
+    )
 
 returns-2 : tie.Need-returns-2 Inv-loop μ-loop
 returns-2 c =
     let l = c .before .loop in
     let r = c .before .before .before .args .r .now in
-    held-end r (l .m) (l .from) (l .inv .2) (aslas-end Every r (l .from) (omega arith))
+    held-end r (l .m) (l .at) (l .inv .2) (aslas-end Every r (l .at) (omega arith))
 
 pub all-masks-spec : {M : Type 1} → statement M
 all-masks-spec =
@@ -108,16 +146,22 @@ all-masks-spec =
     Inv-loop
     μ-loop
     loop-holds
-    next-asla-requires
-    enum-known-at
+    read-frame-requires
+    enum-known-code
     enum-told
     returns
     add-value
     add-next
+    sub-is-chosen
+    part-is-chosen-start
+    part-is-chosen-end
+    is-chosen-requires
     sub-join-masks
     part-join-masks-start
     part-join-masks-end
     join-masks-requires
     loop-less
     loop-again
+    loop-less-2
+    loop-again-2
     returns-2)

@@ -16,10 +16,10 @@ use Rattle.bgpls_named.proofs.join_masks.Reads as reads
 use Rattle.bgpls_named.proofs.join_masks.Lts as lts
 use Rattle.bgpls_check.proofs.read_asla_header.Reads as read-asla-header-reads
 use Rattle.masks.proofs.joined.Reads as joined-reads
-use Rattle.masks.proofs.mask_number.Reads as mask-number-reads
+use Rattle.masks.proofs.sent_number.Reads as sent-number-reads
 
 abbrev Read : Type 0
-Read = lts.After-struct-known2 (read-asla-header-reads.Asked, read-asla-header-reads.Learnt, mask-number-reads.Asked, mask-number-reads.Learnt, joined-reads.Asked, joined-reads.Learnt) reads.Pre reads.Post
+Read = lts.After-struct-known2 (read-asla-header-reads.Asked, read-asla-header-reads.Learnt, sent-number-reads.Asked, sent-number-reads.Learnt, joined-reads.Asked, joined-reads.Learnt) reads.Pre reads.Post
 
 -- The value, and its mask lengths.
 abbrev value : Read → List ℕ
@@ -46,17 +46,17 @@ add-end c = search needs
 add-next : tie.Need-add-next
 add-next c = search needs
 
-sub-mask-number : tie.Need-sub-mask-number
-sub-mask-number c = search needs
+sub-sent-number : tie.Need-sub-sent-number
+sub-sent-number c = search needs
 
-part-mask-number-start : tie.Need-part-mask-number-start
-part-mask-number-start c = search needs
+part-sent-number-start : tie.Need-part-sent-number-start
+part-sent-number-start c = search needs
 
-part-mask-number-end : tie.Need-part-mask-number-end
-part-mask-number-end c = let h = room c in omega arith
+part-sent-number-end : tie.Need-part-sent-number-end
+part-sent-number-end c = let h = room c in omega arith
 
-mask-number-requires : tie.Need-mask-number-requires
-mask-number-requires c κs =
+sent-number-requires : tie.Need-sent-number-requires
+sent-number-requires c κs =
     let k = c .before in
     let h = room k in
     omega (arith, part-length (value k) 4 (header k .standard) (omega arith), standard-is k, standard-small (value k) (k .before .before .before .before .pre .1))
@@ -64,17 +64,17 @@ mask-number-requires c κs =
 joined-requires : tie.Need-joined-requires
 joined-requires c κs = search needs
 
-sub-mask-number-2 : tie.Need-sub-mask-number-2
-sub-mask-number-2 c = search needs
+sub-sent-number-2 : tie.Need-sub-sent-number-2
+sub-sent-number-2 c = search needs
 
-part-mask-number-start-2 : tie.Need-part-mask-number-start-2
-part-mask-number-start-2 c = search needs
+part-sent-number-start-2 : tie.Need-part-sent-number-start-2
+part-sent-number-start-2 c = search needs
 
-part-mask-number-end-2 : tie.Need-part-mask-number-end-2
-part-mask-number-end-2 c = let h = room (c .before .before .before) in omega arith
+part-sent-number-end-2 : tie.Need-part-sent-number-end-2
+part-sent-number-end-2 c = let h = room (c .before .before .before) in omega arith
 
-mask-number-requires-2 : tie.Need-mask-number-requires-2
-mask-number-requires-2 c κs =
+sent-number-requires-2 : tie.Need-sent-number-requires-2
+sent-number-requires-2 c κs =
     let k = c .before .before .before .before in
     let h = room k in
     omega (arith, part-length (value k) (4 + header k .standard) (header k .user) h, user-is k, user-small (value k) (k .before .before .before .before .pre .1))
@@ -86,8 +86,8 @@ returns : tie.Need-returns
 returns c =
     let k = c .before .before .before .before .before .before in
     λ n h. (
-      join-one _ _ _ _ _ (c .before .before .before .joined .ensures) (c .before .before .before .before .mask-number .ensures) (standard-part (value k) (header k .standard) (header k .user) (standard-is k) (user-is k)) n h,
-      join-one _ _ _ _ _ (c .joined2 .ensures) (c .before .mask-number2 .ensures) (user-part (value k) (header k .standard) (header k .user) (standard-is k) (user-is k)) n h,
+      join-one _ _ _ _ _ (c .before .before .before .joined .ensures) (c .before .before .before .before .sent-number .ensures) (standard-part (value k) (header k .standard) (header k .user) (standard-is k) (user-is k)) n h,
+      join-one _ _ _ _ _ (c .joined2 .ensures) (c .before .sent-number2 .ensures) (user-part (value k) (header k .standard) (header k .user) (standard-is k) (user-is k)) n h,
     )
 
 pub join-masks-spec : {M : Type 1} → statement M
@@ -97,14 +97,14 @@ join-masks-spec =
     read-asla-header-requires
     add-end
     add-next
-    sub-mask-number
-    part-mask-number-start
-    part-mask-number-end
-    mask-number-requires
+    sub-sent-number
+    part-sent-number-start
+    part-sent-number-end
+    sent-number-requires
     joined-requires
-    sub-mask-number-2
-    part-mask-number-start-2
-    part-mask-number-end-2
-    mask-number-requires-2
+    sub-sent-number-2
+    part-sent-number-start-2
+    part-sent-number-end-2
+    sent-number-requires-2
     joined-requires-2
     returns)

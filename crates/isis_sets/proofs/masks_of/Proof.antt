@@ -23,32 +23,32 @@ add-m c = search needs
 add-e : tie.Need-add-e
 add-e c = search needs
 
-sub-mask-number : tie.Need-sub-mask-number
-sub-mask-number c = search needs
+sub-sent-number : tie.Need-sub-sent-number
+sub-sent-number c = search needs
 
-part-mask-number-start : tie.Need-part-mask-number-start
-part-mask-number-start c = search needs
+part-sent-number-start : tie.Need-part-sent-number-start
+part-sent-number-start c = search needs
 
-part-mask-number-end : tie.Need-part-mask-number-end
-part-mask-number-end c = let r = c .before .before .before .before .read-header in omega (arith, masks-inside (now (c .before .before .before .before .before .before .args .v)) (r .result) (r .ensures .0) (sym (c .before .before .before .mask-too-long .ensures) ∙ c .before .before .if1 .left) (c .before .before .before .before .before .before .pre))
+part-sent-number-end : tie.Need-part-sent-number-end
+part-sent-number-end c = let r = c .before .before .before .before .read-header in omega (arith, masks-inside (now (c .before .before .before .before .before .before .args .v)) (r .result) (r .ensures .0) (sym (c .before .before .before .mask-too-long .ensures) ∙ c .before .before .if1 .left) (c .before .before .before .before .before .before .pre))
 
-mask-number-requires : tie.Need-mask-number-requires
-mask-number-requires c κs = let r = c .before .before .before .before .before .read-header in parts-small (now (c .before .before .before .before .before .before .before .args .v)) (r .result) (r .ensures .0) (sym (c .before .before .before .before .mask-too-long .ensures) ∙ c .before .before .before .if1 .left) .0
+sent-number-requires : tie.Need-sent-number-requires
+sent-number-requires c κs = let r = c .before .before .before .before .before .read-header in parts-small (now (c .before .before .before .before .before .before .before .args .v)) (r .result) (r .ensures .0) (sym (c .before .before .before .before .mask-too-long .ensures) ∙ c .before .before .before .if1 .left) .0
 
-sub-mask-number-2 : tie.Need-sub-mask-number-2
-sub-mask-number-2 c = search needs
+sub-sent-number-2 : tie.Need-sub-sent-number-2
+sub-sent-number-2 c = search needs
 
-part-mask-number-start-2 : tie.Need-part-mask-number-start-2
-part-mask-number-start-2 c = search needs
+part-sent-number-start-2 : tie.Need-part-sent-number-start-2
+part-sent-number-start-2 c = search needs
 
-part-mask-number-end-2 : tie.Need-part-mask-number-end-2
-part-mask-number-end-2 c = let r = c .before .before .before .before .before .before .read-header in masks-inside (now (c .before .before .before .before .before .before .before .before .args .v)) (r .result) (r .ensures .0) (sym (c .before .before .before .before .before .mask-too-long .ensures) ∙ c .before .before .before .before .if1 .left) (c .before .before .before .before .before .before .before .before .pre)
+part-sent-number-end-2 : tie.Need-part-sent-number-end-2
+part-sent-number-end-2 c = let r = c .before .before .before .before .before .before .read-header in masks-inside (now (c .before .before .before .before .before .before .before .before .args .v)) (r .result) (r .ensures .0) (sym (c .before .before .before .before .before .mask-too-long .ensures) ∙ c .before .before .before .before .if1 .left) (c .before .before .before .before .before .before .before .before .pre)
 
-mask-number-requires-2 : tie.Need-mask-number-requires-2
-mask-number-requires-2 c κs = let r = c .before .before .before .before .before .before .before .read-header in parts-small (now (c .before .before .before .before .before .before .before .before .before .args .v)) (r .result) (r .ensures .0) (sym (c .before .before .before .before .before .before .mask-too-long .ensures) ∙ c .before .before .before .before .before .if1 .left) .1
+sent-number-requires-2 : tie.Need-sent-number-requires-2
+sent-number-requires-2 c κs = let r = c .before .before .before .before .before .before .before .read-header in parts-small (now (c .before .before .before .before .before .before .before .before .before .args .v)) (r .result) (r .ensures .0) (sym (c .before .before .before .before .before .before .mask-too-long .ensures) ∙ c .before .before .before .before .before .if1 .left) .1
 
 returns-2 : tie.Need-returns-2
-returns-2 c = let r = c .before .before .before .before .before .before .before .before .read-header in masks-numbers (now (c .before .before .before .before .before .before .before .before .before .before .args .v)) (r .result) (r .ensures .0) _ (sym (c .before .before .before .before .before .before .before .mask-too-long .ensures) ∙ c .before .before .before .before .before .before .if1 .left) (c .before .before .mask-number .ensures) (c .mask-number2 .ensures)
+returns-2 c = let r = c .before .before .before .before .before .before .before .before .read-header in masks-numbers (now (c .before .before .before .before .before .before .before .before .before .before .args .v)) (r .result) (r .ensures .0) _ (sym (c .before .before .before .before .before .before .before .mask-too-long .ensures) ∙ c .before .before .before .before .before .before .if1 .left) (c .before .before .sent-number .ensures) (c .sent-number2 .ensures)
 
 pub masks-of-spec : {M : Type 1} → statement M
 masks-of-spec =
@@ -59,12 +59,12 @@ masks-of-spec =
     returns
     add-m
     add-e
-    sub-mask-number
-    part-mask-number-start
-    part-mask-number-end
-    mask-number-requires
-    sub-mask-number-2
-    part-mask-number-start-2
-    part-mask-number-end-2
-    mask-number-requires-2
+    sub-sent-number
+    part-sent-number-start
+    part-sent-number-end
+    sent-number-requires
+    sub-sent-number-2
+    part-sent-number-start-2
+    part-sent-number-end-2
+    sent-number-requires-2
     returns-2)

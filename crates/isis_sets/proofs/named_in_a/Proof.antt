@@ -7,7 +7,8 @@ use Rattle.linkstate.proofs.WalkLaws.{left}
 use Rattle.linkstate.specs.Sides.{names, named}
 use Rattle.linkstate.specs.Elements.{faults}
 use Rattle.linkstate.specs.Replies.{accepted, runA}
-use Rattle.linkstate.specs.Masks.{user as userNo, inNumber}
+use Rattle.linkstate.specs.Masks.{user as userNo}
+use Rattle.masks.specs.Sets.{turnedPlace, inSent}
 use Rattle.linkstate.specs.Lists.{any}
 use denote.Ref.{now}
 use lib.ListN.{length}
@@ -20,13 +21,13 @@ use Rattle.isis_sets.proofs.named_in_a.Statement.{statement}
 use Rattle.isis_sets.proofs.named_in_a.Tie as tie
 
 abbrev Inv-loop : tie.InvT-loop
-Inv-loop a standard₀ user₀ at₀ standard user at = (at ≤ length a) × (faults runA checkA (left 1 0 a at) ≡ accepted) × ((n : ℕ) → n < 64 → inNumber standard n || any (names n) (Left a at) ≡ named n (sideA a)) × ((n : ℕ) → n < 64 → inNumber user n || any (names (userNo n)) (Left a at) ≡ named (userNo n) (sideA a))
+Inv-loop a standard₀ user₀ at₀ standard user at = (at ≤ length a) × (faults runA checkA (left 1 0 a at) ≡ accepted) × ((n : ℕ) → n < 64 → inSent standard n || any (names n) (Left a at) ≡ named n (sideA a)) × ((n : ℕ) → n < 64 → inSent user n || any (names (userNo n)) (Left a at) ≡ named (userNo n) (sideA a))
 
 abbrev μ-loop : tie.MeasureT-loop
 μ-loop a standard₀ user₀ at₀ standard user at = length a - at
 
 loop-holds : tie.Need-loop-holds Inv-loop μ-loop
-loop-holds c = let x = c .before .args in (omega arith, ap (faults runA checkA) (left-all 0 (now (x .a))) ∙ c .before .pre, λ n h. named-start n n (now (x .a)), λ n h. named-start (userNo n) n (now (x .a)))
+loop-holds c = let x = c .before .args in (omega arith, ap (faults runA checkA) (left-all 0 (now (x .a))) ∙ c .before .pre, λ n h. named-start n (turnedPlace n) (now (x .a)), λ n h. named-start (userNo n) (turnedPlace n) (now (x .a)))
 
 add-n : tie.Need-add-n Inv-loop μ-loop
 add-n c = search needs
@@ -78,8 +79,8 @@ loop-again c = let l = c .before .before .before .before .before .before .before
     let m = c .before .before .masks-of in (
       inside checkA 0 a (l .at) here (l .inv .1),
       rest-ok checkA 0 a (l .at) here (l .inv .1),
-      λ n h. named-more a (l .at) here (l .inv .1) n (inNumber (l .standard) n) (inNumber (m .result .standard) n) (inNumber (c .before .joined .result) n) asla (m .ensures .standard n h) (c .before .joined .ensures n) ∙ l .inv .2 n h,
-      λ n h. named-more a (l .at) here (l .inv .1) (userNo n) (inNumber (l .user) n) (inNumber (m .result .user) n) (inNumber (c .joined2 .result) n) asla (m .ensures .user n h) (c .joined2 .ensures n) ∙ l .inv .3 n h,
+      λ n h. named-more a (l .at) here (l .inv .1) n (inSent (l .standard) n) (inSent (m .result .standard) n) (inSent (c .before .joined .result) n) asla (m .ensures .standard n h) (c .before .joined .ensures (turnedPlace n)) ∙ l .inv .2 n h,
+      λ n h. named-more a (l .at) here (l .inv .1) (userNo n) (inSent (l .user) n) (inSent (m .result .user) n) (inSent (c .joined2 .result) n) asla (m .ensures .user n h) (c .joined2 .ensures (turnedPlace n)) ∙ l .inv .3 n h,
     )
 
 loop-less-2 : tie.Need-loop-less-2 Inv-loop μ-loop
@@ -91,16 +92,24 @@ loop-again-2 c = let l = c .before .before .before .before .loop in
     let here = c .before .before .before .loop-test .taken in (
       inside checkA 0 a (l .at) here (l .inv .1),
       rest-ok checkA 0 a (l .at) here (l .inv .1),
-      λ n h. named-other a (l .at) here (l .inv .1) n (inNumber (l .standard) n) (c .if1 .left) ∙ l .inv .2 n h,
-      λ n h. named-other a (l .at) here (l .inv .1) (userNo n) (inNumber (l .user) n) (c .if1 .left) ∙ l .inv .3 n h,
+      λ n h. named-other a (l .at) here (l .inv .1) n (inSent (l .standard) n) (c .if1 .left) ∙ l .inv .2 n h,
+      λ n h. named-other a (l .at) here (l .inv .1) (userNo n) (inSent (l .user) n) (c .if1 .left) ∙ l .inv .3 n h,
     )
 
+turned-requires : tie.Need-turned-requires Inv-loop μ-loop
+turned-requires c κs = search needs
+
+turned-requires-2 : tie.Need-turned-requires-2 Inv-loop μ-loop
+turned-requires-2 c κs = search needs
+
 returns : tie.Need-returns Inv-loop μ-loop
-returns c = let l = c .before .loop in
-    let a = now (c .before .before .before .args .a) in
+returns c =
+    let l = c .before .before .before .loop in
+    let a = now (c .before .before .before .before .before .args .a) in
+    let end = c .before .before .loop-test .left in
     record {
-      standard = λ n h. named-end n a (l .at) (inNumber (l .standard) n) (c .loop-test .left) ∙ l .inv .2 n h;
-      user = λ n h. named-end (userNo n) a (l .at) (inNumber (l .user) n) (c .loop-test .left) ∙ l .inv .3 n h;
+      standard = λ n h. c .before .turned .ensures n h ∙ named-end n a (l .at) (inSent (l .standard) n) end ∙ l .inv .2 n h;
+      user = λ n h. c .turned2 .ensures n h ∙ named-end (userNo n) a (l .at) (inSent (l .user) n) end ∙ l .inv .3 n h;
     }
 
 pub named-in-a-spec : {M : Type 1} → statement M
@@ -127,4 +136,6 @@ named-in-a-spec =
     loop-again
     loop-less-2
     loop-again-2
+    turned-requires
+    turned-requires-2
     returns)

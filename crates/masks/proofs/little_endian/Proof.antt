@@ -1,66 +1,50 @@
--- `masks::little_endian` meets its contract: from the last byte, m is the number of the bytes passed.
--- Assumes nothing.
-use Prim.Native.Nat.{_≤_, _<_, _-_, _^_}
-use mathlib.Core.Path.{_≡_}
-use lib.ListN.{length, drop}
+-- `masks::little_endian` meets its contract: at once, or byte by byte.
 use native.Mathlib.Omega.{arith}
+use mathlib.Core.Path.{_∙_, ap₂}
+use Prim.Native.Nat.{ℕ, _+_, _*_}
 use denote.Ref.{now}
-use Rattle.masks.specs.Sets.{littleEndian}
-use Rattle.masks.proofs.Steps.{little-none, little-room, little-next, little-all}
+use Rattle.masks.proofs.Steps.{four-all, eight-all}
 use borrow.Author.Needs.{needs}
 use Rattle.masks.proofs.little_endian.Statement.{statement}
 use Rattle.masks.proofs.little_endian.Tie as tie
 
-abbrev Inv-loop : tie.InvT-loop
-Inv-loop s i₀ m₀ i m = (i ≤ length s) × (m ≡ littleEndian (drop i s))
+four-bytes-requires : tie.Need-four-bytes-requires
+four-bytes-requires c κs = search needs
 
-abbrev μ-loop : tie.MeasureT-loop
-μ-loop s i₀ m₀ i m = i
+returns : tie.Need-returns
+returns c = c .four-bytes .ensures .0 ∙ four-all (now (c .before .before .before .args .s)) (c .before .if1 .taken)
 
-room : (c : tie.After-shared-slice-known Inv-loop μ-loop) → c .before .before .loop .m < 256 ^ 7
-room c =
-    little-room _ _ _ (c .before .before .loop .inv .1) (λ j. omega (arith, c .shared-slice-known .given j)) (c .before .loop-test .taken)
-    (c .before .before .before .pre)
+four-bytes-requires-2 : tie.Need-four-bytes-requires-2
+four-bytes-requires-2 c κs = search needs
 
-loop-holds : tie.Need-loop-holds Inv-loop μ-loop
-loop-holds c = (omega arith, little-none (now (c .args .s)))
+four-bytes-requires-3 : tie.Need-four-bytes-requires-3
+four-bytes-requires-3 c κs = search needs
 
-sub-i : tie.Need-sub-i Inv-loop μ-loop
-sub-i c = search needs
+mul-result : tie.Need-mul-result
+mul-result c = search needs
 
-shared-slice-read-b : tie.Need-shared-slice-read-b Inv-loop μ-loop
-shared-slice-read-b c = search needs
+add-result : tie.Need-add-result
+add-result c = search needs
 
-cast-b : tie.Need-cast-b Inv-loop μ-loop
-cast-b c = omega (arith, c .shared-slice-known .given (c .before .before .loop .i - 1))
+returns-2 : tie.Need-returns-2
+returns-2 c = ap₂ (λ (x y : ℕ). x * 4294967296 + y) (c .four-bytes3 .ensures .0) (c .before .four-bytes2 .ensures .0) ∙ eight-all (now (c .before .before .before .before .before .args .s)) (c .before .before .if2 .taken)
 
-mul-m : tie.Need-mul-m Inv-loop μ-loop
-mul-m c = omega (arith, room c)
+few-bytes-requires : tie.Need-few-bytes-requires
+few-bytes-requires c κs = search needs
 
-add-m : tie.Need-add-m Inv-loop μ-loop
-add-m c = omega (arith, room c, c .shared-slice-known .given (c .before .before .loop .i - 1))
-
-loop-less : tie.Need-loop-less Inv-loop μ-loop
-loop-less c = search needs
-
-loop-again : tie.Need-loop-again Inv-loop μ-loop
-loop-again c = let l = c .before .before in (omega arith, little-next _ _ _ (l .loop .inv .1) (c .before .loop-test .taken) (l .loop .inv .0))
-
-returns : tie.Need-returns Inv-loop μ-loop
-returns c = little-all _ _ _ (c .before .loop .inv .1) (c .loop-test .left)
+returns-3 : tie.Need-returns-3
+returns-3 c = search needs
 
 pub little-endian-spec : {M : Type 1} → statement M
 little-endian-spec =
     tie.close
     (tie.spec
-    Inv-loop
-    μ-loop
-    loop-holds
-    sub-i
-    shared-slice-read-b
-    cast-b
-    mul-m
-    add-m
-    loop-less
-    loop-again
-    returns)
+    four-bytes-requires
+    returns
+    four-bytes-requires-2
+    four-bytes-requires-3
+    mul-result
+    add-result
+    returns-2
+    few-bytes-requires
+    returns-3)
