@@ -82,13 +82,12 @@ fn export_table(
 {
     let l = bandwidth_rows(a, lists, standards, users, index);
     let r = isis_index_sets::rsvp_te_grid(a, lists, standards, users, index, legacy);
-    let g = *general;
     export_bytes::export_sets(
         a,
-        l,
-        r,
+        &l,
+        &r,
         rs,
-        g,
+        general,
         gs,
         values,
         count,

@@ -70,7 +70,7 @@ fn join_next(
 {
     let g = isis_index_sets::set_grid(a, lists, standards, users, index, legacy, general, n as u32);
     let w = isis_srlg_index::srlg_bits(sets, takers, entries, n);
-    set_groups::join(a, values, n, g, w, count, grids, bits, heads)
+    set_groups::join(a, values, n, &g, w, count, grids, bits, heads)
 }
 
 // All named applications join, ascending; how many groups there are.

@@ -1,6 +1,7 @@
 -- `set_bytes::kinds_size` meets its contract: what is counted so far are the TLVs of the kinds passed. Assumes nothing.
 use Rattle.set_bytes.proofs.Laws.{tlvs-none, codes-none, row-is, every-row, here-absent, here-size, here-srlgs, length-next}
 use Rattle.set_bytes.specs.Sets.{inTlvs, topOf, Fits, rowFor, codesFrom}
+use denote.Ref.{now}
 use borrow.Author.Needs.{needs}
 use lib.ListN.{length, getD}
 use Rattle.linkstate.specs.Kinds.{codes}
@@ -18,7 +19,7 @@ abbrev μ-loop : tie.MeasureT-loop
 μ-loop l g n from to total₀ i₀ total i = to - i
 
 loop-holds : tie.Need-loop-holds Inv-loop μ-loop
-loop-holds c = let a = c .args in (omega arith, omega arith, omega arith, λ r ns s t e. ap length (sym (ap (inTlvs (topOf r (a .l) (a .g) ns)) (codes-none (a .from)) ∙ tlvs-none (topOf r (a .l) (a .g) ns))))
+loop-holds c = let a = c .args in (omega arith, omega arith, omega arith, λ r ns s t e. ap length (sym (ap (inTlvs (topOf r (now (a .l)) (now (a .g)) ns)) (codes-none (a .from)) ∙ tlvs-none (topOf r (now (a .l)) (now (a .g)) ns))))
 
 srlgs-size-requires : tie.Need-srlgs-size-requires Inv-loop μ-loop
 srlgs-size-requires c κs = search needs
@@ -39,7 +40,7 @@ loop-again c = let l = c .before .before .before in
       omega arith,
       omega arith,
       omega (arith, c .srlgs-size .ensures .0),
-      λ r ns s t e. omega (arith, l .loop .inv .3 r ns s t e, length-next (topOf r (a .l) (a .g) ns) (a .from) i (omega arith), ap length (here-srlgs r (a .l) (a .g) ns i (omega arith)), c .srlgs-size .ensures .1 ns e),
+      λ r ns s t e. omega (arith, l .loop .inv .3 r ns s t e, length-next (topOf r (now (a .l)) (now (a .g)) ns) (a .from) i (omega arith), ap length (here-srlgs r (now (a .l)) (now (a .g)) ns i (omega arith)), c .srlgs-size .ensures .1 ns e),
     )
 
 row-at-requires : tie.Need-row-at-requires Inv-loop μ-loop
@@ -65,7 +66,7 @@ loop-again-2 c = let l = c .before .before .before .before .before in
       omega arith,
       omega arith,
       omega arith,
-      λ r ns s t e. omega (arith, l .loop .inv .3 r ns s t e, length-next (topOf r (a .l) (a .g) ns) (a .from) i (omega arith), ap length (here-absent r (a .l) (a .g) ns i (omega arith) (c .before .before .before .if1 .left) row)),
+      λ r ns s t e. omega (arith, l .loop .inv .3 r ns s t e, length-next (topOf r (now (a .l)) (now (a .g)) ns) (a .from) i (omega arith), ap length (here-absent r (now (a .l)) (now (a .g)) ns i (omega arith) (c .before .before .before .if1 .left) row)),
     )
 
 -- A value is short, since every row is.
@@ -75,8 +76,8 @@ small c =
     let a = l .before .args in
     let p = l .before .pre in
     let k = getD codes (l .loop .i) 0 in
-    let r = row-is (rowFor (a .l) (a .g) k) _ _ (sym (c .before .before .before .row-at .ensures) ∙ c .before .len .given .1) in
-    omega (arith, every-row (λ (x : List ℕ). getD x 1 0 ≤ 252) (a .l) (a .g) (p .3) (p .4) k)
+    let r = row-is (rowFor (now (a .l)) (now (a .g)) k) _ _ (sym (c .before .before .before .row-at .ensures) ∙ c .before .len .given .1) in
+    omega (arith, every-row (λ (x : List ℕ). getD x 1 0 ≤ 252) (now (a .l)) (now (a .g)) (p .3) (p .4) k)
 
 add-total-2 : tie.Need-add-total-2 Inv-loop μ-loop
 add-total-2 c = search needs
@@ -108,13 +109,13 @@ loop-again-3 c = let v = c .before .before .before in
       omega arith,
       omega arith,
       omega (arith, small (c .before .before)),
-      λ r ns s t e. omega (arith, l .loop .inv .3 r ns s t e, length-next (topOf r (a .l) (a .g) ns) (a .from) i (omega arith), here-size r (a .l) (a .g) ns i _ _ _ (c .before .code-at .ensures) (omega arith) (v .before .before .before .if1 .left) row s t),
+      λ r ns s t e. omega (arith, l .loop .inv .3 r ns s t e, length-next (topOf r (now (a .l)) (now (a .g)) ns) (a .from) i (omega arith), here-size r (now (a .l)) (now (a .g)) ns i _ _ _ (c .before .code-at .ensures) (omega arith) (v .before .before .before .if1 .left) row s t),
     )
 
 returns : tie.Need-returns Inv-loop μ-loop
 returns c = let l = c .before in
     let a = l .before .args in
-    (omega arith, λ r ns s t e. l .loop .inv .3 r ns s t e ∙ ap (λ (k : ℕ). length (inTlvs (topOf r (a .l) (a .g) ns) (codesFrom (a .from) k))) (omega arith))
+    (omega arith, λ r ns s t e. l .loop .inv .3 r ns s t e ∙ ap (λ (k : ℕ). length (inTlvs (topOf r (now (a .l)) (now (a .g)) ns) (codesFrom (a .from) k))) (omega arith))
 
 pub kinds-size-spec : {M : Type 1} → statement M
 kinds-size-spec =
