@@ -28,14 +28,14 @@ fn next_named(standard: u64, user: u64, from: usize) -> usize
     64 + masks::next_bit(user, (from - 64) as u32) as usize
 }
 
-// Whether no more than twelve applications are named.
-pub fn few_named(standard: u64, user: u64) -> bool
-    ensures { λ r. ⌜ (r ≡ true → left (inNumbers standard user) 1 ≤ 12) ⌝ }
+// Whether no more than so many applications are named.
+pub fn few_named(standard: u64, user: u64, most: usize) -> bool
+    ensures { λ r. ⌜ (r ≡ true → left (inNumbers standard user) 1 ≤ most) ⌝ }
 {
     let mut k: usize = 0;
     let mut n = next_named(standard, user, 1);
     while n < 128 {
-        if k == 12 {
+        if k == most {
             return false;
         }
         k += 1;

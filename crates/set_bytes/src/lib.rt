@@ -8,7 +8,7 @@ ghost use Rattle.linkstate.specs.Bytes.{two, bytesAt, bytesOfWords};
 ghost use Rattle.linkstate.specs.Kinds.{codes, applicationCodes};
 ghost use Rattle.linkstate.specs.Meaning.{row};
 ghost use Rattle.linkstate.specs.Export.{tlv, bytesOf};
-ghost use Rattle.set_bytes.specs.Sets.{inTlvs, front, setOf, topOf, lowCodes, highCodes, Fits, Short, rowRead, rowFor, codesFrom};
+ghost use Rattle.set_bytes.specs.Sets.{inTlvs, front, setOf, topOf, lowCodes, highCodes, Fits, Short, rowRead, rowSize, rowsSize, frontSize, rowFor, codesFrom};
 
 // Places among the fourteen kinds, ascending by code: that of the SRLGs, the first after the ASLA TLVs, and the end.
 const SRLGS: usize = 5;
@@ -89,23 +89,54 @@ fn srlgs_size(n: usize) -> usize
     4 + 4 * n
 }
 
-// How many bytes the TLVs of the kinds from one place to another have.
-fn kinds_size(l: &[[usize; 2]; 3], g: &[[usize; 2]; 10], n: usize, from: usize, to: usize) -> usize
-    requires { ⌜ (from ≤ to) × (to ≤ 14) × (n ≤ 512) × Short (now l) × Short (now g) ⌝ }
-    ensures { λ r. ⌜ (r ≤ 28728) × ((a ns : List ℕ) → Fits a (now (l .entry)) → Fits a (now (g .entry)) → length ns ≡ n → r ≡ length (inTlvs (topOf a (now (l .entry)) (now (g .entry)) ns) (codesFrom from to))) ⌝ }
+// How many bytes the TLV of a row has, apart from what stands in front of its value.
+fn row_size(row: [usize; 2]) -> usize
+    requires { ⌜ getD row 1 0 ≤ 252 ⌝ }
+    ensures { λ r. ⌜ (r ≡ rowSize row) × (r ≤ 256) ⌝ }
+{
+    let place = row[0];
+    if place == 0 {
+        return 0;
+    }
+    4 + row[1]
+}
+
+// Those of the rows of a grid.
+fn grid_size(g: &[[usize; 2]; 10]) -> usize
+    requires { ⌜ Short (now g) ⌝ }
+    ensures { λ r. ⌜ (r ≡ rowsSize (now (g .entry)) 10) × (r ≤ 2560) ⌝ }
 {
     let mut total: usize = 0;
-    for i in from..to {
-        if i == SRLGS {
-            total = total + srlgs_size(n);
-            continue;
-        }
-        let Row::Present { place: _, len } = row_at(l, g, i) else {
-            continue;
-        };
-        total = total + 4 + front_len(code_at(i)) + len;
+    for k in 0..10 {
+        total = total + row_size(g[k]);
     }
     total
+}
+
+// Those of the link's rows.
+fn link_size(l: &[[usize; 2]; 3]) -> usize
+    requires { ⌜ Short (now l) ⌝ }
+    ensures { λ r. ⌜ (r ≡ rowsSize (now (l .entry)) 3) × (r ≤ 768) ⌝ }
+{
+    row_size(l[0]) + row_size(l[1]) + row_size(l[2])
+}
+
+// How many bytes stand in front of the values of a grid.
+fn front_size(g: &[[usize; 2]; 10]) -> usize
+    ensures { λ r. ⌜ (r ≡ frontSize (now (g .entry))) × (r ≤ 1) ⌝ }
+{
+    if g[1][0] == 0 {
+        return 0;
+    }
+    1
+}
+
+// How many bytes the TLVs of all kinds have.
+fn kinds_size(l: &[[usize; 2]; 3], g: &[[usize; 2]; 10], n: usize) -> usize
+    requires { ⌜ (n ≤ 512) × Short (now l) × Short (now g) ⌝ }
+    ensures { λ r. ⌜ (r ≤ 28728) × ((a ns : List ℕ) → Fits a (now (l .entry)) → Fits a (now (g .entry)) → length ns ≡ n → r ≡ length (inTlvs (topOf a (now (l .entry)) (now (g .entry)) ns) (codesFrom 0 14))) ⌝ }
+{
+    link_size(l) + grid_size(g) + front_size(g) + srlgs_size(n)
 }
 
 // Type and length of a TLV.
@@ -190,7 +221,7 @@ pub fn set_size(g: &[[usize; 2]; 10], srlgs: usize) -> usize
     ensures { λ r. ⌜ (r ≤ 28728) × ((a ns : List ℕ) → Fits a (now (g .entry)) → length ns ≡ srlgs → r ≡ length (inTlvs (setOf a (now (g .entry)) ns) applicationCodes)) ⌝ }
 {
     let l = [[0usize; 2]; 3];
-    kinds_size(&l, g, srlgs, 0, END)
+    kinds_size(&l, g, srlgs)
 }
 
 // Whether an application's set is empty.
@@ -215,7 +246,7 @@ pub fn top_size(l: &[[usize; 2]; 3], g: &[[usize; 2]; 10], srlgs: usize) -> usiz
     requires { ⌜ (srlgs ≤ 512) × Short (now l) × Short (now g) ⌝ }
     ensures { λ r. ⌜ (r ≤ 28728) × ((a ns : List ℕ) → Fits a (now (l .entry)) → Fits a (now (g .entry)) → length ns ≡ srlgs → r ≡ length (inTlvs (topOf a (now (l .entry)) (now (g .entry)) ns) lowCodes) + length (inTlvs (topOf a (now (l .entry)) (now (g .entry)) ns) highCodes)) ⌝ }
 {
-    kinds_size(l, g, srlgs, 0, END)
+    kinds_size(l, g, srlgs)
 }
 
 // The TLVs at the top of a run that come before the ASLA TLVs, ascending; the place after them.

@@ -8,7 +8,7 @@ use Rattle.set_bytes.proofs.set_size.Statement.{statement}
 use Rattle.set_bytes.proofs.set_size.Tie as tie
 
 kinds-size-requires : tie.Need-kinds-size-requires
-kinds-size-requires c κs = (omega arith, omega arith, c .before .pre .0, none-short, c .before .pre .1)
+kinds-size-requires c κs = (c .before .pre .0, none-short, c .before .pre .1)
 
 returns : tie.Need-returns
 returns c = (c .kinds-size .ensures .0, λ r ns s e. c .kinds-size .ensures .1 r ns (none-fit r) s e ∙ ap length (set-is r (now (c .before .before .args .g)) ns))
