@@ -11,9 +11,9 @@ ghost use Rattle.set_bytes.specs.Sets.{setOf, Fits, Short};
 ghost use Rattle.asla_bytes.specs.Applications.{inNumbers, aslaHead};
 
 // How many bytes an ASLA TLV has.
-pub fn asla_size(g: [[usize; 2]; 10], srlgs: usize, standard: u64, user: u64) -> usize
-    requires { ⌜ (srlgs ≤ 512) × Short g ⌝ }
-    ensures { λ r. ⌜ (r ≤ 28752) × ((a ns : List ℕ) → Fits a g → length ns ≡ srlgs → r ≡ length (bytesOf (tlv 1122 (aslaValue (inNumbers standard user) (setOf a g ns))))) ⌝ }
+pub fn asla_size(g: &[[usize; 2]; 10], srlgs: usize, standard: u64, user: u64) -> usize
+    requires { ⌜ (srlgs ≤ 512) × Short (now g) ⌝ }
+    ensures { λ r. ⌜ (r ≤ 28752) × ((a ns : List ℕ) → Fits a (now (g .entry)) → length ns ≡ srlgs → r ≡ length (bytesOf (tlv 1122 (aslaValue (inNumbers standard user) (setOf a (now (g .entry)) ns))))) ⌝ }
 {
     8 + masks::mask_size(standard) + masks::mask_size(user) + set_bytes::set_size(g, srlgs)
 }
@@ -61,15 +61,15 @@ pub fn write_asla_head(standard: u64, user: u64, len: u16, out: &mut [u8], at: u
 // The ASLA TLV of a set; the place after it.
 pub fn write_asla(
     a: &[u8],
-    g: [[usize; 2]; 10],
+    g: &[[usize; 2]; 10],
     srlgs: &[u32],
     standard: u64,
     user: u64,
     out: &mut [u8],
     at: usize,
 ) -> usize
-    requires { ⌜ Fits (now a) g × (length (now srlgs) ≤ 512) × (at + length (bytesOf (tlv 1122 (aslaValue (inNumbers standard user) (setOf (now a) g (now srlgs))))) ≤ length (now out)) ⌝ }
-    ensures { λ r. ⌜ (r ≡ at + length (bytesOf (tlv 1122 (aslaValue (inNumbers standard user) (setOf (now (a .entry)) g (now (srlgs .entry))))))) × (now (out .exit) ≡ put (now (out .entry)) at (bytesOf (tlv 1122 (aslaValue (inNumbers standard user) (setOf (now (a .entry)) g (now (srlgs .entry))))))) ⌝ }
+    requires { ⌜ Fits (now a) (now g) × (length (now srlgs) ≤ 512) × (at + length (bytesOf (tlv 1122 (aslaValue (inNumbers standard user) (setOf (now a) (now g) (now srlgs))))) ≤ length (now out)) ⌝ }
+    ensures { λ r. ⌜ (r ≡ at + length (bytesOf (tlv 1122 (aslaValue (inNumbers standard user) (setOf (now (a .entry)) (now (g .entry)) (now (srlgs .entry))))))) × (now (out .exit) ≡ put (now (out .entry)) at (bytesOf (tlv 1122 (aslaValue (inNumbers standard user) (setOf (now (a .entry)) (now (g .entry)) (now (srlgs .entry))))))) ⌝ }
 {
     let size = asla_size(g, srlgs.len(), standard, user);
     let inner = write_asla_head(standard, user, (size - 4) as u16, out, at);

@@ -14,9 +14,9 @@ ghost use Rattle.export_bytes.specs.Whole.{generalBytes, lowBytes, highB
 use replies::Written;
 
 // How many bytes the TLV of the general set has; 0 where the set is empty.
-fn general_size(g: [[usize; 2]; 10], srlgs: usize) -> usize
-    requires { ⌜ (srlgs ≤ 512) × Short g ⌝ }
-    ensures { λ r. ⌜ (r ≤ 28752) × ((a ns : List ℕ) → Fits a g → length ns ≡ srlgs → r ≡ length (generalBytes a g ns)) ⌝ }
+fn general_size(g: &[[usize; 2]; 10], srlgs: usize) -> usize
+    requires { ⌜ (srlgs ≤ 512) × Short (now g) ⌝ }
+    ensures { λ r. ⌜ (r ≤ 28752) × ((a ns : List ℕ) → Fits a (now (g .entry)) → length ns ≡ srlgs → r ≡ length (generalBytes a (now (g .entry)) ns)) ⌝ }
 {
     if set_bytes::set_empty(g, srlgs) {
         return 0;
@@ -25,9 +25,9 @@ fn general_size(g: [[usize; 2]; 10], srlgs: usize) -> usize
 }
 
 // The TLV of the general set, with both masks empty, if the set is not empty; the place after it.
-fn write_general(a: &[u8], g: [[usize; 2]; 10], srlgs: &[u32], out: &mut [u8], at: usize) -> usize
-    requires { ⌜ Fits (now a) g × (length (now srlgs) ≤ 512) × (at + length (generalBytes (now a) g (now srlgs)) ≤ length (now out)) ⌝ }
-    ensures { λ r. ⌜ (r ≡ at + length (generalBytes (now (a .entry)) g (now (srlgs .entry)))) × (now (out .exit) ≡ put (now (out .entry)) at (generalBytes (now (a .entry)) g (now (srlgs .entry)))) ⌝ }
+fn write_general(a: &[u8], g: &[[usize; 2]; 10], srlgs: &[u32], out: &mut [u8], at: usize) -> usize
+    requires { ⌜ Fits (now a) (now g) × (length (now srlgs) ≤ 512) × (at + length (generalBytes (now a) (now g) (now srlgs)) ≤ length (now out)) ⌝ }
+    ensures { λ r. ⌜ (r ≡ at + length (generalBytes (now (a .entry)) (now (g .entry)) (now (srlgs .entry)))) × (now (out .exit) ≡ put (now (out .entry)) at (generalBytes (now (a .entry)) (now (g .entry)) (now (srlgs .entry)))) ⌝ }
 {
     if set_bytes::set_empty(g, srlgs.len()) {
         return at;
@@ -38,7 +38,7 @@ fn write_general(a: &[u8], g: [[usize; 2]; 10], srlgs: &[u32], out: &mut [u8], a
 // The ASLA TLVs: that of the general set, then those of the groups; the place after them.
 fn write_aslas(
     a: &[u8],
-    g: [[usize; 2]; 10],
+    g: &[[usize; 2]; 10],
     gs: &[u32],
     values: &[u32],
     count: usize,
@@ -49,8 +49,8 @@ fn write_aslas(
     out: &mut [u8],
     at: usize,
 ) -> usize
-    requires { ⌜ Fits (now a) g × (length (now gs) ≤ 512) × Readable (now a) (now values) count (now grids) (now bits) (now heads) (length (now scratch)) × (at + (length (generalBytes (now a) g (now gs)) + length (groupsBytes (now a) (now values) count (now grids) (now bits) (now heads))) ≤ length (now out)) ⌝ }
-    ensures { λ q. ⌜ (q ≡ at + (length (generalBytes (now (a .entry)) g (now (gs .entry))) + length (groupsBytes (now (a .entry)) (now (values .entry)) count (now (grids .entry)) (now (bits .entry)) (now (heads .entry))))) × (now (out .exit) ≡ put (now (out .entry)) at (generalBytes (now (a .entry)) g (now (gs .entry)) ++ groupsBytes (now (a .entry)) (now (values .entry)) count (now (grids .entry)) (now (bits .entry)) (now (heads .entry)))) ⌝ }
+    requires { ⌜ Fits (now a) (now g) × (length (now gs) ≤ 512) × Readable (now a) (now values) count (now grids) (now bits) (now heads) (length (now scratch)) × (at + (length (generalBytes (now a) (now g) (now gs)) + length (groupsBytes (now a) (now values) count (now grids) (now bits) (now heads))) ≤ length (now out)) ⌝ }
+    ensures { λ q. ⌜ (q ≡ at + (length (generalBytes (now (a .entry)) (now (g .entry)) (now (gs .entry))) + length (groupsBytes (now (a .entry)) (now (values .entry)) count (now (grids .entry)) (now (bits .entry)) (now (heads .entry))))) × (now (out .exit) ≡ put (now (out .entry)) at (generalBytes (now (a .entry)) (now (g .entry)) (now (gs .entry)) ++ groupsBytes (now (a .entry)) (now (values .entry)) count (now (grids .entry)) (now (bits .entry)) (now (heads .entry)))) ⌝ }
 {
     let next = write_general(a, g, gs, out, at);
     group_bytes::write_groups(a, values, count, grids, bits, heads, scratch, out, next)
@@ -59,10 +59,10 @@ fn write_aslas(
 // All TLVs, ascending by type, from the buffer's front on; how many bytes they have.
 fn write_whole(
     a: &[u8],
-    l: [[usize; 2]; 3],
-    r: [[usize; 2]; 10],
+    l: &[[usize; 2]; 3],
+    r: &[[usize; 2]; 10],
     rs: &[u32],
-    g: [[usize; 2]; 10],
+    g: &[[usize; 2]; 10],
     gs: &[u32],
     values: &[u32],
     count: usize,
@@ -72,8 +72,8 @@ fn write_whole(
     scratch: &mut [u32],
     out: &mut [u8],
 ) -> usize
-    requires { ⌜ Fits (now a) l × Fits (now a) r × (length (now rs) ≤ 512) × Fits (now a) g × (length (now gs) ≤ 512) × Readable (now a) (now values) count (now grids) (now bits) (now heads) (length (now scratch)) × (length (wholeBytes (now a) l r (now rs) g (now gs) (now values) count (now grids) (now bits) (now heads)) ≤ length (now out)) ⌝ }
-    ensures { λ q. ⌜ (q ≡ length (wholeBytes (now (a .entry)) l r (now (rs .entry)) g (now (gs .entry)) (now (values .entry)) count (now (grids .entry)) (now (bits .entry)) (now (heads .entry)))) × (now (out .exit) ≡ put (now (out .entry)) 0 (wholeBytes (now (a .entry)) l r (now (rs .entry)) g (now (gs .entry)) (now (values .entry)) count (now (grids .entry)) (now (bits .entry)) (now (heads .entry)))) ⌝ }
+    requires { ⌜ Fits (now a) (now l) × Fits (now a) (now r) × (length (now rs) ≤ 512) × Fits (now a) (now g) × (length (now gs) ≤ 512) × Readable (now a) (now values) count (now grids) (now bits) (now heads) (length (now scratch)) × (length (wholeBytes (now a) (now l) (now r) (now rs) (now g) (now gs) (now values) count (now grids) (now bits) (now heads)) ≤ length (now out)) ⌝ }
+    ensures { λ q. ⌜ (q ≡ length (wholeBytes (now (a .entry)) (now (l .entry)) (now (r .entry)) (now (rs .entry)) (now (g .entry)) (now (gs .entry)) (now (values .entry)) count (now (grids .entry)) (now (bits .entry)) (now (heads .entry)))) × (now (out .exit) ≡ put (now (out .entry)) 0 (wholeBytes (now (a .entry)) (now (l .entry)) (now (r .entry)) (now (rs .entry)) (now (g .entry)) (now (gs .entry)) (now (values .entry)) count (now (grids .entry)) (now (bits .entry)) (now (heads .entry)))) ⌝ }
 {
     let low = set_bytes::write_top_low(a, l, r, rs, out, 0);
     let aslas = write_aslas(
@@ -94,17 +94,17 @@ fn write_whole(
 
 // How many bytes all TLVs have.
 fn whole_size(
-    l: [[usize; 2]; 3],
-    r: [[usize; 2]; 10],
+    l: &[[usize; 2]; 3],
+    r: &[[usize; 2]; 10],
     rs: usize,
-    g: [[usize; 2]; 10],
+    g: &[[usize; 2]; 10],
     gs: usize,
     count: usize,
     grids: &[[[usize; 2]; 10]],
     heads: &[[u64; 4]],
 ) -> usize
-    requires { ⌜ (rs ≤ 512) × Short l × Short r × (gs ≤ 512) × Short g × Measurable count (now grids) (now heads) ⌝ }
-    ensures { λ q. ⌜ ((a ns ms values : List ℕ) (bits : List (List ℕ)) → Fits a l → Fits a r → length ns ≡ rs → Fits a g → length ms ≡ gs → Sound a values count (now (grids .entry)) bits (now (heads .entry)) → q ≡ length (wholeBytes a l r ns g ms values count (now (grids .entry)) bits (now (heads .entry)))) ⌝ }
+    requires { ⌜ (rs ≤ 512) × Short (now l) × Short (now r) × (gs ≤ 512) × Short (now g) × Measurable count (now grids) (now heads) ⌝ }
+    ensures { λ q. ⌜ ((a ns ms values : List ℕ) (bits : List (List ℕ)) → Fits a (now (l .entry)) → Fits a (now (r .entry)) → length ns ≡ rs → Fits a (now (g .entry)) → length ms ≡ gs → Sound a values count (now (grids .entry)) bits (now (heads .entry)) → q ≡ length (wholeBytes a (now (l .entry)) (now (r .entry)) ns (now (g .entry)) ms values count (now (grids .entry)) bits (now (heads .entry)))) ⌝ }
 {
     let top = set_bytes::top_size(l, r, rs);
     let general = general_size(g, gs);
@@ -115,10 +115,10 @@ fn whole_size(
 // The export, or 5 where the buffer is too short.
 pub fn export_sets(
     a: &[u8],
-    l: [[usize; 2]; 3],
-    r: [[usize; 2]; 10],
+    l: &[[usize; 2]; 3],
+    r: &[[usize; 2]; 10],
     rs: &[u32],
-    g: [[usize; 2]; 10],
+    g: &[[usize; 2]; 10],
     gs: &[u32],
     values: &[u32],
     count: usize,
@@ -128,8 +128,8 @@ pub fn export_sets(
     scratch: &mut [u32],
     out: &mut [u8],
 ) -> Written
-    requires { ⌜ Fits (now a) l × Fits (now a) r × (length (now rs) ≤ 512) × Fits (now a) g × (length (now gs) ≤ 512) × Readable (now a) (now values) count (now grids) (now bits) (now heads) (length (now scratch)) ⌝ }
-    ensures { λ q. ⌜ toldExported q (now (out .exit)) ≡ write accepted (wholeBytes (now (a .entry)) l r (now (rs .entry)) g (now (gs .entry)) (now (values .entry)) count (now (grids .entry)) (now (bits .entry)) (now (heads .entry))) (now (out .entry)) ⌝ }
+    requires { ⌜ Fits (now a) (now l) × Fits (now a) (now r) × (length (now rs) ≤ 512) × Fits (now a) (now g) × (length (now gs) ≤ 512) × Readable (now a) (now values) count (now grids) (now bits) (now heads) (length (now scratch)) ⌝ }
+    ensures { λ q. ⌜ toldExported q (now (out .exit)) ≡ write accepted (wholeBytes (now (a .entry)) (now (l .entry)) (now (r .entry)) (now (rs .entry)) (now (g .entry)) (now (gs .entry)) (now (values .entry)) count (now (grids .entry)) (now (bits .entry)) (now (heads .entry))) (now (out .entry)) ⌝ }
 {
     let size = whole_size(l, r, rs.len(), g, gs.len(), count, grids, heads);
     if out.len() < size {

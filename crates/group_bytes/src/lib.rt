@@ -17,7 +17,7 @@ fn entry_size(grids: &[[[usize; 2]; 10]], heads: &[[u64; 4]], i: usize, count: u
     let srlgs = heads[i][2] as usize;
     let standard = heads[i][0];
     let user = heads[i][1];
-    asla_bytes::asla_size(g, srlgs, standard, user)
+    asla_bytes::asla_size(&g, srlgs, standard, user)
 }
 
 // How many bytes the TLVs of all groups have.
@@ -35,7 +35,7 @@ pub fn groups_size(count: usize, grids: &[[[usize; 2]; 10]], heads: &[[u64; 4]])
 // The ASLA TLV of a set whose SRLGs are the first k numbers of a list; the place after it.
 fn write_listed(
     a: &[u8],
-    g: [[usize; 2]; 10],
+    g: &[[usize; 2]; 10],
     list: &[u32],
     k: usize,
     standard: u64,
@@ -43,8 +43,8 @@ fn write_listed(
     out: &mut [u8],
     at: usize,
 ) -> usize
-    requires { ⌜ Fits (now a) g × (k ≤ length (now list)) × (k ≤ 512) × (at + length (listedBytes (now a) g (now list) k standard user) ≤ length (now out)) ⌝ }
-    ensures { λ r. ⌜ (r ≡ at + length (listedBytes (now (a .entry)) g (now (list .entry)) k standard user)) × (now (out .exit) ≡ put (now (out .entry)) at (listedBytes (now (a .entry)) g (now (list .entry)) k standard user)) ⌝ }
+    requires { ⌜ Fits (now a) (now g) × (k ≤ length (now list)) × (k ≤ 512) × (at + length (listedBytes (now a) (now g) (now list) k standard user) ≤ length (now out)) ⌝ }
+    ensures { λ r. ⌜ (r ≡ at + length (listedBytes (now (a .entry)) (now (g .entry)) (now (list .entry)) k standard user)) × (now (out .exit) ≡ put (now (out .entry)) at (listedBytes (now (a .entry)) (now (g .entry)) (now (list .entry)) k standard user)) ⌝ }
 {
     asla_bytes::write_asla(a, g, &list[0..k], standard, user, out, at)
 }
@@ -70,7 +70,7 @@ fn write_entry(
     let k = srlg_ranks::pick(values, w, scratch);
     let standard = heads[i][0];
     let user = heads[i][1];
-    write_listed(a, g, scratch, k, standard, user, out, at)
+    write_listed(a, &g, scratch, k, standard, user, out, at)
 }
 
 // The TLVs of all groups; the place after them.

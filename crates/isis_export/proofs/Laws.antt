@@ -5,8 +5,8 @@ use mathlib.Core.List.{List, [], _∷_, map}
 use Prim.Native.Nat.{ℕ, zero, suc, _+_, _-_, _*_, _/_, _^_, _≤_, _<_}
 use native.Mathlib.Omega.{arith}
 use native.Mathlib.Nat.{pow-suc, div-eq-of-lt}
-use borrow.Author.Tests.{ltb-true, ltb-false, eqb-true, eqb-false, ne-eqb}
-use lib.Dec.{eqb, ltb}
+use borrow.Author.Tests.{ltb-true, ltb-false, leb-true, eqb-true, eqb-false, ne-eqb}
+use lib.Dec.{eqb, ltb, leb}
 use lib.Pow.{pow-pos}
 use lib.ListN.{length, getD, take, drop, length-take}
 use Rattle.linkstate.specs.Lists.{member, numbers, keep}
@@ -24,7 +24,7 @@ use Rattle.kinds.proofs.Computing.{computing}
 use Rattle.isis.specs.RunA.{sideA}
 use Rattle.isis.specs.RunB.{sideB}
 use Rattle.isis.specs.Link.{linkVerdict, sideOf, linkSource, exportLink}
-use Rattle.linkstate.proofs.ListLaws.{or-l, or-r, mem-member, mem-numbers, length-numbers}
+use Rattle.linkstate.proofs.ListLaws.{and-l, and-r, or-l, or-r, mem-member, mem-numbers, length-numbers}
 use Rattle.linkstate.proofs.WalkLaws.{then-first, then-second, unrefused}
 use Rattle.set_bytes.specs.Sets as S
 use Rattle.set_bytes.specs.Sets.{Fits}
@@ -240,3 +240,9 @@ left-most p = omega (arith, keep-most p (numbers 1 127), length-numbers 127 1)
 -- The numbers at the front of a list.
 pub values-part : (b c : List ℕ) (g : Gathered) (x : List ℕ) (k : ℕ) → B.Values b c g (take k x) → B.Values b c g (take (k - 0) (drop 0 x))
 values-part b c g x k v = rw (front-part k x) v
+
+-- Three lengths tested at once.
+pub three-short : (x y z i j k : ℕ) → leb x i && leb y j && leb z k ≡ true → (x ≤ i) × (y ≤ j) × (z ≤ k)
+three-short x y z i j k t =
+    let u = and-l (leb x i && leb y j) (leb z k) t in
+    (leb-true x i (and-l (leb x i) (leb y j) u), leb-true y j (and-r (leb x i) (leb y j) u), leb-true z k (and-r (leb x i && leb y j) (leb z k) t))

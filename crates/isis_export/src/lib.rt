@@ -83,13 +83,12 @@ fn export_table(
 {
     let l = bandwidth_rows(a, lists, standards, users, index);
     let r = isis_index_sets::rsvp_te_grid(a, lists, standards, users, index, legacy);
-    let g = *general;
     export_bytes::export_sets(
         a,
-        l,
-        r,
+        &l,
+        &r,
         rs,
-        g,
+        general,
         gs,
         values,
         count,
@@ -173,7 +172,60 @@ fn export_with(
     )
 }
 
-// The same with room of its own, for few named applications and for all.
+// The same with room of its own, for two named applications, for few and for all.
+fn export_two(
+    a: &[u8],
+    b: &[u8],
+    c: &[u8],
+    lists: &[[u16; 2]],
+    standards: &[u64],
+    users: &[u64],
+    index: Index,
+    legacy: &[[usize; 2]; 10],
+    general: &[[usize; 2]; 10],
+    values: &[u32],
+    sets: &[[u64; 12]],
+    takers: &[[u64; 2]],
+    entries: usize,
+    standard: u64,
+    user: u64,
+    out: &mut [u8],
+) -> Written
+    requires { ⌜ Ready (now a) (now b) (now c) (now lists) (now standards) (now users) index (now legacy) (now general) (now values) (now sets) (now takers) entries standard user × (left (inNumbers standard user) 1 ≤ 2) ⌝ }
+    ensures { λ r. ⌜ toldExported r (now (out .exit)) ≡ write accepted (Definitions.export (meaning (linkSource (now (a .entry)) (now (b .entry)) (now (c .entry))))) (now (out .entry)) ⌝ }
+{
+    let mut rs = [0u32; 512];
+    let mut gs = [0u32; 512];
+    let mut scratch = [0u32; 512];
+    let mut grids = [[[0usize; 2]; 10]; 2];
+    let mut bits = [[0u64; 12]; 2];
+    let mut heads = [[0u64; 4]; 2];
+    export_with(
+        a,
+        b,
+        c,
+        lists,
+        standards,
+        users,
+        index,
+        legacy,
+        general,
+        values,
+        sets,
+        takers,
+        entries,
+        standard,
+        user,
+        &mut rs,
+        &mut gs,
+        &mut scratch,
+        &mut grids,
+        &mut bits,
+        &mut heads,
+        out,
+    )
+}
+
 fn export_few(
     a: &[u8],
     b: &[u8],
@@ -302,7 +354,27 @@ fn export_named(
     requires { ⌜ Ready (now a) (now b) (now c) (now lists) (now standards) (now users) index (now legacy) (now general) (now values) (now sets) (now takers) entries standard user ⌝ }
     ensures { λ r. ⌜ toldExported r (now (out .exit)) ≡ write accepted (Definitions.export (meaning (linkSource (now (a .entry)) (now (b .entry)) (now (c .entry))))) (now (out .entry)) ⌝ }
 {
-    if isis_table::few_named(standard, user) {
+    if isis_table::few_named(standard, user, 2) {
+        return export_two(
+            a,
+            b,
+            c,
+            lists,
+            standards,
+            users,
+            index,
+            legacy,
+            general,
+            values,
+            sets,
+            takers,
+            entries,
+            standard,
+            user,
+            out,
+        );
+    }
+    if isis_table::few_named(standard, user, 12) {
         return export_few(
             a,
             b,
@@ -465,7 +537,35 @@ fn export_runs(
     )
 }
 
-// The same with room of its own, for short runs and for the longest.
+// The same with room of its own, for the shortest runs, for short ones and for the longest.
+fn export_least(a: &[u8], b: &[u8], c: &[u8], out: &mut [u8]) -> Written
+    requires { ⌜ PassedLink (now a) (now b) (now c) × (length (now a) ≤ 96) × (length (now b) ≤ 32) × (length (now c) ≤ 32) ⌝ }
+    ensures { λ r. ⌜ toldExported r (now (out .exit)) ≡ write accepted (Definitions.export (meaning (linkSource (now (a .entry)) (now (b .entry)) (now (c .entry))))) (now (out .entry)) ⌝ }
+{
+    let mut lists = [[0u16; 2]; 16];
+    let mut standards = [0u64; 16];
+    let mut users = [0u64; 16];
+    let mut values = [0u32; 16];
+    let mut list = [0u32; 16];
+    let mut tmp = [0u32; 16];
+    let mut sets = [[0u64; 12]; 3];
+    let mut takers = [[0u64; 2]; 3];
+    export_runs(
+        a,
+        b,
+        c,
+        &mut lists,
+        &mut standards,
+        &mut users,
+        &mut values,
+        &mut list,
+        &mut tmp,
+        &mut sets,
+        &mut takers,
+        out,
+    )
+}
+
 fn export_small(a: &[u8], b: &[u8], c: &[u8], out: &mut [u8]) -> Written
     requires { ⌜ PassedLink (now a) (now b) (now c) × (length (now a) ≤ 384) × (length (now b) ≤ 320) × (length (now c) ≤ 192) ⌝ }
     ensures { λ r. ⌜ toldExported r (now (out .exit)) ≡ write accepted (Definitions.export (meaning (linkSource (now (a .entry)) (now (b .entry)) (now (c .entry))))) (now (out .entry)) ⌝ }
@@ -527,6 +627,9 @@ fn export_accepted(a: &[u8], b: &[u8], c: &[u8], out: &mut [u8]) -> Written
     requires { ⌜ PassedLink (now a) (now b) (now c) × (length (now a) ≤ 2048) ⌝ }
     ensures { λ r. ⌜ toldExported r (now (out .exit)) ≡ write accepted (Definitions.export (meaning (linkSource (now (a .entry)) (now (b .entry)) (now (c .entry))))) (now (out .entry)) ⌝ }
 {
+    if (a.len() <= 96) & (b.len() <= 32) & (c.len() <= 32) {
+        return export_least(a, b, c, out);
+    }
     if (a.len() <= 384) & (b.len() <= 320) & (c.len() <= 192) {
         return export_small(a, b, c, out);
     }

@@ -28,14 +28,14 @@ fn next_named(standard: u64, user: u64, from: usize) -> usize
     64 + masks::next_bit(user, (from - 64) as u32) as usize
 }
 
-// Whether no more than twelve applications are named.
-pub fn few_named(standard: u64, user: u64) -> bool
-    ensures { λ r. ⌜ (r ≡ true → left (inNumbers standard user) 1 ≤ 12) ⌝ }
+// Whether no more than so many applications are named.
+pub fn few_named(standard: u64, user: u64, most: usize) -> bool
+    ensures { λ r. ⌜ (r ≡ true → left (inNumbers standard user) 1 ≤ most) ⌝ }
 {
     let mut k: usize = 0;
     let mut n = next_named(standard, user, 1);
     while n < 128 {
-        if k == 12 {
+        if k == most {
             return false;
         }
         k += 1;
@@ -70,7 +70,7 @@ fn join_next(
 {
     let g = isis_index_sets::set_grid(a, lists, standards, users, index, legacy, general, n as u32);
     let w = isis_srlg_index::srlg_bits(sets, takers, entries, n);
-    set_groups::join(a, values, n, g, w, count, grids, bits, heads)
+    set_groups::join(a, values, n, &g, w, count, grids, bits, heads)
 }
 
 // All named applications join, ascending; how many groups there are.

@@ -1,7 +1,7 @@
 -- The codes of the fourteen kinds and their rows, by their places in the table. Assumes nothing.
 use Prim.Native.Nat.{ℕ, zero, suc, _+_, _-_, _≤_, _<_}
 use mathlib.Core.Path.{_≡_, refl}
-use mathlib.Core.Bool.{false}
+use mathlib.Core.Bool.{true, false}
 use mathlib.Core.List.{List, []}
 use lib.Dec.{eqb}
 use lib.ListN.{getD}
@@ -80,3 +80,18 @@ other-code (suc (suc (suc zero))) h n = refl
 other-code (suc (suc (suc (suc zero)))) h n = refl
 other-code (suc (suc (suc (suc (suc zero))))) h n = absurd (n refl)
 other-code (suc (suc (suc (suc (suc (suc i)))))) h n = eight (λ (j : ℕ). eqb (getD codes j 0) 1096 ≡ false) 6 refl refl refl refl refl refl refl refl (suc (suc (suc (suc (suc (suc i)))))) (omega arith) (omega arith)
+
+-- Only the fifth is that of the TE metric.
+pub plain-code : (i : ℕ) → i < 14 → (i ≡ 4 → ⊥) → eqb (getD codes i 0) 1092 ≡ false
+unfolding computing
+plain-code zero h n = refl
+plain-code (suc zero) h n = refl
+plain-code (suc (suc zero)) h n = refl
+plain-code (suc (suc (suc zero))) h n = refl
+plain-code (suc (suc (suc (suc zero)))) h n = absurd (n refl)
+plain-code (suc (suc (suc (suc (suc zero))))) h n = refl
+plain-code (suc (suc (suc (suc (suc (suc i)))))) h n = eight (λ (j : ℕ). eqb (getD codes j 0) 1092 ≡ false) 6 refl refl refl refl refl refl refl refl (suc (suc (suc (suc (suc (suc i)))))) (omega arith) (omega arith)
+
+pub metric-code : eqb (getD codes 4 0) 1092 ≡ true
+unfolding computing
+metric-code = refl

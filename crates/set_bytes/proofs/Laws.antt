@@ -150,7 +150,7 @@ module _ (a : List ℕ) (l g : List (List ℕ)) where
   fits-for = every-row (RowFits a) l g
 
   module _ (ns : List ℕ) where
-    top-row : (c : ℕ) → eqb c 1096 ≡ false → topOf a l g ns c ≡ rowValue a c (rowFor l g c)
+    pub top-row : (c : ℕ) → eqb c 1096 ≡ false → topOf a l g ns c ≡ rowValue a c (rowFor l g c)
     unfolding topOf bandwidthOf setOf rowFor
     top-row c e = rw e (go (isLinkCode c))
       where

@@ -1,7 +1,7 @@
 -- The sets that grids over run A and lists of SRLGs stand for, as BGP-LS value bytes (rules K1, K2, W7).
 use mathlib.Core.Bool.{cond}
 use mathlib.Core.List.{List, [], _∷_, _++_}
-use Prim.Native.Nat.{ℕ, _+_, _-_, _≤_, _<_}
+use Prim.Native.Nat.{ℕ, zero, suc, _+_, _-_, _≤_, _<_}
 use mathlib.Core.Path.{_≡_}
 use lib.Dec.{eqb, ltb}
 use lib.ListN.{length, take, drop, getD}
@@ -60,6 +60,19 @@ Short g = (k : ℕ) → getD (getD g k []) 1 0 ≤ 252
 -- A row as the code takes it.
 abbrev pub rowRead : List ℕ → Row
 rowRead r = cond (eqb (getD r 0 0) 0) Absent (Present (getD r 0 0) (getD r 1 0))
+
+-- How many bytes the TLV of a row has, apart from what stands in front of its value; none where the row is absent.
+unfoldable pub rowSize : List ℕ → ℕ
+rowSize r = cond (eqb (getD r 0 0) 0) 0 (4 + getD r 1 0)
+
+-- Those of the first k rows.
+unfoldable pub rowsSize : List (List ℕ) → ℕ → ℕ
+rowsSize g zero = 0
+rowsSize g (suc k) = rowsSize g k + rowSize (getD g k [])
+
+-- How many bytes stand in front of the values of a grid: one before the TE metric, if it has one.
+unfoldable pub frontSize : List (List ℕ) → ℕ
+frontSize g = cond (eqb (getD (getD g 1 []) 0 0) 0) 0 1
 
 -- The row of a code other than 1096.
 unfoldable pub rowFor : List (List ℕ) → List (List ℕ) → ℕ → List ℕ

@@ -8,7 +8,7 @@ ghost use Rattle.linkstate.specs.Bytes.{two, bytesAt, bytesOfWords};
 ghost use Rattle.linkstate.specs.Kinds.{codes, applicationCodes};
 ghost use Rattle.linkstate.specs.Meaning.{row};
 ghost use Rattle.linkstate.specs.Export.{tlv, bytesOf};
-ghost use Rattle.set_bytes.specs.Sets.{inTlvs, front, setOf, topOf, lowCodes, highCodes, Fits, Short, rowRead, rowFor, codesFrom};
+ghost use Rattle.set_bytes.specs.Sets.{inTlvs, front, setOf, topOf, lowCodes, highCodes, Fits, Short, rowRead, rowSize, rowsSize, frontSize, rowFor, codesFrom};
 
 // Places among the fourteen kinds, ascending by code: that of the SRLGs, the first after the ASLA TLVs, and the end.
 const SRLGS: usize = 5;
@@ -52,9 +52,9 @@ fn code_at(i: usize) -> u16
 }
 
 // The row of a kind, by its place among the fourteen: one of the link's three, or of a grid. SRLGs have none.
-fn row_at(l: [[usize; 2]; 3], g: [[usize; 2]; 10], i: usize) -> Row
+fn row_at(l: &[[usize; 2]; 3], g: &[[usize; 2]; 10], i: usize) -> Row
     requires { ⌜ (i < 14) × (i ≡ 5 → ⊥) ⌝ }
-    ensures { λ r. ⌜ r ≡ rowRead (rowFor l g (getD codes i 0)) ⌝ }
+    ensures { λ r. ⌜ r ≡ rowRead (rowFor (now (l .entry)) (now (g .entry)) (getD codes i 0)) ⌝ }
 {
     if i == 0 {
         return read_row(g[0]);
@@ -89,23 +89,54 @@ fn srlgs_size(n: usize) -> usize
     4 + 4 * n
 }
 
-// How many bytes the TLVs of the kinds from one place to another have.
-fn kinds_size(l: [[usize; 2]; 3], g: [[usize; 2]; 10], n: usize, from: usize, to: usize) -> usize
-    requires { ⌜ (from ≤ to) × (to ≤ 14) × (n ≤ 512) × Short l × Short g ⌝ }
-    ensures { λ r. ⌜ (r ≤ 28728) × ((a ns : List ℕ) → Fits a l → Fits a g → length ns ≡ n → r ≡ length (inTlvs (topOf a l g ns) (codesFrom from to))) ⌝ }
+// How many bytes the TLV of a row has, apart from what stands in front of its value.
+fn row_size(row: [usize; 2]) -> usize
+    requires { ⌜ getD row 1 0 ≤ 252 ⌝ }
+    ensures { λ r. ⌜ (r ≡ rowSize row) × (r ≤ 256) ⌝ }
+{
+    let place = row[0];
+    if place == 0 {
+        return 0;
+    }
+    4 + row[1]
+}
+
+// Those of the rows of a grid.
+fn grid_size(g: &[[usize; 2]; 10]) -> usize
+    requires { ⌜ Short (now g) ⌝ }
+    ensures { λ r. ⌜ (r ≡ rowsSize (now (g .entry)) 10) × (r ≤ 2560) ⌝ }
 {
     let mut total: usize = 0;
-    for i in from..to {
-        if i == SRLGS {
-            total = total + srlgs_size(n);
-            continue;
-        }
-        let Row::Present { place: _, len } = row_at(l, g, i) else {
-            continue;
-        };
-        total = total + 4 + front_len(code_at(i)) + len;
+    for k in 0..10 {
+        total = total + row_size(g[k]);
     }
     total
+}
+
+// Those of the link's rows.
+fn link_size(l: &[[usize; 2]; 3]) -> usize
+    requires { ⌜ Short (now l) ⌝ }
+    ensures { λ r. ⌜ (r ≡ rowsSize (now (l .entry)) 3) × (r ≤ 768) ⌝ }
+{
+    row_size(l[0]) + row_size(l[1]) + row_size(l[2])
+}
+
+// How many bytes stand in front of the values of a grid.
+fn front_size(g: &[[usize; 2]; 10]) -> usize
+    ensures { λ r. ⌜ (r ≡ frontSize (now (g .entry))) × (r ≤ 1) ⌝ }
+{
+    if g[1][0] == 0 {
+        return 0;
+    }
+    1
+}
+
+// How many bytes the TLVs of all kinds have.
+fn kinds_size(l: &[[usize; 2]; 3], g: &[[usize; 2]; 10], n: usize) -> usize
+    requires { ⌜ (n ≤ 512) × Short (now l) × Short (now g) ⌝ }
+    ensures { λ r. ⌜ (r ≤ 28728) × ((a ns : List ℕ) → Fits a (now (l .entry)) → Fits a (now (g .entry)) → length ns ≡ n → r ≡ length (inTlvs (topOf a (now (l .entry)) (now (g .entry)) ns) (codesFrom 0 14))) ⌝ }
+{
+    link_size(l) + grid_size(g) + front_size(g) + srlgs_size(n)
 }
 
 // Type and length of a TLV.
@@ -159,16 +190,16 @@ fn write_srlgs(srlgs: &[u32], out: &mut [u8], at: usize) -> usize
 // The TLVs of the kinds from one place to another, ascending; the place after them.
 fn write_kinds(
     a: &[u8],
-    l: [[usize; 2]; 3],
-    g: [[usize; 2]; 10],
+    l: &[[usize; 2]; 3],
+    g: &[[usize; 2]; 10],
     srlgs: &[u32],
     from: usize,
     to: usize,
     out: &mut [u8],
     at: usize,
 ) -> usize
-    requires { ⌜ (from ≤ to) × (to ≤ 14) × Fits (now a) l × Fits (now a) g × (length (now srlgs) ≤ 512) × (at + length (inTlvs (topOf (now a) l g (now srlgs)) (codesFrom from to)) ≤ length (now out)) ⌝ }
-    ensures { λ r. ⌜ (r ≡ at + length (inTlvs (topOf (now (a .entry)) l g (now (srlgs .entry))) (codesFrom from to))) × (now (out .exit) ≡ put (now (out .entry)) at (inTlvs (topOf (now (a .entry)) l g (now (srlgs .entry))) (codesFrom from to))) ⌝ }
+    requires { ⌜ (from ≤ to) × (to ≤ 14) × Fits (now a) (now l) × Fits (now a) (now g) × (length (now srlgs) ≤ 512) × (at + length (inTlvs (topOf (now a) (now l) (now g) (now srlgs)) (codesFrom from to)) ≤ length (now out)) ⌝ }
+    ensures { λ r. ⌜ (r ≡ at + length (inTlvs (topOf (now (a .entry)) (now (l .entry)) (now (g .entry)) (now (srlgs .entry))) (codesFrom from to))) × (now (out .exit) ≡ put (now (out .entry)) at (inTlvs (topOf (now (a .entry)) (now (l .entry)) (now (g .entry)) (now (srlgs .entry))) (codesFrom from to))) ⌝ }
 {
     let mut next = at;
     for i in from..to {
@@ -185,50 +216,50 @@ fn write_kinds(
 }
 
 // How many bytes the TLVs of an application's set have.
-pub fn set_size(g: [[usize; 2]; 10], srlgs: usize) -> usize
-    requires { ⌜ (srlgs ≤ 512) × Short g ⌝ }
-    ensures { λ r. ⌜ (r ≤ 28728) × ((a ns : List ℕ) → Fits a g → length ns ≡ srlgs → r ≡ length (inTlvs (setOf a g ns) applicationCodes)) ⌝ }
+pub fn set_size(g: &[[usize; 2]; 10], srlgs: usize) -> usize
+    requires { ⌜ (srlgs ≤ 512) × Short (now g) ⌝ }
+    ensures { λ r. ⌜ (r ≤ 28728) × ((a ns : List ℕ) → Fits a (now (g .entry)) → length ns ≡ srlgs → r ≡ length (inTlvs (setOf a (now (g .entry)) ns) applicationCodes)) ⌝ }
 {
     let l = [[0usize; 2]; 3];
-    kinds_size(l, g, srlgs, 0, END)
+    kinds_size(&l, g, srlgs)
 }
 
 // Whether an application's set is empty.
-pub fn set_empty(g: [[usize; 2]; 10], srlgs: usize) -> bool
-    requires { ⌜ (srlgs ≤ 512) × Short g ⌝ }
-    ensures { λ r. ⌜ ((a ns : List ℕ) → Fits a g → length ns ≡ srlgs → r ≡ all empty (row (setOf a g ns))) ⌝ }
+pub fn set_empty(g: &[[usize; 2]; 10], srlgs: usize) -> bool
+    requires { ⌜ (srlgs ≤ 512) × Short (now g) ⌝ }
+    ensures { λ r. ⌜ ((a ns : List ℕ) → Fits a (now (g .entry)) → length ns ≡ srlgs → r ≡ all empty (row (setOf a (now (g .entry)) ns))) ⌝ }
 {
     set_size(g, srlgs) == 0
 }
 
 // The TLVs of an application's set, ascending; the place after them.
-pub fn write_set(a: &[u8], g: [[usize; 2]; 10], srlgs: &[u32], out: &mut [u8], at: usize) -> usize
-    requires { ⌜ Fits (now a) g × (length (now srlgs) ≤ 512) × (at + length (inTlvs (setOf (now a) g (now srlgs)) applicationCodes) ≤ length (now out)) ⌝ }
-    ensures { λ r. ⌜ (r ≡ at + length (inTlvs (setOf (now (a .entry)) g (now (srlgs .entry))) applicationCodes)) × (now (out .exit) ≡ put (now (out .entry)) at (inTlvs (setOf (now (a .entry)) g (now (srlgs .entry))) applicationCodes)) ⌝ }
+pub fn write_set(a: &[u8], g: &[[usize; 2]; 10], srlgs: &[u32], out: &mut [u8], at: usize) -> usize
+    requires { ⌜ Fits (now a) (now g) × (length (now srlgs) ≤ 512) × (at + length (inTlvs (setOf (now a) (now g) (now srlgs)) applicationCodes) ≤ length (now out)) ⌝ }
+    ensures { λ r. ⌜ (r ≡ at + length (inTlvs (setOf (now (a .entry)) (now (g .entry)) (now (srlgs .entry))) applicationCodes)) × (now (out .exit) ≡ put (now (out .entry)) at (inTlvs (setOf (now (a .entry)) (now (g .entry)) (now (srlgs .entry))) applicationCodes)) ⌝ }
 {
     let l = [[0usize; 2]; 3];
-    write_kinds(a, l, g, srlgs, 0, END, out, at)
+    write_kinds(a, &l, g, srlgs, 0, END, out, at)
 }
 
 // How many bytes the TLVs at the top of a run have, those before the ASLA TLVs and those after them.
-pub fn top_size(l: [[usize; 2]; 3], g: [[usize; 2]; 10], srlgs: usize) -> usize
-    requires { ⌜ (srlgs ≤ 512) × Short l × Short g ⌝ }
-    ensures { λ r. ⌜ (r ≤ 28728) × ((a ns : List ℕ) → Fits a l → Fits a g → length ns ≡ srlgs → r ≡ length (inTlvs (topOf a l g ns) lowCodes) + length (inTlvs (topOf a l g ns) highCodes)) ⌝ }
+pub fn top_size(l: &[[usize; 2]; 3], g: &[[usize; 2]; 10], srlgs: usize) -> usize
+    requires { ⌜ (srlgs ≤ 512) × Short (now l) × Short (now g) ⌝ }
+    ensures { λ r. ⌜ (r ≤ 28728) × ((a ns : List ℕ) → Fits a (now (l .entry)) → Fits a (now (g .entry)) → length ns ≡ srlgs → r ≡ length (inTlvs (topOf a (now (l .entry)) (now (g .entry)) ns) lowCodes) + length (inTlvs (topOf a (now (l .entry)) (now (g .entry)) ns) highCodes)) ⌝ }
 {
-    kinds_size(l, g, srlgs, 0, END)
+    kinds_size(l, g, srlgs)
 }
 
 // The TLVs at the top of a run that come before the ASLA TLVs, ascending; the place after them.
 pub fn write_top_low(
     a: &[u8],
-    l: [[usize; 2]; 3],
-    g: [[usize; 2]; 10],
+    l: &[[usize; 2]; 3],
+    g: &[[usize; 2]; 10],
     srlgs: &[u32],
     out: &mut [u8],
     at: usize,
 ) -> usize
-    requires { ⌜ Fits (now a) l × Fits (now a) g × (length (now srlgs) ≤ 512) × (at + length (inTlvs (topOf (now a) l g (now srlgs)) lowCodes) ≤ length (now out)) ⌝ }
-    ensures { λ r. ⌜ (r ≡ at + length (inTlvs (topOf (now (a .entry)) l g (now (srlgs .entry))) lowCodes)) × (now (out .exit) ≡ put (now (out .entry)) at (inTlvs (topOf (now (a .entry)) l g (now (srlgs .entry))) lowCodes)) ⌝ }
+    requires { ⌜ Fits (now a) (now l) × Fits (now a) (now g) × (length (now srlgs) ≤ 512) × (at + length (inTlvs (topOf (now a) (now l) (now g) (now srlgs)) lowCodes) ≤ length (now out)) ⌝ }
+    ensures { λ r. ⌜ (r ≡ at + length (inTlvs (topOf (now (a .entry)) (now (l .entry)) (now (g .entry)) (now (srlgs .entry))) lowCodes)) × (now (out .exit) ≡ put (now (out .entry)) at (inTlvs (topOf (now (a .entry)) (now (l .entry)) (now (g .entry)) (now (srlgs .entry))) lowCodes)) ⌝ }
 {
     write_kinds(a, l, g, srlgs, 0, AFTER_ASLA, out, at)
 }
@@ -236,14 +267,14 @@ pub fn write_top_low(
 // Those that come after the ASLA TLVs.
 pub fn write_top_high(
     a: &[u8],
-    l: [[usize; 2]; 3],
-    g: [[usize; 2]; 10],
+    l: &[[usize; 2]; 3],
+    g: &[[usize; 2]; 10],
     srlgs: &[u32],
     out: &mut [u8],
     at: usize,
 ) -> usize
-    requires { ⌜ Fits (now a) l × Fits (now a) g × (length (now srlgs) ≤ 512) × (at + length (inTlvs (topOf (now a) l g (now srlgs)) highCodes) ≤ length (now out)) ⌝ }
-    ensures { λ r. ⌜ (r ≡ at + length (inTlvs (topOf (now (a .entry)) l g (now (srlgs .entry))) highCodes)) × (now (out .exit) ≡ put (now (out .entry)) at (inTlvs (topOf (now (a .entry)) l g (now (srlgs .entry))) highCodes)) ⌝ }
+    requires { ⌜ Fits (now a) (now l) × Fits (now a) (now g) × (length (now srlgs) ≤ 512) × (at + length (inTlvs (topOf (now a) (now l) (now g) (now srlgs)) highCodes) ≤ length (now out)) ⌝ }
+    ensures { λ r. ⌜ (r ≡ at + length (inTlvs (topOf (now (a .entry)) (now (l .entry)) (now (g .entry)) (now (srlgs .entry))) highCodes)) × (now (out .exit) ≡ put (now (out .entry)) at (inTlvs (topOf (now (a .entry)) (now (l .entry)) (now (g .entry)) (now (srlgs .entry))) highCodes)) ⌝ }
 {
     write_kinds(a, l, g, srlgs, AFTER_ASLA, END, out, at)
 }

@@ -36,9 +36,9 @@ fn same_row(a: &[u8], x: [usize; 2], y: [usize; 2]) -> bool
 }
 
 // Whether two grids stand for the same values.
-fn same_grids(a: &[u8], g: [[usize; 2]; 10], h: [[usize; 2]; 10]) -> bool
-    requires { ⌜ Fits (now a) g × Fits (now a) h ⌝ }
-    ensures { λ r. ⌜ r ≡ sameRows (map (gridValue (now (a .entry)) g) gridCodes) (map (gridValue (now (a .entry)) h) gridCodes) ⌝ }
+fn same_grids(a: &[u8], g: &[[usize; 2]; 10], h: &[[usize; 2]; 10]) -> bool
+    requires { ⌜ Fits (now a) (now g) × Fits (now a) (now h) ⌝ }
+    ensures { λ r. ⌜ r ≡ sameRows (map (gridValue (now (a .entry)) (now (g .entry))) gridCodes) (map (gridValue (now (a .entry)) (now (h .entry))) gridCodes) ⌝ }
 {
     for k in 0..10 {
         if !same_row(a, g[k], h[k]) {
@@ -51,13 +51,13 @@ fn same_grids(a: &[u8], g: [[usize; 2]; 10], h: [[usize; 2]; 10]) -> bool
 // Whether two sets are the same, whose SRLGs are bits over one list.
 pub fn same_sets(
     a: &[u8],
-    g: [[usize; 2]; 10],
-    h: [[usize; 2]; 10],
+    g: &[[usize; 2]; 10],
+    h: &[[usize; 2]; 10],
     x: [u64; 12],
     y: [u64; 12],
 ) -> bool
-    requires { ⌜ Fits (now a) g × Fits (now a) h ⌝ }
-    ensures { λ r. ⌜ ((values : List ℕ) → ascending values ≡ true → length values ≤ 768 → Within values x → Within values y → r ≡ sameRows (row (setOf (now (a .entry)) g (picked values x))) (row (setOf (now (a .entry)) h (picked values y)))) ⌝ }
+    requires { ⌜ Fits (now a) (now g) × Fits (now a) (now h) ⌝ }
+    ensures { λ r. ⌜ ((values : List ℕ) → ascending values ≡ true → length values ≤ 768 → Within values x → Within values y → r ≡ sameRows (row (setOf (now (a .entry)) (now (g .entry)) (picked values x))) (row (setOf (now (a .entry)) (now (h .entry)) (picked values y)))) ⌝ }
 {
     if !srlg_ranks::same_bits(x, y) {
         return false;

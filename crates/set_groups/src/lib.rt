@@ -51,25 +51,25 @@ fn with_member(h: [u64; 4], n: usize) -> [u64; 4]
 fn same_entry(
     a: &[u8],
     values: &[u32],
-    g: [[usize; 2]; 10],
+    g: &[[usize; 2]; 10],
     w: [u64; 12],
     grids: &[[[usize; 2]; 10]],
     bits: &[[u64; 12]],
     i: usize,
 ) -> bool
-    requires { ⌜ (ascending (now values) ≡ true) × (length (now values) ≤ 768) × Fits (now a) g × Within (now values) w × (i < length (now grids)) × (i < length (now bits)) × Fits (now a) (getD (now grids) i []) × Within (now values) (getD (now bits) i []) ⌝ }
-    ensures { λ r. ⌜ r ≡ sameRows (row (setOf (now (a .entry)) (getD (now (grids .entry)) i []) (picked (now (values .entry)) (getD (now (bits .entry)) i [])))) (row (setOf (now (a .entry)) g (picked (now (values .entry)) w))) ⌝ }
+    requires { ⌜ (ascending (now values) ≡ true) × (length (now values) ≤ 768) × Fits (now a) (now g) × Within (now values) w × (i < length (now grids)) × (i < length (now bits)) × Fits (now a) (getD (now grids) i []) × Within (now values) (getD (now bits) i []) ⌝ }
+    ensures { λ r. ⌜ r ≡ sameRows (row (setOf (now (a .entry)) (getD (now (grids .entry)) i []) (picked (now (values .entry)) (getD (now (bits .entry)) i [])))) (row (setOf (now (a .entry)) (now (g .entry)) (picked (now (values .entry)) w))) ⌝ }
 {
     let h = grids[i];
     let x = bits[i];
-    set_equal::same_sets(a, h, g, x, w)
+    set_equal::same_sets(a, &h, g, x, w)
 }
 
 // The first entry with the set of a grid and bits, which has the mark; or the number of entries.
 fn find(
     a: &[u8],
     values: &[u32],
-    g: [[usize; 2]; 10],
+    g: &[[usize; 2]; 10],
     w: [u64; 12],
     mark: u64,
     count: usize,
@@ -77,8 +77,8 @@ fn find(
     bits: &[[u64; 12]],
     heads: &[[u64; 4]],
 ) -> usize
-    requires { ⌜ (ascending (now values) ≡ true) × (length (now values) ≤ 768) × Fits (now a) g × Within (now values) w × (mark ≡ markOf (now a) (now values) g w) × Sound (now a) (now values) count (now grids) (now bits) (now heads) ⌝ }
-    ensures { λ r. ⌜ Finds (now (a .entry)) (now (values .entry)) (row (setOf (now (a .entry)) g (picked (now (values .entry)) w))) count (now (grids .entry)) (now (bits .entry)) r ⌝ }
+    requires { ⌜ (ascending (now values) ≡ true) × (length (now values) ≤ 768) × Fits (now a) (now g) × Within (now values) w × (mark ≡ markOf (now a) (now values) (now g) w) × Sound (now a) (now values) count (now grids) (now bits) (now heads) ⌝ }
+    ensures { λ r. ⌜ Finds (now (a .entry)) (now (values .entry)) (row (setOf (now (a .entry)) (now (g .entry)) (picked (now (values .entry)) w))) count (now (grids .entry)) (now (bits .entry)) r ⌝ }
 {
     for i in 0..count {
         if heads[i][3] == mark {
@@ -95,15 +95,15 @@ pub fn join(
     a: &[u8],
     values: &[u32],
     n: usize,
-    g: [[usize; 2]; 10],
+    g: &[[usize; 2]; 10],
     w: [u64; 12],
     count: usize,
     grids: &mut [[[usize; 2]; 10]],
     bits: &mut [[u64; 12]],
     heads: &mut [[u64; 4]],
 ) -> usize
-    requires { ⌜ (ascending (now values) ≡ true) × (length (now values) ≤ 768) × (n < 128) × Fits (now a) g × Within (now values) w × (length (picked (now values) w) ≤ 512) × Sound (now a) (now values) count (now grids) (now bits) (now heads) × (count < length (now grids)) × (count < length (now bits)) × (count < length (now heads)) ⌝ }
-    ensures { λ r. ⌜ Joined (now (a .entry)) (now (values .entry)) n (row (setOf (now (a .entry)) g (picked (now (values .entry)) w))) count (now (grids .entry)) (now (bits .entry)) (now (heads .entry)) r (now (grids .exit)) (now (bits .exit)) (now (heads .exit)) ⌝ }
+    requires { ⌜ (ascending (now values) ≡ true) × (length (now values) ≤ 768) × (n < 128) × Fits (now a) (now g) × Within (now values) w × (length (picked (now values) w) ≤ 512) × Sound (now a) (now values) count (now grids) (now bits) (now heads) × (count < length (now grids)) × (count < length (now bits)) × (count < length (now heads)) ⌝ }
+    ensures { λ r. ⌜ Joined (now (a .entry)) (now (values .entry)) n (row (setOf (now (a .entry)) (now (g .entry)) (picked (now (values .entry)) w))) count (now (grids .entry)) (now (bits .entry)) (now (heads .entry)) r (now (grids .exit)) (now (bits .exit)) (now (heads .exit)) ⌝ }
 {
     let mark = set_marks::mark_of(a, values, g, w);
     let i = find(a, values, g, w, mark, count, grids, bits, heads);
@@ -116,7 +116,8 @@ pub fn join(
     let srlgs = srlg_ranks::count_bits(w, values.len()) as u64;
     let h = [0, 0, srlgs, mark];
     let joined = with_member(h, n);
-    grids[count] = g;
+    let rows = *g;
+    grids[count] = rows;
     bits[count] = w;
     heads[count] = joined;
     count + 1

@@ -35,9 +35,9 @@ fn mix_row(a: &[u8], row: [usize; 2], s: u64) -> u64
 }
 
 // The mark of a grid.
-fn mark_grid(a: &[u8], g: [[usize; 2]; 10]) -> u64
-    requires { ⌜ Fits (now a) g ⌝ }
-    ensures { λ r. ⌜ r ≡ gridMark (now (a .entry)) g 10 ⌝ }
+fn mark_grid(a: &[u8], g: &[[usize; 2]; 10]) -> u64
+    requires { ⌜ Fits (now a) (now g) ⌝ }
+    ensures { λ r. ⌜ r ≡ gridMark (now (a .entry)) (now (g .entry)) 10 ⌝ }
 {
     let mut s: u64 = 0;
     for k in 0..10 {
@@ -59,9 +59,9 @@ fn mark_words(mark: u64, w: [u64; 12], n: usize) -> u64
 }
 
 // The mark of the set of a grid and bits.
-pub fn mark_of(a: &[u8], values: &[u32], g: [[usize; 2]; 10], w: [u64; 12]) -> u64
-    requires { ⌜ Fits (now a) g × (length (now values) ≤ 768) ⌝ }
-    ensures { λ r. ⌜ r ≡ markOf (now (a .entry)) (now (values .entry)) g w ⌝ }
+pub fn mark_of(a: &[u8], values: &[u32], g: &[[usize; 2]; 10], w: [u64; 12]) -> u64
+    requires { ⌜ Fits (now a) (now g) × (length (now values) ≤ 768) ⌝ }
+    ensures { λ r. ⌜ r ≡ markOf (now (a .entry)) (now (values .entry)) (now (g .entry)) w ⌝ }
 {
     let n = (values.len() + 63) / 64;
     mark_words(mark_grid(a, g), w, n)

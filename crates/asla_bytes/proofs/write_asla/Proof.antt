@@ -17,7 +17,7 @@ asla-size-requires c κs = let p = c .before .before .before .pre in (p .1, λ k
 sub-write-asla-head : tie.Need-sub-write-asla-head
 sub-write-asla-head c = let s = c .before .before .before .before in
     let a = s .args in
-    omega (arith, c .asla-size .ensures .1 (now (a .a)) (now (a .srlgs)) (s .pre .0) refl, length-tlv 1122 (aslaValue (inNumbers (a .standard) (a .user)) (setOf (now (a .a)) (a .g) (now (a .srlgs)))))
+    omega (arith, c .asla-size .ensures .1 (now (a .a)) (now (a .srlgs)) (s .pre .0) refl, length-tlv 1122 (aslaValue (inNumbers (a .standard) (a .user)) (setOf (now (a .a)) (now (a .g)) (now (a .srlgs)))))
 
 cast-write-asla-head : tie.Need-cast-write-asla-head
 cast-write-asla-head c = search needs
@@ -26,7 +26,7 @@ write-asla-head-requires : tie.Need-write-asla-head-requires
 write-asla-head-requires c κs = let s = c .before .before .before .before .before in
     let a = s .args in
     let p = inNumbers (a .standard) (a .user) in
-    let f = setOf (now (a .a)) (a .g) (now (a .srlgs)) in
+    let f = setOf (now (a .a)) (now (a .g)) (now (a .srlgs)) in
     omega (arith, length-tlv 1122 (aslaValue p f), length-value p f)
 
 write-set-requires : tie.Need-write-set-requires
@@ -34,7 +34,7 @@ write-set-requires c κs = let h = c .before .before .before in
     let s = h .before .before .before .before .before .before in
     let a = s .args in
     let p = inNumbers (a .standard) (a .user) in
-    let f = setOf (now (a .a)) (a .g) (now (a .srlgs)) in
+    let f = setOf (now (a .a)) (now (a .g)) (now (a .srlgs)) in
     (s .pre .0, s .pre .1, omega (arith, length-tlv 1122 (aslaValue p f), length-value p f, h .write-asla-head .ensures .0, h .write-asla-head .kept .1 .1 .1 .0))
 
 same-length : tie.Need-same-length
@@ -45,7 +45,7 @@ returns c = let h = c .before .before .before .before .before .before in
     let s = h .before .before .before .before .before .before in
     let a = s .args in
     let p = inNumbers (a .standard) (a .user) in
-    let f = setOf (now (a .a)) (a .g) (now (a .srlgs)) in
+    let f = setOf (now (a .a)) (now (a .g)) (now (a .srlgs)) in
     let w = c .before .before .write-set .ensures in
     let k = h .write-asla-head .ensures in
     let n = h .before .before .asla-size .ensures .1 (now (a .a)) (now (a .srlgs)) (s .pre .0) refl in

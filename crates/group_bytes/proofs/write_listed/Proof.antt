@@ -24,7 +24,7 @@ write-asla-requires : tie.Need-write-asla-requires
 write-asla-requires c κs = let b = c .before .before .before .before .before in
     let a = b .args in
     let p = b .pre in
-    let is = part-listed (now (a .a)) (a .g) (now (a .list)) (a .k) (a .standard) (a .user) in
+    let is = part-listed (now (a .a)) (now (a .g)) (now (a .list)) (a .k) (a .standard) (a .user) in
     (p .0, omega (arith, part-length (now (a .list)) (a .k), p .2), omega (arith, ap length is, p .3))
 
 same-length : tie.Need-same-length
@@ -32,7 +32,7 @@ same-length c = search needs
 
 returns : tie.Need-returns
 returns c = let a = c .before .before .before .before .before .before .before .before .args in
-    let is = part-listed (now (a .a)) (a .g) (now (a .list)) (a .k) (a .standard) (a .user) in
+    let is = part-listed (now (a .a)) (now (a .g)) (now (a .list)) (a .k) (a .standard) (a .user) in
     let w = c .before .before .write-asla .ensures in
     (w .0 ∙ ap (λ (l : List ℕ). a .at + length l) is, w .1 ∙ ap (put (now (a .out)) (a .at)) is)
 

@@ -11,10 +11,10 @@ use Rattle.isis_table.proofs.few_named.Tie as tie
 use borrow.Author.Needs.{needs}
 
 abbrev Inv-loop : tie.InvT-loop
-Inv-loop standard user k₀ n₀ k n = (k ≤ 12) × (1 ≤ n) × (n ≤ 128) × (n < 128 → inNumbers standard user n ≡ true) × (left (inNumbers standard user) 1 ≡ k + left (inNumbers standard user) n)
+Inv-loop standard user most k₀ n₀ k n = (k ≤ most) × (1 ≤ n) × (n ≤ 128) × (n < 128 → inNumbers standard user n ≡ true) × (left (inNumbers standard user) 1 ≡ k + left (inNumbers standard user) n)
 
 abbrev μ-loop : tie.MeasureT-loop
-μ-loop standard user k₀ n₀ k n = 128 - n
+μ-loop standard user most k₀ n₀ k n = 128 - n
 
 next-named-requires : tie.Need-next-named-requires Inv-loop μ-loop
 next-named-requires c κs = search needs

@@ -16,10 +16,10 @@ srlg-bits-requires : tie.Need-srlg-bits-requires
 srlg-bits-requires c κs = search needs
 
 join-requires : tie.Need-join-requires
-join-requires c κs = let a = c .before .before .before .before .before .before .before .before .before .before .before .args in
-    let p = c .before .before .before .before .before .before .before .before .before .before .before .pre in
-    let x = c .before .before .before .srlg-bits .ensures (now (a .b)) (now (a .c)) (now (a .values)) (p .2) (λ z. omega arith) in
-    (p .2 .ascends, p .2 .most, p .4, grid-fits (now (a .a)) (now (a .b)) (now (a .c)) (p .0) (a .n) _ (c .before .before .before .before .set-grid .ensures), x .within, x .few, p .5, omega (arith, p .6 .gridRoom), omega (arith, p .6 .bitRoom), omega (arith, p .6 .headRoom))
+join-requires c κs = let a = c .before .before .before .before .before .before .before .before .before .before .before .before .args in
+    let p = c .before .before .before .before .before .before .before .before .before .before .before .before .pre in
+    let x = c .before .before .before .before .srlg-bits .ensures (now (a .b)) (now (a .c)) (now (a .values)) (p .2) (λ z. omega arith) in
+    (p .2 .ascends, p .2 .most, p .4, grid-fits (now (a .a)) (now (a .b)) (now (a .c)) (p .0) (a .n) _ (c .before .before .before .before .before .set-grid .ensures), x .within, x .few, p .5, omega (arith, p .6 .gridRoom), omega (arith, p .6 .bitRoom), omega (arith, p .6 .headRoom))
 
 same-length : tie.Need-same-length
 same-length c = search needs
@@ -31,10 +31,10 @@ same-length-3 : tie.Need-same-length-3
 same-length-3 c = search needs
 
 returns : tie.Need-returns
-returns c = let a = c .before .before .before .before .before .before .before .before .before .before .before .before .before .before .before .args in
-    let p = c .before .before .before .before .before .before .before .before .before .before .before .before .before .before .before .pre in
-    let x = c .before .before .before .before .before .before .before .srlg-bits .ensures (now (a .b)) (now (a .c)) (now (a .values)) (p .2) (λ z. omega arith) in
-    let e = set-row (now (a .a)) (now (a .b)) (now (a .c)) (p .0) (now (a .values)) (a .n) _ _ (c .before .before .before .before .before .before .before .before .set-grid .ensures) x in
+returns c = let a = c .before .before .before .before .before .before .before .before .before .before .before .before .before .before .before .before .args in
+    let p = c .before .before .before .before .before .before .before .before .before .before .before .before .before .before .before .before .pre in
+    let x = c .before .before .before .before .before .before .before .before .srlg-bits .ensures (now (a .b)) (now (a .c)) (now (a .values)) (p .2) (λ z. omega arith) in
+    let e = set-row (now (a .a)) (now (a .b)) (now (a .c)) (p .0) (now (a .values)) (a .n) _ _ (c .before .before .before .before .before .before .before .before .before .set-grid .ensures) x in
     joined-as (now (a .a)) (now (a .b)) (now (a .c)) (p .0) _ _ _ _ _ _ _ _ _ _ _ _ e (c .before .before .before .join .ensures)
 
 pub join-next-spec : {M : Type 1} → statement M

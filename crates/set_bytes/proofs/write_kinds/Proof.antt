@@ -18,14 +18,14 @@ abbrev μ-loop : tie.MeasureT-loop
 loop-holds : tie.Need-loop-holds Inv-loop μ-loop
 loop-holds c = let s = c .before .before .before in
     let a = s .args in
-    written-start (topOf (now (a .a)) (a .l) (a .g) (now (a .srlgs))) (a .from) (a .to) (now (a .out)) (a .at) (s .pre .0)
+    written-start (topOf (now (a .a)) (now (a .l)) (now (a .g)) (now (a .srlgs))) (a .from) (a .to) (now (a .out)) (a .at) (s .pre .0)
 
 write-srlgs-requires : tie.Need-write-srlgs-requires Inv-loop μ-loop
 write-srlgs-requires c κs = let l = c .before .before .before in
     let s = l .before .before .before .before in
     let a = s .args in
-    let is = here-srlgs (now (a .a)) (a .l) (a .g) (now (a .srlgs)) (l .loop .i) (omega arith) in
-    (s .pre .4, written-room (topOf (now (a .a)) (a .l) (a .g) (now (a .srlgs))) (a .from) (a .to) (now (a .out)) (a .at) (l .loop .out) (l .loop .next) (l .loop .i) (l .loop .inv) (omega arith) _ is (s .pre .5))
+    let is = here-srlgs (now (a .a)) (now (a .l)) (now (a .g)) (now (a .srlgs)) (l .loop .i) (omega arith) in
+    (s .pre .4, written-room (topOf (now (a .a)) (now (a .l)) (now (a .g)) (now (a .srlgs))) (a .from) (a .to) (now (a .out)) (a .at) (l .loop .out) (l .loop .next) (l .loop .i) (l .loop .inv) (omega arith) _ is (s .pre .5))
 
 add-i : tie.Need-add-i Inv-loop μ-loop
 add-i c = search needs
@@ -38,8 +38,8 @@ loop-again c = let l = c .before .before .before .before .before .before in
     let s = l .before .before .before .before in
     let a = s .args in
     let w = c .before .before .write-srlgs in
-    let is = here-srlgs (now (a .a)) (a .l) (a .g) (now (a .srlgs)) (l .loop .i) (omega arith) in
-    written-next (topOf (now (a .a)) (a .l) (a .g) (now (a .srlgs))) (a .from) (a .to) (now (a .out)) (a .at) (l .loop .out) (l .loop .next) (l .loop .i) (l .loop .inv) (omega arith) _ is
+    let is = here-srlgs (now (a .a)) (now (a .l)) (now (a .g)) (now (a .srlgs)) (l .loop .i) (omega arith) in
+    written-next (topOf (now (a .a)) (now (a .l)) (now (a .g)) (now (a .srlgs))) (a .from) (a .to) (now (a .out)) (a .at) (l .loop .out) (l .loop .next) (l .loop .i) (l .loop .inv) (omega arith) _ is
     _ _ (s .pre .5) (w .kept .1 .0) (w .ensures .0) (w .ensures .1)
 
 row-at-requires : tie.Need-row-at-requires Inv-loop μ-loop
@@ -61,8 +61,8 @@ loop-again-2 : tie.Need-loop-again-2 Inv-loop μ-loop
 loop-again-2 c = let l = c .before .before .before .before .before in
     let s = l .before .before .before .before in
     let a = s .args in
-    written-none (topOf (now (a .a)) (a .l) (a .g) (now (a .srlgs))) (a .from) (a .to) (now (a .out)) (a .at) (l .loop .out) (l .loop .next) (l .loop .i) (l .loop .inv) (omega arith)
-    (here-absent (now (a .a)) (a .l) (a .g) (now (a .srlgs)) (l .loop .i) (omega arith) (c .before .before .before .if1 .left) (sym (c .before .before .row-at .ensures) ∙ c .enum-told .given .1))
+    written-none (topOf (now (a .a)) (now (a .l)) (now (a .g)) (now (a .srlgs))) (a .from) (a .to) (now (a .out)) (a .at) (l .loop .out) (l .loop .next) (l .loop .i) (l .loop .inv) (omega arith)
+    (here-absent (now (a .a)) (now (a .l)) (now (a .g)) (now (a .srlgs)) (l .loop .i) (omega arith) (c .before .before .before .if1 .left) (sym (c .before .before .row-at .ensures) ∙ c .enum-told .given .1))
 
 code-at-requires : tie.Need-code-at-requires Inv-loop μ-loop
 code-at-requires c κs = search needs
@@ -72,7 +72,7 @@ write-row-requires c κs = let v = c .before .before .before in
     let l = v .before .before .before .before .before in
     let s = l .before .before .before .before in
     let a = s .args in
-    row-room (now (a .a)) (a .l) (a .g) (now (a .srlgs)) (a .from) (a .to) (now (a .out)) (a .at) (l .loop .out) (l .loop .next) (l .loop .i) (l .loop .inv) _ _ _ (c .before .code-at .ensures)
+    row-room (now (a .a)) (now (a .l)) (now (a .g)) (now (a .srlgs)) (a .from) (a .to) (now (a .out)) (a .at) (l .loop .out) (l .loop .next) (l .loop .i) (l .loop .inv) _ _ _ (c .before .code-at .ensures)
     (omega arith) (omega arith) (v .before .before .before .if1 .left) (sym (v .before .before .row-at .ensures) ∙ v .place .given .1) (s .pre .2) (s .pre .3) (s .pre .5)
 
 add-i-3 : tie.Need-add-i-3 Inv-loop μ-loop
@@ -87,7 +87,7 @@ loop-again-3 c = let w = c .before .before .write-row in
     let l = v .before .before .before .before .before in
     let s = l .before .before .before .before in
     let a = s .args in
-    row-next (now (a .a)) (a .l) (a .g) (now (a .srlgs)) (a .from) (a .to) (now (a .out)) (a .at) (l .loop .out) (l .loop .next) (l .loop .i) (l .loop .inv) _ _ _ (c .before .before .before .before .code-at .ensures)
+    row-next (now (a .a)) (now (a .l)) (now (a .g)) (now (a .srlgs)) (a .from) (a .to) (now (a .out)) (a .at) (l .loop .out) (l .loop .next) (l .loop .i) (l .loop .inv) _ _ _ (c .before .before .before .before .code-at .ensures)
     (omega arith) (omega arith) (v .before .before .before .if1 .left) (sym (v .before .before .row-at .ensures) ∙ v .place .given .1) (s .pre .2) (s .pre .3) (s .pre .5)
     _ _ (w .kept .1 .1 .1 .1 .0) (w .ensures .0) (w .ensures .1)
 
@@ -97,7 +97,7 @@ same-length c = c .before .loop .inv .2
 returns : tie.Need-returns Inv-loop μ-loop
 returns c = let l = c .before in
     let a = l .before .before .before .before .args in
-    written-all (topOf (now (a .a)) (a .l) (a .g) (now (a .srlgs))) (a .from) (a .to) (now (a .out)) (a .at) (l .loop .out) (l .loop .next) (l .loop .i) (l .loop .inv) (omega arith)
+    written-all (topOf (now (a .a)) (now (a .l)) (now (a .g)) (now (a .srlgs))) (a .from) (a .to) (now (a .out)) (a .at) (l .loop .out) (l .loop .next) (l .loop .i) (l .loop .inv) (omega arith)
 
 pub write-kinds-spec : {M : Type 1} → statement M
 write-kinds-spec =

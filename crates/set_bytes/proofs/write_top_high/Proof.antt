@@ -10,14 +10,14 @@ use Rattle.set_bytes.proofs.write_top_high.Tie as tie
 write-kinds-requires : tie.Need-write-kinds-requires
 write-kinds-requires c κs = let s = c .before .before .before .before in
     let a = s .args in
-    (omega arith, omega arith, s .pre .0, s .pre .1, s .pre .2, same-room _ _ (high-is (topOf (now (a .a)) (a .l) (a .g) (now (a .srlgs)))) (now (a .out)) (a .at) (s .pre .3))
+    (omega arith, omega arith, s .pre .0, s .pre .1, s .pre .2, same-room _ _ (high-is (topOf (now (a .a)) (now (a .l)) (now (a .g)) (now (a .srlgs)))) (now (a .out)) (a .at) (s .pre .3))
 
 same-length : tie.Need-same-length
 same-length c = search needs
 
 returns : tie.Need-returns
 returns c = let a = c .before .before .before .before .before .before .before .args in
-    same-write _ _ (high-is (topOf (now (a .a)) (a .l) (a .g) (now (a .srlgs)))) (now (a .out)) (a .at) _ _ (c .before .before .write-kinds .ensures)
+    same-write _ _ (high-is (topOf (now (a .a)) (now (a .l)) (now (a .g)) (now (a .srlgs)))) (now (a .out)) (a .at) _ _ (c .before .before .write-kinds .ensures)
 
 pub write-top-high-spec : {M : Type 1} → statement M
 write-top-high-spec = tie.close (tie.spec write-kinds-requires same-length returns)

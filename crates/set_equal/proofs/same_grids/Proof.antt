@@ -25,14 +25,14 @@ loop-holds c = (omega arith, refl)
 mul-same-row : tie.Need-mul-same-row Inv-loop μ-loop
 mul-same-row c = search needs
 
-array-copy-out-same-row : tie.Need-array-copy-out-same-row Inv-loop μ-loop
-array-copy-out-same-row c = search needs
+element-copy-out-same-row : tie.Need-element-copy-out-same-row Inv-loop μ-loop
+element-copy-out-same-row c = search needs
 
 mul-same-row-2 : tie.Need-mul-same-row-2 Inv-loop μ-loop
 mul-same-row-2 c = search needs
 
-array-copy-out-same-row-2 : tie.Need-array-copy-out-same-row-2 Inv-loop μ-loop
-array-copy-out-same-row-2 c = search needs
+element-copy-out-same-row-2 : tie.Need-element-copy-out-same-row-2 Inv-loop μ-loop
+element-copy-out-same-row-2 c = search needs
 
 same-row-requires : tie.Need-same-row-requires Inv-loop μ-loop
 same-row-requires c κs = let l = c .before .before .before in let s = l .before .before in (s .pre .0 (l .loop .k), s .pre .1 (l .loop .k))
@@ -40,7 +40,7 @@ same-row-requires c κs = let l = c .before .before .before in let s = l .before
 returns : tie.Need-returns Inv-loop μ-loop
 returns c = let l = c .before .before .before .before .before in
     let a = l .before .before .args in
-    sym (grids-differ (now (a .a)) (a .t2) (a .t3) (l .loop .k) (omega arith) _ (c .before .same-row .ensures) (not-true _ (c .if1 .taken))) ∙ l .loop .inv .1
+    sym (grids-differ (now (a .a)) (now (a .g)) (now (a .h)) (l .loop .k) (omega arith) _ (c .before .same-row .ensures) (not-true _ (c .if1 .taken))) ∙ l .loop .inv .1
 
 add-k : tie.Need-add-k Inv-loop μ-loop
 add-k c = search needs
@@ -51,12 +51,12 @@ loop-less c = search needs
 loop-again : tie.Need-loop-again Inv-loop μ-loop
 loop-again c = let l = c .before .before .before .before .before in
     let a = l .before .before .args in
-    (omega arith, sym (grids-next (now (a .a)) (a .t2) (a .t3) (l .loop .k) (omega arith) _ (c .before .same-row .ensures) (not-false _ (c .if1 .left))) ∙ l .loop .inv .1)
+    (omega arith, sym (grids-next (now (a .a)) (now (a .g)) (now (a .h)) (l .loop .k) (omega arith) _ (c .before .same-row .ensures) (not-false _ (c .if1 .left))) ∙ l .loop .inv .1)
 
 returns-2 : tie.Need-returns-2 Inv-loop μ-loop
 returns-2 c = let l = c .before in
     let a = l .before .before .args in
-    grids-end (now (a .a)) (a .t2) (a .t3) (l .loop .k) (omega arith) ∙ l .loop .inv .1
+    grids-end (now (a .a)) (now (a .g)) (now (a .h)) (l .loop .k) (omega arith) ∙ l .loop .inv .1
 
 pub same-grids-spec : {M : Type 1} → statement M
 same-grids-spec =
@@ -66,9 +66,9 @@ same-grids-spec =
     μ-loop
     loop-holds
     mul-same-row
-    array-copy-out-same-row
+    element-copy-out-same-row
     mul-same-row-2
-    array-copy-out-same-row-2
+    element-copy-out-same-row-2
     same-row-requires
     returns
     add-k

@@ -55,9 +55,9 @@ loop-again c = let l = c .before .before .before .loop in
     let b = c .before .before .before .before .before .before in
     let a = b .args in (
       omega arith,
-      search-next (λ j. sameRows (row (setOf (now (a .a)) (getD (now (a .grids)) j []) (picked (now (a .values)) (getD (now (a .bits)) j [])))) (row (setOf (now (a .a)) (a .g) (picked (now (a .values)) (a .w))))) (l .i) (l .inv .1)
+      search-next (λ j. sameRows (row (setOf (now (a .a)) (getD (now (a .grids)) j []) (picked (now (a .values)) (getD (now (a .bits)) j [])))) (row (setOf (now (a .a)) (now (a .g)) (picked (now (a .values)) (a .w))))) (l .i) (l .inv .1)
           (⊎-elim (λ x. sym (x .1 .ensures) ∙ x .2 .left)
-          (λ x. marks-differ (now (a .a)) (now (a .values)) (a .g) (a .w) (a .mark) (getD (now (a .grids)) (l .i) []) (getD (now (a .bits)) (l .i) []) (getD (now (a .heads)) (l .i) []) (b .pre .0) (b .pre .3) (b .pre .4) (b .pre .5 .entry (l .i) (omega arith)) (x .left))
+          (λ x. marks-differ (now (a .a)) (now (a .values)) (now (a .g)) (a .w) (a .mark) (getD (now (a .grids)) (l .i) []) (getD (now (a .bits)) (l .i) []) (getD (now (a .heads)) (l .i) []) (b .pre .0) (b .pre .3) (b .pre .4) (b .pre .5 .entry (l .i) (omega arith)) (x .left))
           (c .if1 .came)),
     )
 

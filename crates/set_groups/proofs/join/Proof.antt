@@ -47,11 +47,11 @@ count-bits-requires c κs = search needs
 with-member-requires-2 : tie.Need-with-member-requires-2
 with-member-requires-2 c κs = search needs
 
-mul-g : tie.Need-mul-g
-mul-g c = search needs
+mul-rows : tie.Need-mul-rows
+mul-rows c = search needs
 
-slice-set-from-g : tie.Need-slice-set-from-g
-slice-set-from-g c = search needs
+slice-set-from-rows : tie.Need-slice-set-from-rows
+slice-set-from-rows c = search needs
 
 mul-w : tie.Need-mul-w
 mul-w c = search needs
@@ -78,10 +78,10 @@ same-length-6 : tie.Need-same-length-6
 same-length-6 c = search needs
 
 returns-2 : tie.Need-returns-2
-returns-2 c = let b = c .before .before .before .before .before .before .before .before .before .before in
+returns-2 c = let b = c .before .before .before .before .before .before .before .before .before .before .before in
     let a = b .args in
     let p = b .pre in
-    joined-new (now (a .a)) (now (a .values)) (a .n) (a .count) (now (a .grids)) (now (a .bits)) (now (a .heads)) (p .6) (a .g) (a .w) _ (p .7) (p .8) (p .9) _ _ _ (c .before .before .if1 .left) (c .before .before .before .find .ensures) (c .with-member2 .ensures) (p .3) (p .4) (c .before .count-bits .ensures (now (a .values)) (omega arith) (p .4)) (p .5) (c .before .before .before .before .before .before .before .mark-of .ensures)
+    joined-new (now (a .a)) (now (a .values)) (a .n) (a .count) (now (a .grids)) (now (a .bits)) (now (a .heads)) (p .6) (now (a .g)) (a .w) _ (p .7) (p .8) (p .9) _ _ _ (c .before .before .before .if1 .left) (c .before .before .before .before .find .ensures) (c .before .with-member2 .ensures) (p .3) (p .4) (c .before .before .count-bits .ensures (now (a .values)) (omega arith) (p .4)) (p .5) (c .before .before .before .before .before .before .before .before .mark-of .ensures)
 
 pub join-spec : {M : Type 1} → statement M
 join-spec =
@@ -100,8 +100,8 @@ join-spec =
     returns
     count-bits-requires
     with-member-requires-2
-    mul-g
-    slice-set-from-g
+    mul-rows
+    slice-set-from-rows
     mul-w
     slice-set-from-w
     mul-joined-2

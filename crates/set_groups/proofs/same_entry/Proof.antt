@@ -20,7 +20,7 @@ same-sets-requires : tie.Need-same-sets-requires
 same-sets-requires c κs = search needs
 
 returns : tie.Need-returns
-returns c = let b = c .before .before .before .before .before in
+returns c = let b = c .before .before .before .before .before .before in
     c .same-sets .ensures (now (b .args .values)) (b .pre .0) (b .pre .1) (b .pre .7) (b .pre .3)
 
 pub same-entry-spec : {M : Type 1} → statement M

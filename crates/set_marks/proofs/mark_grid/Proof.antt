@@ -21,8 +21,8 @@ loop-holds c = (omega arith, refl)
 mul-mix-row : tie.Need-mul-mix-row Inv-loop μ-loop
 mul-mix-row c = search needs
 
-array-copy-out-mix-row : tie.Need-array-copy-out-mix-row Inv-loop μ-loop
-array-copy-out-mix-row c = search needs
+element-copy-out-mix-row : tie.Need-element-copy-out-mix-row Inv-loop μ-loop
+element-copy-out-mix-row c = search needs
 
 mix-row-requires : tie.Need-mix-row-requires Inv-loop μ-loop
 mix-row-requires c κs = c .before .before .before .before .pre (c .before .before .loop .k)
@@ -36,13 +36,13 @@ loop-less c = search needs
 loop-again : tie.Need-loop-again Inv-loop μ-loop
 loop-again c = let l = c .before .before .before .loop in
     let a = c .before .before .before .before .before .args in
-    (omega arith, grid-next (a .a .now) (a .t2) (l .s) (l .k) _ (l .inv .1) (c .mix-row .ensures))
+    (omega arith, grid-next (a .a .now) (a .g .now) (l .s) (l .k) _ (l .inv .1) (c .mix-row .ensures))
 
 returns : tie.Need-returns Inv-loop μ-loop
 returns c = let l = c .before .loop in
     let a = c .before .before .before .args in
     let e : l .k ≡ 10 = omega arith in
-    l .inv .1 ∙ ap (gridMark (a .a .now) (a .t2)) e
+    l .inv .1 ∙ ap (gridMark (a .a .now) (a .g .now)) e
 
 pub mark-grid-spec : {M : Type 1} → statement M
 mark-grid-spec =
@@ -52,7 +52,7 @@ mark-grid-spec =
     μ-loop
     loop-holds
     mul-mix-row
-    array-copy-out-mix-row
+    element-copy-out-mix-row
     mix-row-requires
     add-k
     loop-less
