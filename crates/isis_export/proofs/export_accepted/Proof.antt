@@ -3,7 +3,6 @@ use Rattle.isis_export.proofs.Laws.{three-short}
 use lib.ListN.{length}
 use denote.Ref.{now}
 use borrow.Author.Needs.{needs}
-use Rattle.linkstate.proofs.ListLaws.{and-l, and-r}
 use Rattle.isis_export.proofs.export_accepted.Statement.{statement}
 use Rattle.isis_export.proofs.export_accepted.Tie as tie
 
