@@ -22,7 +22,7 @@ use Rattle.isis_grids.specs.declared.Which.the-variants.{Naming, General, RsvpT
 use Rattle.isis_grids.specs.Selected.{selects, unflagged, listFrom, Headed}
 use Rattle.isis_grids.proofs.Selects.{general-is, general-not, selects-alone, selects-not-alone, selects-without-l}
 use Rattle.isis_grids.proofs.Headers.{masks-inside, list-of-l, list-too-long, list-selected, list-passed-over}
-use Rattle.isis_sets.proofs.Names.{masks-none, masks-numbers}
+use Rattle.isis_sets.proofs.Names.{nobody, standard-here, user-here}
 use Rattle.isis_asla_index.specs.declared.Asla.{Asla}
 use Rattle.isis_asla_index.specs.Index.{tells, Asked, Reads}
 
@@ -128,7 +128,7 @@ module _ (v : List ℕ) (h : Header) (is : h ≡ headerOf v) (hd : Headed v) whe
   pub reads-unread : tooLong h ≡ true → Reads v (record { l = h .l; standard = 0; user = 0; from = length v })
   reads-unread t = record {
     flag = header-l h v is;
-    names = masks-none v h is (record { standard = 0; user = 0 }) t refl refl;
+    names = record { standard = λ n l. no-member n ∙ nobody v h is t n; user = λ n l. no-member n ∙ nobody v h is t (user n) };
     low = hd .0;
     inside = omega arith;
     begins = λ l. absurd (omega arith);
@@ -159,11 +159,17 @@ module _ (v : List ℕ) (h : Header) (is : h ≡ headerOf v) (hd : Headed v) whe
         r : Asla
         r = record { l = h .l; standard = s; user = u; from = from }
 
+        held : (x : ℕ) (m : List ℕ) → x ≡ asNumber (bit m) → (n : ℕ) → n < 64 → inNumber x n ≡ bit m n
+        held x m e n l = ap (λ (y : ℕ). inNumber y n) e ∙ in-number (bit m) n l
+
+        named : Holds (λ n. any (names n) (aslaAdvertisements (element 0 16 v))) (record { standard = s; user = u })
+        named = record { standard = λ n l. held s ms es n l ∙ standard-here v h is short n l; user = λ n l. held u mu eu n l ∙ user-here v h is short n l }
+
         -- past the end
         past : from ≡ length v → ((w : Which) → Asked w → length v ≡ listFrom w v) → Reads v r
         past z all = record {
           flag = header-l h v is;
-          names = masks-numbers v h is (record { standard = s; user = u }) short es eu;
+          names = named;
           low = omega (arith, hd .0);
           inside = omega arith;
           begins = λ l. absurd (omega arith);
@@ -173,7 +179,7 @@ module _ (v : List ℕ) (h : Header) (is : h ≡ headerOf v) (hd : Headed v) whe
         behind : h .l ≡ false → from ≡ end → Idle ms mu s u es eu end lengths ≡ false → Reads v r
         behind l z d = record {
           flag = header-l h v is;
-          names = masks-numbers v h is (record { standard = s; user = u }) short es eu;
+          names = named;
           low = omega arith;
           inside = omega (arith, masks-inside v h is short hd);
           begins = λ i. z ∙ list-selected v h is WithoutL l short true (selects-without-l WithoutL ms mu refl) refl;

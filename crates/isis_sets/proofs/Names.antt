@@ -121,25 +121,33 @@ module _ (n : ℕ) (v : List ℕ) where
       pub naming-plain : b ≡ true → h .l ≡ false → Named ≡ namingBy n (aslaAdvertisements (element 0 16 v))
       naming-plain f l = let z : lFlag v ≡ false = sym (header-l h v e) ∙ l in rw (f, z) at naming-read
 
--- The masks of one ASLA, as numbers with their bytes.
-module _ (v : List ℕ) (h : Header) (e : h ≡ headerOf v) (m : Masks) where
-  abbrev Named-here : Type 0
-  Named-here = HoldsSent (λ n. any (names n) (aslaAdvertisements (element 0 16 v))) m
+-- Whom one ASLA names, bit by bit of its masks; nobody where they are too long to be read.
+module _ (v : List ℕ) (h : Header) (e : h ≡ headerOf v) where
+  abbrev here : ℕ → Bool
+  here n = any (names n) (aslaAdvertisements (element 0 16 v))
 
-  pub masks-none : tooLong h ≡ true → m .standard ≡ 0 → m .user ≡ 0 → Named-here
-  masks-none t s u =
-      let z : maskTooLong v ≡ true = sym (header-too-long h v e) ∙ t in
-      let none : (x i n : ℕ) → x ≡ 0 → inNumber x i ≡ any (names n) (aslaAdvertisements (element 0 16 v)) = λ x i n o. ap (λ (y : ℕ). inNumber y i) o ∙ no-member i ∙ sym (named-asla n v 0 ∙ (rw z refl)) in
-      record { standard = λ n l. none (m .standard) (turnedPlace n) n s; user = λ n l. none (m .user) (turnedPlace n) (user n) u }
+  pub nobody : tooLong h ≡ true → (n : ℕ) → false ≡ here n
+  nobody t n = let z : maskTooLong v ≡ true = sym (header-too-long h v e) ∙ t in sym (named-asla n v 0 ∙ (rw z refl))
 
-  pub masks-numbers : tooLong h ≡ false → ((n : ℕ) → inSent (m .standard) n ≡ bit (take (2 + h .standard - 2) (drop 2 v)) n)
-      → ((n : ℕ) → inSent (m .user) n ≡ bit (take (2 + h .standard + h .user - (2 + h .standard)) (drop (2 + h .standard) v)) n) → Named-here
-  masks-numbers t s u =
+  pub standard-here : tooLong h ≡ false → (n : ℕ) → n < 64 → bit (take (2 + h .standard - 2) (drop 2 v)) n ≡ here n
+  standard-here t n l =
       let z : maskTooLong v ≡ false = sym (header-too-long h v e) ∙ t in
-      record {
-        standard = λ n l. s n ∙ ap (λ (x : List ℕ). bit x n) (masks-read v h e .0) ∙ sym (standard-bit (advertisement v []) n l) ∙ sym (named-asla n v 0 ∙ (rw z refl));
-        user = λ n l. u n ∙ ap (λ (x : List ℕ). bit x n) (masks-read v h e .1) ∙ sym (user-bit (advertisement v []) n l) ∙ sym (named-asla (user n) v 0 ∙ (rw z refl));
-      }
+      ap (λ (x : List ℕ). bit x n) (masks-read v h e .0) ∙ sym (standard-bit (advertisement v []) n l) ∙ sym (named-asla n v 0 ∙ (rw z refl))
+
+  pub user-here : tooLong h ≡ false → (n : ℕ) → n < 64 → bit (take (2 + h .standard + h .user - (2 + h .standard)) (drop (2 + h .standard) v)) n ≡ here (user n)
+  user-here t n l =
+      let z : maskTooLong v ≡ false = sym (header-too-long h v e) ∙ t in
+      ap (λ (x : List ℕ). bit x n) (masks-read v h e .1) ∙ sym (user-bit (advertisement v []) n l) ∙ sym (named-asla (user n) v 0 ∙ (rw z refl))
+
+  -- The masks of one ASLA, as numbers with their bytes.
+  pub masks-none : (m : Masks) → tooLong h ≡ true → m .standard ≡ 0 → m .user ≡ 0 → HoldsSent here m
+  masks-none m t s u =
+      let none : (x i : ℕ) → x ≡ 0 → inNumber x i ≡ false = λ x i o. ap (λ (y : ℕ). inNumber y i) o ∙ no-member i in
+      record { standard = λ n l. none (m .standard) (turnedPlace n) s ∙ nobody t n; user = λ n l. none (m .user) (turnedPlace n) u ∙ nobody t (user n) }
+
+  pub masks-numbers : (m : Masks) → tooLong h ≡ false → ((n : ℕ) → inSent (m .standard) n ≡ bit (take (2 + h .standard - 2) (drop 2 v)) n)
+      → ((n : ℕ) → inSent (m .user) n ≡ bit (take (2 + h .standard + h .user - (2 + h .standard)) (drop (2 + h .standard) v)) n) → HoldsSent here m
+  masks-numbers m t s u = record { standard = λ n l. s n ∙ standard-here t n l; user = λ n l. u n ∙ user-here t n l }
 
 -- ---- all ASLAs of run A
 
