@@ -8,12 +8,15 @@ use native.Mathlib.Omega.{arith}
 use borrow.Author.Tests.{eqb-true, eqb-false, eq-eqb, ne-eqb, ltb-true, ltb-false}
 use lib.Dec.{eqb, ltb}
 use lib.ListN.{length, take, drop, length-take, length-drop}
-use Rattle.linkstate.specs.Masks.{bit, inMasks, asNumber, inNumber}
+use Rattle.linkstate.specs.Lists.{any}
+use Rattle.linkstate.specs.Masks.{bit, user, inMasks, asNumber, inNumber}
+use Rattle.linkstate.specs.Elements.{element}
 use Rattle.linkstate.specs.Sides.{names}
 use Rattle.linkstate.proofs.MaskLaws.{number-same}
 use Rattle.linkstate.proofs.Computing.{computing}
 use Rattle.masks.proofs.Laws.{in-number, bit-beyond}
 use Rattle.asla_bytes.specs.Applications.{inNumbers}
+use Rattle.isis.specs.RunA.{aslaAdvertisements}
 use Rattle.isis_check_a.specs.declared.Header.{Header}
 use Rattle.isis_check_a.specs.Headers.{headerOf, tooLong}
 use Rattle.isis_check_a.proofs.Laws.{header-l}
@@ -22,7 +25,8 @@ use Rattle.isis_grids.specs.declared.Which.the-variants.{Naming, General, RsvpT
 use Rattle.isis_grids.specs.Selected.{selects, unflagged, listFrom, Headed}
 use Rattle.isis_grids.proofs.Selects.{general-is, general-not, selects-alone, selects-not-alone, selects-without-l}
 use Rattle.isis_grids.proofs.Headers.{masks-inside, list-of-l, list-too-long, list-selected, list-passed-over}
-use Rattle.isis_sets.proofs.Names.{nobody, standard-here, user-here}
+use Rattle.isis_sets.specs.Sets.{Holds}
+use Rattle.isis_sets.proofs.Names.{nobody as nobody-here, standard-here, user-here}
 use Rattle.isis_asla_index.specs.declared.Asla.{Asla}
 use Rattle.isis_asla_index.specs.Index.{tells, Asked, Reads}
 
@@ -128,7 +132,7 @@ module _ (v : List ℕ) (h : Header) (is : h ≡ headerOf v) (hd : Headed v) whe
   pub reads-unread : tooLong h ≡ true → Reads v (record { l = h .l; standard = 0; user = 0; from = length v })
   reads-unread t = record {
     flag = header-l h v is;
-    names = record { standard = λ n l. no-member n ∙ nobody v h is t n; user = λ n l. no-member n ∙ nobody v h is t (user n) };
+    names = record { standard = λ n l. no-member n ∙ nobody-here v h is t n; user = λ n l. no-member n ∙ nobody-here v h is t (user n) };
     low = hd .0;
     inside = omega arith;
     begins = λ l. absurd (omega arith);
