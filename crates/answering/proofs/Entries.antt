@@ -10,18 +10,13 @@ use Rattle.linkstate.specs.Kinds.{isCode, isLinkCode}
 use Rattle.linkstate.specs.Attributes.{srlgs, ofKind}
 use Rattle.linkstate.specs.Replies.{Run, Verdict, accepted, refused, Refusal, refusedIf, faultOfCall, fault, _then_, unless, Reply, askRefused, Named, namedRefused, Asked}
 use Rattle.linkstate.specs.Questions.{Source, Subject, numberTooHigh, setOf, given, beforeAnswer, firstOf, unwritten, srlgAnswer, answer, ask, bytesOfFirst, value, listNamed}
-use Rattle.linkstate.proofs.WalkLaws.{then-first, then-second}
+use Rattle.linkstate.proofs.WalkLaws.{then-first, then-second, unrefused}
 use Rattle.linkstate.proofs.Computing.{computing}
 
 then-group : (u v w : Verdict) → ((u then v) then w) ≡ (u then (v then w))
 unfolding _then_
 then-group accepted v w = refl
 then-group (refused x) v w = refl
-
-not-refused-if : (b : Bool) (n : ℕ) → refusedIf b n ≡ accepted → b ≡ false
-unfolding refusedIf faultOfCall fault
-not-refused-if true n e = absurd (let z : _≡_ {A = ℕ} 0 1 = cc in omega arith)
-not-refused-if false n e = refl
 
 not-false : (b : Bool) → not b ≡ false → b ≡ true
 not-false true e = refl
@@ -36,10 +31,10 @@ module _ (s : Source) (whom : Subject) (k : ℕ) where
   before-is = sym (then-group (refusedIf (numberTooHigh whom) 6) (refusedIf (not (isCode k)) 7) (s .verdict))
 
   pub question-low : Question ≡ accepted → numberTooHigh whom ≡ false
-  question-low q = not-refused-if (numberTooHigh whom) 6 (then-first (refusedIf (numberTooHigh whom) 6) (refusedIf (not (isCode k)) 7) q)
+  question-low q = unrefused (numberTooHigh whom) 6 (then-first (refusedIf (numberTooHigh whom) 6) (refusedIf (not (isCode k)) 7) q)
 
   pub question-known : Question ≡ accepted → isCode k ≡ true
-  question-known q = not-false (isCode k) (not-refused-if (not (isCode k)) 7 (then-second (refusedIf (numberTooHigh whom) 6) (refusedIf (not (isCode k)) 7) q))
+  question-known q = not-false (isCode k) (unrefused (not (isCode k)) 7 (then-second (refusedIf (numberTooHigh whom) 6) (refusedIf (not (isCode k)) 7) q))
 
   -- before the answer
   pub by-question : (x : Refusal) → refused x ≡ Question → beforeAnswer s whom k ≡ refused x

@@ -13,7 +13,8 @@ use Rattle.linkstate.specs.Masks.{user, inNumber, maskSize, mask}
 use Rattle.linkstate.specs.Meaning.{row}
 use Rattle.linkstate.specs.Export.{tlv, bytesOf, aslaValue}
 use Rattle.octets.proofs.Laws.{put-then}
-use Rattle.masks.proofs.Laws.{size-same, size-le, mask-same, length-mask}
+use Rattle.masks.proofs.Laws.{size-same, size-le, mask-same}
+use Rattle.linkstate.proofs.MaskLaws.{length-mask}
 use Rattle.set_bytes.specs.Sets.{inTlvs}
 use Rattle.set_bytes.proofs.Laws.{length-tlv, tlvs-same}
 use Rattle.asla_bytes.specs.Applications.{inNumbers, aslaHead}

@@ -23,7 +23,7 @@ use Rattle.bgpls_check.specs.declared.Frame.the-variants.{Cut}
 use Rattle.bgpls_check.specs.Framing.{frameAt}
 use Rattle.bgpls_check.proofs.Laws.{IsWhole, is-cut, top-asla}
 use Rattle.rivals.proofs.RunLaws.{asla-checked}
-use Rattle.rivals.proofs.ListLaws.{and-l, and-r}
+use Rattle.linkstate.proofs.ListLaws.{and-l, and-r}
 use Rattle.bgpls_find.specs.declared.Set.{Set}
 use Rattle.bgpls_find.specs.declared.Set.the-variants.{General, Naming}
 use Rattle.bgpls_find.specs.declared.Found.{Found}

@@ -21,7 +21,7 @@ use Rattle.linkstate.specs.BgpLs.{aslaHeader, checkTop, runVerdict, attributesO
 use Rattle.linkstate.proofs.ElementLaws.{rest-place}
 use Rattle.linkstate.proofs.WalkLaws.{then-second, not-accepted}
 use Rattle.octets.proofs.Laws.{length-bytesAt}
-use Rattle.rivals.proofs.ListLaws.{any-keep, keep-append}
+use Rattle.linkstate.proofs.ListLaws.{any-keep, keep-append}
 use Rattle.rivals.proofs.RunLaws.{no-L, named-set}
 use Rattle.bgpls_find.specs.declared.Set.{Set}
 use Rattle.bgpls_find.specs.declared.Set.the-variants.{Top, Every, General, Naming}

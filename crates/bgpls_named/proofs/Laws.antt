@@ -17,7 +17,7 @@ use Rattle.linkstate.specs.BgpLs.{sabmLength, udabmLength, isMaskLength, notIgn
 use Rattle.octets.proofs.Laws.{part-is}
 use Rattle.masks.specs.Sets.{turnedPlace, inSent}
 use Rattle.masks.proofs.Laws.{is-number}
-use Rattle.rivals.proofs.ListLaws.{and-l, and-r}
+use Rattle.linkstate.proofs.ListLaws.{and-l, and-r}
 use Rattle.rivals.proofs.KindLaws.{standard-other, user-other}
 use Rattle.bgpls_find.specs.declared.Set.the-variants.{Every}
 use Rattle.bgpls_find.specs.Sets.{chosen, chosenBy}

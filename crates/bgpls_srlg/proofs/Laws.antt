@@ -15,7 +15,7 @@ use Rattle.linkstate.specs.BgpLs.{attributesOf}
 use Rattle.linkstate.proofs.ElementLaws.{moved, elements-moved}
 use Rattle.linkstate.proofs.WalkLaws.{left}
 use Rattle.octets.proofs.Laws.{part-is, put-nil, put-then, length-put}
-use Rattle.rivals.proofs.ListLaws.{keep-append, each-append}
+use Rattle.linkstate.proofs.ListLaws.{keep-append, each-append}
 use Rattle.bgpls_check.specs.declared.Frame.the-variants.{Cut}
 use Rattle.bgpls_check.specs.Framing.{frameAt}
 use Rattle.bgpls_check.proofs.Laws.{IsWhole}

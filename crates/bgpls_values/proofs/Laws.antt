@@ -37,7 +37,7 @@ use Rattle.bgpls_find.specs.declared.Set.the-variants as Sets
 use Rattle.bgpls_find.specs.declared.Found.{Found}
 use Rattle.bgpls_find.specs.declared.Found.the-variants.{At, Absent}
 use Rattle.bgpls_find.specs.Sets.{attributesIn, foundIn}
-use Rattle.rivals.proofs.ListLaws.{keep-mem}
+use Rattle.linkstate.proofs.ListLaws.{keep-mem}
 use Rattle.rivals.proofs.Reader.{From, at-top, in-asla, given-from, Stands, top-right, inner-fits, of-kind}
 
 -- ---- the set that a question is about

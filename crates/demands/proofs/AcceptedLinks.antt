@@ -21,11 +21,10 @@ use Rattle.linkstate.specs.WellFormed.{WellFormed}
 use Rattle.isis.specs.RunA.{checkA, sideA}
 use Rattle.isis.specs.RunB.{sideB}
 use Rattle.isis.specs.Link.{linkVerdict, sideOf, linkSource}
-use Rattle.rivals.proofs.ListLaws.{and-l, or-l, or-r, mem-member}
+use Rattle.linkstate.proofs.ListLaws.{and-l, or-l, or-r, mem-member}
+use Rattle.linkstate.proofs.WalkLaws.{then-first, then-second, unrefused}
 use Rattle.rivals.proofs.Sums.{sumOf}
-use Rattle.rivals.proofs.Sizes.{then-l, then-r}
 use Rattle.rivals.proofs.KindLaws.{application-code}
-use Rattle.demands.proofs.Passed.{unrefused}
 use Rattle.demands.proofs.Lengths.{limit}
 use Rattle.demands.proofs.SetValues.{Right, Sound, sound-append, first-right, srlgs-right, srlgs-canonical, values-of}
 use Rattle.demands.proofs.Sides.{general-has, application-has, rsvpTe-has, bandwidth-has}
@@ -105,10 +104,10 @@ module _ (a b c : List ℕ) (passed : faults runA checkA (elements 1 0 a) ≡ ac
 pub accepted-is-limited : (a b c : List ℕ) → Accepted (linkSource a b c) → Limited (meaning (linkSource a b c))
 unfolding linkSource linkVerdict
 accepted-is-limited a b c h =
-    let long = unrefused (ltb 2048 (length a) || ltb 2048 (length b) || ltb 1024 (length c)) 1 (then-l _ _ h) in
+    let long = unrefused (ltb 2048 (length a) || ltb 2048 (length b) || ltb 1024 (length c)) 1 (then-first _ _ h) in
     let longB = or-r (ltb 2048 (length a)) (ltb 2048 (length b)) (or-l (ltb 2048 (length a) || ltb 2048 (length b)) (ltb 1024 (length c)) long) in
     let longC = or-r (ltb 2048 (length a) || ltb 2048 (length b)) (ltb 1024 (length c)) long in
-    limited a b c (then-l _ _ (then-r _ _ (then-r _ _ h))) (ltb-false 2048 (length b) longB) (ltb-false 1024 (length c) longC)
+    limited a b c (then-first _ _ (then-second _ _ (then-second _ _ h))) (ltb-false 2048 (length b) longB) (ltb-false 1024 (length c) longC)
 
 -- ---- the theorem
 

@@ -11,7 +11,7 @@ use lib.Dec.{leb, eqb}
 use Rattle.linkstate.specs.Lists.{any, all, lookup, member}
 use Rattle.linkstate.specs.Kinds.{Size, exactly, foursFrom, foursWithin, fits, Carrier, typeInA, valuesInBC, Kind, kind, kinds, codes, hasCode, hasType, carriedAs, codeOfType, wrongInA, wrongAtTop}
 use Rattle.rivals.proofs.KindLaws.{codes-different}
-use Rattle.rivals.proofs.ListLaws.{different, mem-map, mem-member, and-l, and-r, all-mem, any-no}
+use Rattle.linkstate.proofs.ListLaws.{different, mem-map, mem-member, and-l, and-r, all-mem, any-no}
 use Rattle.demands.proofs.MoreLists.{any-false, lookup-cases}
 
 -- Type, length and value: 4 bytes and at most 2,048 of SRLGs, at most 252 of an extended group, 32 of unreserved bandwidth, 8 of min/max delay, else 4.

@@ -6,7 +6,7 @@ use mathlib.Core.List.{List, [], _∷_, List·Memᴰ, List·Memᴰ·head, List·
 use Prim.Native.Nat.{ℕ, _+_, _≤_, zero-le}
 use native.Mathlib.Omega.{arith}
 use Rattle.linkstate.specs.Lists.{keep, any, lookup}
-use Rattle.rivals.proofs.ListLaws.{and-false, or-l, or-r, absorb, keep-ext, keep-keep}
+use Rattle.linkstate.proofs.ListLaws.{and-false, or-l, or-r, absorb, keep-ext, keep-keep}
 use Rattle.rivals.proofs.Sums.{sumOf}
 
 -- A predicate that both branches have.

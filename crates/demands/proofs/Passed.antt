@@ -5,7 +5,7 @@ use mathlib.Core.List.{List}
 use Prim.Native.Nat.{ℕ, _≤_, _<_, zero-le}
 use native.Mathlib.Omega.{arith}
 use lib.ListN.{length, length-drop}
-use Rattle.linkstate.specs.Replies.{Run, Verdict, accepted, fault, faultOfCall, refusedIf}
+use Rattle.linkstate.specs.Replies.{Run, Verdict, accepted, fault}
 use Rattle.linkstate.specs.Elements.{Element, element, cut, sizeOf, elements}
 use Rattle.linkstate.proofs.ElementLaws.{Framed, done, short, step, framed, value-length}
 use Rattle.rivals.proofs.Sums.{sumOf}
@@ -16,11 +16,6 @@ pub unfaulted : (b : Bool) (n : ℕ) (run : Run) (at : ℕ) (w : Verdict) → co
 unfolding fault
 unfaulted true n run at w h = not-refused _ h
 unfaulted false n run at w h = (refl, h)
-
-pub unrefused : (b : Bool) (n : ℕ) → refusedIf b n ≡ accepted → b ≡ false
-unfolding refusedIf faultOfCall fault
-unrefused true n h = not-refused _ h
-unrefused false n h = refl
 
 -- How many bytes the value of an element has.
 unfoldable pub valueLength : Element → ℕ

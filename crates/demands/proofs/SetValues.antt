@@ -15,7 +15,7 @@ use Rattle.linkstate.specs.Kinds.{codes}
 use Rattle.linkstate.specs.Attributes.{Attribute, ofKind, srlgs, firstValue, valueOf}
 use Rattle.linkstate.specs.Export.{present}
 use Rattle.linkstate.specs.WellFormed.{Values}
-use Rattle.rivals.proofs.ListLaws.{keep-mem, member-mem}
+use Rattle.linkstate.proofs.ListLaws.{keep-mem, member-mem}
 use Rattle.rivals.proofs.Sums.{sumOf, sumOf-le}
 use Rattle.rivals.proofs.Sizes.{cost, costs, length-fours, length-bytes, size-present}
 use Rattle.rivals.proofs.SrlgLaws.{canonical-twice}

@@ -15,7 +15,7 @@ use Rattle.linkstate.specs.Attributes.{Attribute, attribute}
 use Rattle.linkstate.specs.Sides.{Advertisement, ofLive}
 use Rattle.isis.specs.MaskHeader.{lFlag, headerLength, maskTooLong, lForNobody, advertisement}
 use Rattle.isis.specs.RunA.{listElements, checkAttribute, checkAsla, checkA, attributesOf, liveAsla, aslaAdvertisements, sideA}
-use Rattle.rivals.proofs.ListLaws.{or-l, or-r, keep-mem, each-mem}
+use Rattle.linkstate.proofs.ListLaws.{or-l, or-r, keep-mem, each-mem}
 use Rattle.rivals.proofs.RunLaws.{faults-mem}
 use Rattle.demands.proofs.Passed.{unfaulted}
 use Rattle.demands.proofs.Lengths.{RightLength, lengthInBgpLs, type-right, zero-is-no-code}

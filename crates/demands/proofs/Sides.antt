@@ -8,7 +8,7 @@ use lib.Dec.{eqb}
 use Rattle.linkstate.specs.Lists.{keep, any, each, empty}
 use Rattle.linkstate.specs.Attributes.{Attribute, valueOf}
 use Rattle.linkstate.specs.Sides.{Advertisement, Side, general, names, named, namedWithL, ofLive, generalSet, applicationSet, rsvpTeKind, rsvpTeAlone, maximumBandwidth, reservableBandwidth, bandwidthKind}
-use Rattle.rivals.proofs.ListLaws.{and-false, mem-any, any-no, keep-mem}
+use Rattle.linkstate.proofs.ListLaws.{and-false, mem-any, any-no, keep-mem}
 use Rattle.rivals.proofs.Shortest.{not-general}
 use Rattle.demands.proofs.MoreLists.{of-cond, any-false, any-kept, keep-kept}
 

@@ -18,7 +18,7 @@ use Rattle.replies.specs.declared.Written.the-variants.{Bytes, Refused}
 use Rattle.octets.proofs.Laws.{put-then}
 use Rattle.set_bytes.specs.Sets.{setOf}
 use Rattle.asla_bytes.specs.Applications.{inNumbers}
-use Rattle.group_bytes.specs.Groups.{groupsBelow}
+use Rattle.group_bytes.specs.Groups.{groupsBytes}
 use Rattle.export_bytes.specs.Whole.{generalBytes, lowBytes, highBytes, wholeBytes}
 
 -- ---- the general set
@@ -38,7 +38,7 @@ module _ (a : List ℕ) (g : List (List ℕ)) (ns : List ℕ) where
 pub put-both : (d e f : List ℕ) (at k : ℕ) (x y : List ℕ) → e ≡ put d at x → f ≡ put e k y → k ≡ at + length x → at + (length x + length y) ≤ length d → f ≡ put d at (x ++ y)
 put-both d e f at k x y p q i h = put-then d e f at x k y p q i (omega arith)
 
-module _ (a : List ℕ) (l r : List (List ℕ)) (rs : List ℕ) (g : List (List ℕ)) (gs : List ℕ) (grids : List (List (List ℕ))) (spans : List (List ℕ)) (list leads : List ℕ) where
+module _ (a : List ℕ) (l r : List (List ℕ)) (rs : List ℕ) (g : List (List ℕ)) (gs : List ℕ) (values : List ℕ) (count : ℕ) (grids : List (List (List ℕ))) (bits heads : List (List ℕ)) where
   abbrev low : List ℕ
   low = lowBytes a l r rs
 
@@ -46,13 +46,13 @@ module _ (a : List ℕ) (l r : List (List ℕ)) (rs : List ℕ) (g : List (List 
   general = generalBytes a g gs
 
   abbrev groups : List ℕ
-  groups = groupsBelow a grids spans list leads 128
+  groups = groupsBytes a values count grids bits heads
 
   abbrev high : List ℕ
   high = highBytes a l r rs
 
   abbrev whole : List ℕ
-  whole = wholeBytes a l r rs g gs grids spans list leads
+  whole = wholeBytes a l r rs g gs values count grids bits heads
 
   pub whole-is : low ++ (general ++ groups) ++ high ≡ whole
   unfolding wholeBytes

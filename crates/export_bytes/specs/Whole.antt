@@ -7,7 +7,7 @@ use Rattle.linkstate.specs.Meaning.{row}
 use Rattle.linkstate.specs.Export.{tlv, bytesOf, aslaValue}
 use Rattle.set_bytes.specs.Sets.{setOf, topOf, inTlvs, lowCodes, highCodes}
 use Rattle.asla_bytes.specs.Applications.{inNumbers}
-use Rattle.group_bytes.specs.Groups.{groupsBelow}
+use Rattle.group_bytes.specs.Groups.{groupsBytes}
 
 -- L3. The TLV of the general set, none where it is empty.
 unfoldable pub generalBytes : List ℕ → List (List ℕ) → List ℕ → List ℕ
@@ -21,6 +21,6 @@ abbrev pub highBytes : List ℕ → List (List ℕ) → List (List ℕ) → List
 highBytes a l g ns = inTlvs (topOf a l g ns) highCodes
 
 -- All of it, ascending by type: bandwidths and the RSVP-TE set (l, r, rs), the general set (g, gs), and the groups of a table.
-unfoldable pub wholeBytes : List ℕ → List (List ℕ) → List (List ℕ) → List ℕ → List (List ℕ) → List ℕ → List (List (List ℕ)) → List (List ℕ) → List ℕ → List ℕ → List ℕ
-wholeBytes a l r rs g gs grids spans list leads =
-    lowBytes a l r rs ++ generalBytes a g gs ++ groupsBelow a grids spans list leads 128 ++ highBytes a l r rs
+unfoldable pub wholeBytes : List ℕ → List (List ℕ) → List (List ℕ) → List ℕ → List (List ℕ) → List ℕ → List ℕ → ℕ → List (List (List ℕ)) → List (List ℕ) → List (List ℕ) → List ℕ
+wholeBytes a l r rs g gs values count grids bits heads =
+    lowBytes a l r rs ++ generalBytes a g gs ++ groupsBytes a values count grids bits heads ++ highBytes a l r rs

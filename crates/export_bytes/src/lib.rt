@@ -9,7 +9,7 @@ ghost use Rattle.linkstate.specs.Questions.{write};
 ghost use Rattle.replies.specs.Told.{toldExported};
 ghost use Rattle.set_bytes.specs.Sets.{Fits, Short};
 ghost use Rattle.set_groups.specs.Table.{Sound};
-ghost use Rattle.group_bytes.specs.Groups.{groupsBelow, Measurable};
+ghost use Rattle.group_bytes.specs.Groups.{groupsBytes, Measurable, Readable};
 ghost use Rattle.export_bytes.specs.Whole.{generalBytes, lowBytes, highBytes, wholeBytes};
 use replies::Written;
 
@@ -40,18 +40,20 @@ fn write_aslas(
     a: &[u8],
     g: [[usize; 2]; 10],
     gs: &[u32],
+    values: &[u32],
+    count: usize,
     grids: &[[[usize; 2]; 10]],
-    spans: &[[usize; 2]],
-    list: &[u32],
-    leads: &[usize],
+    bits: &[[u64; 12]],
+    heads: &[[u64; 4]],
+    scratch: &mut [u32],
     out: &mut [u8],
     at: usize,
 ) -> usize
-    requires { ⌜ Fits (now a) g × (length (now gs) ≤ 512) × Sound (now a) (now grids) (now spans) (now list) × (length (now leads) ≡ 128) × (at + (length (generalBytes (now a) g (now gs)) + length (groupsBelow (now a) (now grids) (now spans) (now list) (now leads) 128)) ≤ length (now out)) ⌝ }
-    ensures { λ q. ⌜ (q ≡ at + (length (generalBytes (now (a .entry)) g (now (gs .entry))) + length (groupsBelow (now (a .entry)) (now (grids .entry)) (now (spans .entry)) (now (list .entry)) (now (leads .entry)) 128))) × (now (out .exit) ≡ put (now (out .entry)) at (generalBytes (now (a .entry)) g (now (gs .entry)) ++ groupsBelow (now (a .entry)) (now (grids .entry)) (now (spans .entry)) (now (list .entry)) (now (leads .entry)) 128)) ⌝ }
+    requires { ⌜ Fits (now a) g × (length (now gs) ≤ 512) × Readable (now a) (now values) count (now grids) (now bits) (now heads) (length (now scratch)) × (at + (length (generalBytes (now a) g (now gs)) + length (groupsBytes (now a) (now values) count (now grids) (now bits) (now heads))) ≤ length (now out)) ⌝ }
+    ensures { λ q. ⌜ (q ≡ at + (length (generalBytes (now (a .entry)) g (now (gs .entry))) + length (groupsBytes (now (a .entry)) (now (values .entry)) count (now (grids .entry)) (now (bits .entry)) (now (heads .entry))))) × (now (out .exit) ≡ put (now (out .entry)) at (generalBytes (now (a .entry)) g (now (gs .entry)) ++ groupsBytes (now (a .entry)) (now (values .entry)) count (now (grids .entry)) (now (bits .entry)) (now (heads .entry)))) ⌝ }
 {
     let next = write_general(a, g, gs, out, at);
-    group_bytes::write_groups(a, grids, spans, list, leads, out, next)
+    group_bytes::write_groups(a, values, count, grids, bits, heads, scratch, out, next)
 }
 
 // All TLVs, ascending by type, from the buffer's front on; how many bytes they have.
@@ -62,17 +64,31 @@ fn write_whole(
     rs: &[u32],
     g: [[usize; 2]; 10],
     gs: &[u32],
+    values: &[u32],
+    count: usize,
     grids: &[[[usize; 2]; 10]],
-    spans: &[[usize; 2]],
-    list: &[u32],
-    leads: &[usize],
+    bits: &[[u64; 12]],
+    heads: &[[u64; 4]],
+    scratch: &mut [u32],
     out: &mut [u8],
 ) -> usize
-    requires { ⌜ Fits (now a) l × Fits (now a) r × (length (now rs) ≤ 512) × Fits (now a) g × (length (now gs) ≤ 512) × Sound (now a) (now grids) (now spans) (now list) × (length (now leads) ≡ 128) × (length (wholeBytes (now a) l r (now rs) g (now gs) (now grids) (now spans) (now list) (now leads)) ≤ length (now out)) ⌝ }
-    ensures { λ q. ⌜ (q ≡ length (wholeBytes (now (a .entry)) l r (now (rs .entry)) g (now (gs .entry)) (now (grids .entry)) (now (spans .entry)) (now (list .entry)) (now (leads .entry)))) × (now (out .exit) ≡ put (now (out .entry)) 0 (wholeBytes (now (a .entry)) l r (now (rs .entry)) g (now (gs .entry)) (now (grids .entry)) (now (spans .entry)) (now (list .entry)) (now (leads .entry)))) ⌝ }
+    requires { ⌜ Fits (now a) l × Fits (now a) r × (length (now rs) ≤ 512) × Fits (now a) g × (length (now gs) ≤ 512) × Readable (now a) (now values) count (now grids) (now bits) (now heads) (length (now scratch)) × (length (wholeBytes (now a) l r (now rs) g (now gs) (now values) count (now grids) (now bits) (now heads)) ≤ length (now out)) ⌝ }
+    ensures { λ q. ⌜ (q ≡ length (wholeBytes (now (a .entry)) l r (now (rs .entry)) g (now (gs .entry)) (now (values .entry)) count (now (grids .entry)) (now (bits .entry)) (now (heads .entry)))) × (now (out .exit) ≡ put (now (out .entry)) 0 (wholeBytes (now (a .entry)) l r (now (rs .entry)) g (now (gs .entry)) (now (values .entry)) count (now (grids .entry)) (now (bits .entry)) (now (heads .entry)))) ⌝ }
 {
     let low = set_bytes::write_top_low(a, l, r, rs, out, 0);
-    let aslas = write_aslas(a, g, gs, grids, spans, list, leads, out, low);
+    let aslas = write_aslas(
+        a,
+        g,
+        gs,
+        values,
+        count,
+        grids,
+        bits,
+        heads,
+        scratch,
+        out,
+        low,
+    );
     set_bytes::write_top_high(a, l, r, rs, out, aslas)
 }
 
@@ -83,16 +99,16 @@ fn whole_size(
     rs: usize,
     g: [[usize; 2]; 10],
     gs: usize,
+    count: usize,
     grids: &[[[usize; 2]; 10]],
-    spans: &[[usize; 2]],
-    leads: &[usize],
+    heads: &[[u64; 4]],
 ) -> usize
-    requires { ⌜ (rs ≤ 512) × Short l × Short r × (gs ≤ 512) × Short g × Measurable (now grids) (now spans) × (length (now leads) ≡ 128) ⌝ }
-    ensures { λ q. ⌜ ((a ns ms list : List ℕ) → Fits a l → Fits a r → length ns ≡ rs → Fits a g → length ms ≡ gs → Sound a (now (grids .entry)) (now (spans .entry)) list → q ≡ length (wholeBytes a l r ns g ms (now (grids .entry)) (now (spans .entry)) list (now (leads .entry)))) ⌝ }
+    requires { ⌜ (rs ≤ 512) × Short l × Short r × (gs ≤ 512) × Short g × Measurable count (now grids) (now heads) ⌝ }
+    ensures { λ q. ⌜ ((a ns ms values : List ℕ) (bits : List (List ℕ)) → Fits a l → Fits a r → length ns ≡ rs → Fits a g → length ms ≡ gs → Sound a values count (now (grids .entry)) bits (now (heads .entry)) → q ≡ length (wholeBytes a l r ns g ms values count (now (grids .entry)) bits (now (heads .entry)))) ⌝ }
 {
     let top = set_bytes::top_size(l, r, rs);
     let general = general_size(g, gs);
-    let groups = group_bytes::groups_size(grids, spans, leads);
+    let groups = group_bytes::groups_size(count, grids, heads);
     top + general + groups
 }
 
@@ -104,18 +120,34 @@ pub fn export_sets(
     rs: &[u32],
     g: [[usize; 2]; 10],
     gs: &[u32],
+    values: &[u32],
+    count: usize,
     grids: &[[[usize; 2]; 10]],
-    spans: &[[usize; 2]],
-    list: &[u32],
-    leads: &[usize],
+    bits: &[[u64; 12]],
+    heads: &[[u64; 4]],
+    scratch: &mut [u32],
     out: &mut [u8],
 ) -> Written
-    requires { ⌜ Fits (now a) l × Fits (now a) r × (length (now rs) ≤ 512) × Fits (now a) g × (length (now gs) ≤ 512) × Sound (now a) (now grids) (now spans) (now list) × (length (now leads) ≡ 128) ⌝ }
-    ensures { λ q. ⌜ toldExported q (now (out .exit)) ≡ write accepted (wholeBytes (now (a .entry)) l r (now (rs .entry)) g (now (gs .entry)) (now (grids .entry)) (now (spans .entry)) (now (list .entry)) (now (leads .entry))) (now (out .entry)) ⌝ }
+    requires { ⌜ Fits (now a) l × Fits (now a) r × (length (now rs) ≤ 512) × Fits (now a) g × (length (now gs) ≤ 512) × Readable (now a) (now values) count (now grids) (now bits) (now heads) (length (now scratch)) ⌝ }
+    ensures { λ q. ⌜ toldExported q (now (out .exit)) ≡ write accepted (wholeBytes (now (a .entry)) l r (now (rs .entry)) g (now (gs .entry)) (now (values .entry)) count (now (grids .entry)) (now (bits .entry)) (now (heads .entry))) (now (out .entry)) ⌝ }
 {
-    let size = whole_size(l, r, rs.len(), g, gs.len(), grids, spans, leads);
+    let size = whole_size(l, r, rs.len(), g, gs.len(), count, grids, heads);
     if out.len() < size {
         return Written::Refused(replies::refuse_call(5));
     }
-    Written::Bytes(write_whole(a, l, r, rs, g, gs, grids, spans, list, leads, out))
+    Written::Bytes(write_whole(
+        a,
+        l,
+        r,
+        rs,
+        g,
+        gs,
+        values,
+        count,
+        grids,
+        bits,
+        heads,
+        scratch,
+        out,
+    ))
 }

@@ -1,97 +1,112 @@
--- Laws of the ASLA TLVs of groups, one after the other. Assumes nothing.
+-- Laws of the ASLA TLVs of a table's groups, one after the other. Assumes nothing.
 use mathlib.Core.Path.{_≡_, refl, sym, _∙_, ap}
-use mathlib.Core.List.{List, [], _∷_, _++_, append-assoc, append-nil}
+use mathlib.Core.List.{List, [], _∷_, _++_, map, append-nil}
 use Prim.Native.Nat.{ℕ, zero, suc, _+_, _-_, _≤_, _<_}
+use native.Mathlib.Nat.{zero-add, sub-zero}
+use native.Mathlib.Numerals.{add-one}
 use native.Mathlib.Omega.{arith}
-use borrow.Author.Tests.{eq-eqb, ne-eqb}
-use lib.ListN.{length, getD, length-append}
+use lib.ListN.{length, getD, take, drop, length-append, length-take}
+use Rattle.linkstate.proofs.ListLaws.{each-append, map-append}
 use Rattle.linkstate.specs.Lists.{numbers, each, put}
+use Rattle.linkstate.specs.Meaning.{row}
 use Rattle.linkstate.specs.Export.{tlv, bytesOf, aslaValue}
-use Rattle.octets.proofs.Laws.{length-bytesAt, put-then}
+use Rattle.octets.proofs.Laws.{put-then}
+use Rattle.srlg_ranks.specs.Ranks.{picked}
 use Rattle.set_bytes.specs.Sets.{setOf}
 use Rattle.asla_bytes.specs.Applications.{inNumbers}
-use Rattle.set_groups.specs.Table.{inSpan, tableSet, Sound}
-use Rattle.group_bytes.specs.Groups.{ledFrom, groupBytes, groupsBelow, Measurable}
+use Rattle.set_groups.specs.Groups.{Group, groupTlv}
+use Rattle.set_groups.specs.Table.{Sound, entryGroup, tableGroups}
+use Rattle.set_groups.proofs.Joined.{numbers-last}
+use Rattle.set_groups.proofs.Tlvs.{tlv-is}
+use Rattle.group_bytes.specs.Groups.{listedBytes, entryBytes, groupsBytes, Measurable}
 
--- ---- lists
-
-pub each-append : {A B : Type 0} (f : A → List B) (xs ys : List A) → each f (xs ++ ys) ≡ each f xs ++ each f ys
+each-one : {A : Type 0} (f : A → List ℕ) (x : A) → each f (x ∷ []) ≡ f x
 unfolding each
-each-append f [] ys = refl
-each-append f (x ∷ xs) ys = rw (each-append f xs ys) (sym (append-assoc (f x) (each f xs) (each f ys)))
+each-one f x = append-nil (f x)
 
-numbers-next : (n from : ℕ) → numbers from (suc n) ≡ numbers from n ++ ((from + n) ∷ [])
-unfolding numbers
-numbers-next zero from = let e : from + 0 ≡ from = omega arith in rw e
-numbers-next (suc n) from = let e : from + suc n ≡ suc from + n = omega arith in rw (e, sym (numbers-next n (suc from)))
+-- The front of a list, as the code's part of it.
+pub part-length : (x : List ℕ) (k : ℕ) → length (take (k - 0) (drop 0 x)) ≤ k
+part-length x k = rw (sub-zero k) (omega (arith, length-take k x))
 
--- ---- a table that can be read can be measured
+pub part-listed : (a : List ℕ) (g : List (List ℕ)) (x : List ℕ) (k s u : ℕ) → bytesOf (tlv 1122 (aslaValue (inNumbers s u) (setOf a g (take (k - 0) (drop 0 x))))) ≡ listedBytes a g x k s u
+unfolding listedBytes
+part-listed a g x k s u = rw (sub-zero k)
 
-pub measurable : (a : List ℕ) (grids : List (List (List ℕ))) (spans : List (List ℕ)) (list : List ℕ) → Sound a grids spans list → Measurable grids spans
-measurable a grids spans list s =
-    record { rows = s .rows; ends = s .ends; shortRows = λ n k. s .fits n k .short; few = s .short }
+-- A table that can be read can be measured.
+pub measurable : (a values : List ℕ) (count : ℕ) (grids : List (List (List ℕ))) (bits heads : List (List ℕ)) → count ≤ 127 → Sound a values count grids bits heads → Measurable count grids heads
+measurable a values count grids bits heads h s =
+    record {
+      most = h;
+      gridRoom = s .gridRoom;
+      headRoom = s .headRoom;
+      shortRows = λ i l k. s .entry i l .fits k .short;
+      few = λ i l. s .entry i l .few;
+    }
 
-module _ (a : List ℕ) (grids : List (List (List ℕ))) (spans : List (List ℕ)) (list : List ℕ) where
-  pub length-span : Sound a grids spans list → (n : ℕ) → length (inSpan list (getD spans n [])) ≡ getD (getD spans n []) 1 0
-  unfolding inSpan
-  length-span s n = length-bytesAt list (getD (getD spans n []) 0 0) (getD (getD spans n []) 1 0) (s .within n)
+module _ (a values : List ℕ) (grids : List (List (List ℕ))) (bits heads : List (List ℕ)) where
+  abbrev one : ℕ → List ℕ
+  one = entryBytes a values grids bits heads
 
-  module _ (leads : List ℕ) where
-    abbrev group : ℕ → List ℕ
-    group = groupBytes a grids spans list leads
+  abbrev below : ℕ → List ℕ
+  below k = groupsBytes a values k grids bits heads
 
-    abbrev below : ℕ → List ℕ
-    below = groupsBelow a grids spans list leads
+  pub entry-is : (i : ℕ) (ns : List ℕ) → ns ≡ picked values (getD bits i [])
+      → bytesOf (tlv 1122 (aslaValue (inNumbers (getD (getD heads i []) 0 0) (getD (getD heads i []) 1 0)) (setOf a (getD grids i []) ns))) ≡ one i
+  unfolding entryBytes entryGroup
+  entry-is i ns e = rw e (sym (tlv-is (setOf a (getD grids i []) (picked values (getD bits i []))) (getD (getD heads i []) 0 0) (getD (getD heads i []) 1 0)))
 
-    -- The TLV of n's group: none, or by the masks and the set.
-    pub leads-none : (n : ℕ) → (getD leads n 0 ≡ n → ⊥) → group n ≡ []
-    unfolding groupBytes
-    leads-none n h = rw (ne-eqb (getD leads n 0) n h)
+  -- The TLV of an entry, by the numbers listed.
+  pub entry-listed : (i k : ℕ) (x : List ℕ) → take k x ≡ picked values (getD bits i []) → listedBytes a (getD grids i []) x k (getD (getD heads i []) 0 0) (getD (getD heads i []) 1 0) ≡ one i
+  unfolding listedBytes
+  entry-listed i k x e = entry-is i (take k x) e
 
-    pub leads-group : (n s u : ℕ) (ns : List ℕ) → getD leads n 0 ≡ n → s ≡ ledFrom leads 0 n → u ≡ ledFrom leads 64 n → ns ≡ inSpan list (getD spans n [])
-        → bytesOf (tlv 1122 (aslaValue (inNumbers s u) (setOf a (getD grids n []) ns))) ≡ group n
-    unfolding groupBytes tableSet
-    leads-group n s u ns h e f g = rw (eq-eqb (getD leads n 0) n h, e, f, g)
+  module _ (i k : ℕ) (x : List ℕ) (e : take k x ≡ picked values (getD bits i [])) (at : ℕ) where
+    abbrev listed : List ℕ
+    listed = listedBytes a (getD grids i []) x k (getD (getD heads i []) 0 0) (getD (getD heads i []) 1 0)
 
-    one-group : (k : ℕ) → each group (k ∷ []) ≡ group k
-    unfolding each
-    one-group k = append-nil (group k)
+    pub listed-room : (n : ℕ) → at + length (one i) ≤ n → at + length listed ≤ n
+    listed-room n h = omega (arith, ap length (entry-listed i k x e))
 
-    -- One group more.
-    pub below-one : below 1 ≡ []
-    unfolding groupsBelow numbers each
-    below-one = refl
+    pub listed-written : (r : ℕ) (out out′ : List ℕ) → r ≡ at + length listed → out′ ≡ put out at listed → (r ≡ at + length (one i)) × (out′ ≡ put out at (one i))
+    listed-written r out out′ f g = (omega (arith, ap length (entry-listed i k x e)), g ∙ ap (put out at) (entry-listed i k x e))
 
-    pub below-next : (k : ℕ) → 1 ≤ k → below (k + 1) ≡ below k ++ group k
-    unfolding groupsBelow
-    below-next k h =
-        let e : k + 1 - 1 ≡ suc (k - 1) = omega arith in
-        let f : 1 + (k - 1) ≡ k = omega arith in
-        rw (e, numbers-next (k - 1) 1, f) (each-append group (numbers 1 (k - 1)) (k ∷ []) ∙ ap (λ (l : List ℕ). each group (numbers 1 (k - 1)) ++ l) (one-group k))
+  pub below-none : below 0 ≡ []
+  unfolding groupsBytes tableGroups numbers each
+  below-none = refl
 
-    pub below-most : (j k : ℕ) → 1 ≤ k → length (below k) ≤ length (below (k + j))
-    below-most zero k h = let e : k + 0 ≡ k = omega arith in rw e (omega arith)
-    below-most (suc j) k h =
-        let e : k + suc j ≡ k + j + 1 = omega arith in
-        rw (e, below-next (k + j) (omega arith)) (omega (arith, below-most j k h, length-append (below (k + j)) (group (k + j))))
+  pub below-next : (k : ℕ) → below (k + 1) ≡ below k ++ one k
+  unfolding groupsBytes tableGroups entryBytes
+  below-next k =
+      let f : ℕ → Group = λ i. entryGroup a values (getD grids i []) (getD bits i []) (getD heads i []) in
+      ap (λ (n : ℕ). each groupTlv (map f (numbers 0 n))) (add-one k)
+      ∙ ap (λ (l : List ℕ). each groupTlv (map f l)) (numbers-last k 0 ∙ ap (λ (n : ℕ). numbers 0 k ++ (n ∷ [])) (zero-add k))
+      ∙ ap (each groupTlv) (map-append f (numbers 0 k) (k ∷ []))
+      ∙ each-append groupTlv (map f (numbers 0 k)) (f k ∷ [])
+      ∙ ap (λ (l : List ℕ). each groupTlv (map f (numbers 0 k)) ++ l) (each-one groupTlv (f k))
 
-    below-all : (n : ℕ) → 1 ≤ n → n < 128 → length (below n) + length (group n) ≤ length (below 128)
-    below-all n h l =
-        let e : n + 1 + (127 - n) ≡ 128 = omega arith in
-        let m = rw e at (below-most (127 - n) (n + 1) (omega arith)) in
-        let k = length-append (below n) (group n) in
-        omega (arith, ap length (below-next n h))
+  below-most : (j k : ℕ) → length (below k) ≤ length (below (k + j))
+  below-most zero k = let e : k + 0 ≡ k = omega arith in rw e (omega arith)
+  below-most (suc j) k =
+      let e : k + suc j ≡ k + j + 1 = omega arith in
+      rw (e, below-next (k + j)) (omega (arith, below-most j k, length-append (below (k + j)) (one (k + j))))
 
-    -- One group measured, and one written.
-    pub size-next : (n total r : ℕ) → 1 ≤ n → total ≡ length (below n) → r ≡ length (group n) → total + r ≡ length (below (n + 1))
-    size-next n total r h e f = omega (arith, ap length (below-next n h), length-append (below n) (group n))
+  below-all : (i count : ℕ) → i < count → length (below i) + length (one i) ≤ length (below count)
+  below-all i count l =
+      let e : i + 1 + (count - (i + 1)) ≡ count = omega arith in
+      let m = rw e at (below-most (count - (i + 1)) (i + 1)) in
+      let k = length-append (below i) (one i) in
+      omega (arith, ap length (below-next i))
 
-    module _ (out₀ : List ℕ) (at : ℕ) (room : at + length (below 128) ≤ length out₀) (n next : ℕ) (h : 1 ≤ n) (l : n < 128) (e : next ≡ at + length (below n)) where
-      pub group-room : next + length (group n) ≤ length out₀
-      group-room = omega (arith, below-all n h l)
+  -- One entry measured, and one written.
+  pub size-next : (i total r : ℕ) → total ≡ length (below i) → r ≡ length (one i) → total + r ≡ length (below (i + 1))
+  size-next i total r e f = omega (arith, ap length (below-next i), length-append (below i) (one i))
 
-      pub place-next : (r : ℕ) → r ≡ next + length (group n) → r ≡ at + length (below (n + 1))
-      place-next r f = omega (arith, ap length (below-next n h), length-append (below n) (group n))
+  module _ (count : ℕ) (out₀ : List ℕ) (at : ℕ) (room : at + length (below count) ≤ length out₀) (i next : ℕ) (l : i < count) (e : next ≡ at + length (below i)) where
+    pub entry-room : next + length (one i) ≤ length out₀
+    entry-room = omega (arith, below-all i count l)
 
-      pub put-next : (out out′ : List ℕ) → out ≡ put out₀ at (below n) → out′ ≡ put out next (group n) → out′ ≡ put out₀ at (below (n + 1))
-      put-next out out′ f g = put-then out₀ out out′ at (below n) next (group n) f g e group-room ∙ ap (put out₀ at) (sym (below-next n h))
+    pub place-next : (r : ℕ) → r ≡ next + length (one i) → r ≡ at + length (below (i + 1))
+    place-next r f = omega (arith, ap length (below-next i), length-append (below i) (one i))
+
+    pub put-next : (out out′ : List ℕ) → out ≡ put out₀ at (below i) → out′ ≡ put out next (one i) → out′ ≡ put out₀ at (below (i + 1))
+    put-next out out′ f g = put-then out₀ out out′ at (below i) next (one i) f g e entry-room ∙ ap (put out₀ at) (sym (below-next i))

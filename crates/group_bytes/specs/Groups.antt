@@ -1,33 +1,42 @@
--- The ASLA TLVs of groups, by the table of sets and the leader of each application (rules L3, L7).
-use mathlib.Core.Path.{_≡_}
-use mathlib.Core.Bool.{cond}
+-- The ASLA TLVs of the groups of a table (rules L3, L7).
 use mathlib.Core.List.{List, []}
-use Prim.Native.Nat.{ℕ, _+_, _-_, _≤_}
-use lib.Dec.{eqb}
-use lib.ListN.{length, getD}
-use Rattle.linkstate.specs.Lists.{numbers, each}
-use Rattle.linkstate.specs.Masks.{asNumber}
+use Prim.Native.Nat.{ℕ, _≤_, _<_}
+use lib.ListN.{length, getD, take}
+use Rattle.linkstate.specs.Lists.{each}
 use Rattle.linkstate.specs.Export.{tlv, bytesOf, aslaValue}
-use Rattle.set_bytes.specs.Sets.{Short}
+use Rattle.set_bytes.specs.Sets.{setOf, Short}
 use Rattle.asla_bytes.specs.Applications.{inNumbers}
-use Rattle.set_groups.specs.Table.{tableSet}
+use Rattle.srlg_ranks.specs.Ranks.{picked}
+use Rattle.set_groups.specs.Groups.{groupTlv}
+use Rattle.set_groups.specs.Table.{Sound, entryGroup, tableGroups}
 
--- The applications from `from` on that n leads, as a number.
-abbrev pub ledFrom : List ℕ → ℕ → ℕ → ℕ
-ledFrom leads from n = asNumber (λ k. eqb (getD leads (from + k) 0) n)
+-- The ASLA TLV of a set whose SRLGs are the first k numbers of a list.
+unfoldable pub listedBytes : List ℕ → List (List ℕ) → List ℕ → ℕ → ℕ → ℕ → List ℕ
+listedBytes a g list k standard users = bytesOf (tlv 1122 (aslaValue (inNumbers standard users) (setOf a g (take k list))))
 
--- The TLV of the group that n leads; none where it leads none.
-unfoldable pub groupBytes : List ℕ → List (List (List ℕ)) → List (List ℕ) → List ℕ → List ℕ → ℕ → List ℕ
-groupBytes a grids spans list leads n =
-    cond (eqb (getD leads n 0) n) (bytesOf (tlv 1122 (aslaValue (inNumbers (ledFrom leads 0 n) (ledFrom leads 64 n)) (tableSet a grids spans list n)))) []
+-- The TLV of entry i.
+unfoldable pub entryBytes : List ℕ → List ℕ → List (List (List ℕ)) → List (List ℕ) → List (List ℕ) → ℕ → List ℕ
+entryBytes a values grids bits heads i = groupTlv (entryGroup a values (getD grids i []) (getD bits i []) (getD heads i []))
 
--- The TLVs of the groups that the applications below k lead, RSVP-TE apart.
-unfoldable pub groupsBelow : List ℕ → List (List (List ℕ)) → List (List ℕ) → List ℕ → List ℕ → ℕ → List ℕ
-groupsBelow a grids spans list leads k = each (groupBytes a grids spans list leads) (numbers 1 (k - 1))
+-- The TLVs of the first k entries.
+unfoldable pub groupsBytes : List ℕ → List ℕ → ℕ → List (List (List ℕ)) → List (List ℕ) → List (List ℕ) → List ℕ
+groupsBytes a values k grids bits heads = each groupTlv (tableGroups a values k grids bits heads)
 
--- A table whose sets can be measured: no value is longer than one of run A, no set has more SRLGs than a link.
-pub record Measurable (grids : List (List (List ℕ))) (spans : List (List ℕ)) : Type 0 where
-  pub rows : length grids ≡ 128
-  pub ends : length spans ≡ 128
-  pub shortRows : (n : ℕ) → Short (getD grids n [])
-  pub few : (n : ℕ) → getD (getD spans n []) 1 0 ≤ 512
+-- A table whose groups can be measured: no value is longer than one of run A, no set has more SRLGs than a link.
+pub record Measurable (count : ℕ) (grids : List (List (List ℕ))) (heads : List (List ℕ)) : Type 0 where
+  pub most : count ≤ 127
+  pub gridRoom : count ≤ length grids
+  pub headRoom : count ≤ length heads
+  pub shortRows : (i : ℕ) → i < count → Short (getD grids i [])
+  pub few : (i : ℕ) → i < count → getD (getD heads i []) 2 0 ≤ 512
+
+-- A list of k numbers holds the SRLGs of any one entry.
+abbrev pub Holds : List ℕ → ℕ → List (List ℕ) → ℕ → Type 0
+Holds values count bits k = (i : ℕ) → i < count → length (picked values (getD bits i [])) ≤ k
+
+-- A table that can be read and written, with so long a scratch.
+pub record Readable (a values : List ℕ) (count : ℕ) (grids : List (List (List ℕ))) (bits heads : List (List ℕ)) (scratch : ℕ) : Type 0 where
+  pub valued : length values ≤ 768
+  pub most : count ≤ 127
+  pub sound : Sound a values count grids bits heads
+  pub holds : Holds values count bits scratch

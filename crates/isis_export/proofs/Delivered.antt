@@ -14,6 +14,8 @@ use Rattle.linkstate.specs.Meaning.{meaning}
 use Rattle.linkstate.specs.Export.{export}
 use Rattle.linkstate.specs.Rival.{IsRival}
 use Rattle.isis.specs.Link.{linkVerdict, linkSource, exportLink}
+use Rattle.replies.specs.declared.Written.{Written}
+use Rattle.replies.specs.Told.{toldWritten, toldExported}
 use Rattle.demands.proofs.Demands.{demands}
 use Rattle.isis_export.specs.Delivered.{Delivered}
 
@@ -59,3 +61,7 @@ delivered a b c buffer n after e =
       rival = subst (λ (r : List ℕ). IsRival (meaning (linkSource a b c)) r) (sym (w .front)) (d .rival);
       shortest = λ r i. rw (w .size) (d .shortest r i);
     }
+
+-- The same, of the answer that the code gives.
+pub delivered-as : (a b c buffer : List ℕ) (r : Written) (after : List ℕ) → toldExported r after ≡ exportLink a b c buffer → (n : ℕ) → toldWritten r ≡ bytes n → Delivered a b c n after
+delivered-as a b c buffer r after e n i = delivered a b c buffer n after (sym e ∙ ap (λ (x : Length). told x after) i)

@@ -1,15 +1,15 @@
 -- Laws of the export of a link: what its tables are, and that they describe its meaning. Assumes nothing.
-use mathlib.Core.Path.{_≡_, refl, sym, ap, ap₂, _∙_, subst}
+use mathlib.Core.Path.{_≡_, refl, sym, ap, ap₂, _∙_}
 use mathlib.Core.Bool.{Bool, true, false, cond, _&&_, _||_, not}
 use mathlib.Core.List.{List, [], _∷_, map}
-use Prim.Native.Nat.{ℕ, zero, suc, _+_, _-_, _/_, _^_, _≤_, _<_}
+use Prim.Native.Nat.{ℕ, zero, suc, _+_, _-_, _*_, _/_, _^_, _≤_, _<_}
 use native.Mathlib.Omega.{arith}
 use native.Mathlib.Nat.{pow-suc, div-eq-of-lt}
 use borrow.Author.Tests.{ltb-true, ltb-false, eqb-true, eqb-false, ne-eqb}
 use lib.Dec.{eqb, ltb}
 use lib.Pow.{pow-pos}
-use lib.ListN.{length, getD, take, drop, replicate, length-take, List·getD-eq-default}
-use Rattle.linkstate.specs.Lists.{member, numbers}
+use lib.ListN.{length, getD, take, drop, length-take}
+use Rattle.linkstate.specs.Lists.{member, numbers, keep}
 use Rattle.linkstate.specs.Kinds.{linkCodes}
 use Rattle.linkstate.specs.Masks.{user, others, inNumber}
 use Rattle.linkstate.specs.Replies as R
@@ -24,42 +24,47 @@ use Rattle.kinds.proofs.Computing.{computing}
 use Rattle.isis.specs.RunA.{sideA}
 use Rattle.isis.specs.RunB.{sideB}
 use Rattle.isis.specs.Link.{linkVerdict, sideOf, linkSource, exportLink}
-use Rattle.rivals.proofs.ListLaws.{or-l, or-r, mem-member, mem-numbers}
-use Rattle.rivals.proofs.Sizes.{then-l, then-r}
-use Rattle.demands.proofs.Passed.{unrefused}
+use Rattle.linkstate.proofs.ListLaws.{or-l, or-r, mem-member, mem-numbers, length-numbers}
+use Rattle.linkstate.proofs.WalkLaws.{then-first, then-second, unrefused}
 use Rattle.set_bytes.specs.Sets as S
 use Rattle.set_bytes.specs.Sets.{Fits}
 use Rattle.asla_bytes.specs.Applications.{inNumbers}
-use Rattle.set_groups.specs.Table.{tableSet, Sound}
+use Rattle.srlg_ranks.specs.Ranks.{picked}
+use Rattle.group_bytes.specs.Groups.{Readable}
 use Rattle.export_bytes.specs.Whole.{wholeBytes}
 use Rattle.export_bytes.specs.Describes.{Describes}
 use Rattle.export_bytes.proofs.Exported.{whole-export}
 use Rattle.isis_grids.specs.Grid.{rowOf, gridOf}
-use Rattle.isis_grids.proofs.Grids.{grid-empty}
 use Rattle.isis_sets.specs.Sets.{rsvpTeGrid}
-use Rattle.isis_sets.proofs.Stand.{general-stands, application-stands, rsvp-te-stands, bandwidth-stands}
-use Rattle.isis_table.specs.Filled.{gridAt, srlgsOf, Grids, Spans}
-use Rattle.isis_meaning.proofs.Rows.{nothing-fits, rows-fit, grid-codes, link-codes}
-use Rattle.isis_meaning.proofs.Sets.{general-row, application-row, top-row}
-use Rattle.isis_export.specs.Tables.{PassedLink, NamedBy, Tables, Srlgs}
+use Rattle.isis_sets.proofs.Stand.{general-stands, rsvp-te-stands, bandwidth-stands}
+use Rattle.isis_table.specs.Filled.{PassedLink, NamedBy, left, Filled}
+use Rattle.isis_table.specs.Filled as T
+use Rattle.isis_asla_index.specs.Index.{Room}
+use Rattle.isis_srlg_values.specs.declared.Gathered.{Gathered}
+use Rattle.isis_srlg_values.specs.Gathered as B
+use Rattle.isis_meaning.proofs.Rows.{rows-fit, grid-codes, link-codes}
+use Rattle.isis_meaning.proofs.Sets.{general-row, top-row}
+use Rattle.isis_export.specs.Tables.{Srlgs}
 
 -- ---- a link that was accepted
 
 pub passed-link : (a b c : List ℕ) → linkVerdict a b c ≡ accepted → PassedLink a b c
 unfolding linkVerdict
 passed-link a b c h =
-    let long = unrefused (ltb 2048 (length a) || ltb 2048 (length b) || ltb 1024 (length c)) 1 (then-l _ _ h) in
+    let long = unrefused (ltb 2048 (length a) || ltb 2048 (length b) || ltb 1024 (length c)) 1 (then-first _ _ h) in
     let longB = or-r (ltb 2048 (length a)) (ltb 2048 (length b)) (or-l (ltb 2048 (length a) || ltb 2048 (length b)) (ltb 1024 (length c)) long) in
     let longC = or-r (ltb 2048 (length a) || ltb 2048 (length b)) (ltb 1024 (length c)) long in
-    let rest = then-r _ _ (then-r _ _ h) in
+    let rest = then-second _ _ (then-second _ _ h) in
     record {
-      runA = then-l _ _ rest;
-      runB = record { checked = then-r _ _ rest; shortB = ltb-false 2048 (length b) longB; shortC = ltb-false 1024 (length c) longC };
+      runA = then-first _ _ rest;
+      runB = record { checked = then-second _ _ rest; shortB = ltb-false 2048 (length b) longB; shortC = ltb-false 1024 (length c) longC };
     }
 
-named-is : (a b c : List ℕ) (k : ℕ) → meaning (linkSource a b c) .named k ≡ member k others && (named k (sideA a) || named k (sideB b c))
-unfolding meaning linkSource
-named-is a b c k = refl
+pub short-a : (a b c : List ℕ) → linkVerdict a b c ≡ accepted → length a ≤ 2048
+unfolding linkVerdict
+short-a a b c h =
+    let long = unrefused (ltb 2048 (length a) || ltb 2048 (length b) || ltb 1024 (length c)) 1 (then-first _ _ h) in
+    ltb-false 2048 (length a) (or-l (ltb 2048 (length a)) (ltb 2048 (length b)) (or-l (ltb 2048 (length a) || ltb 2048 (length b)) (ltb 1024 (length c)) long))
 
 -- ---- the tables
 
@@ -75,58 +80,20 @@ module _ (a b c : List ℕ) (passed : PassedLink a b c) where
   pub bandwidths-fit : Fits a (map (λ k. rowOf k (bandwidthKind k (sideA a))) linkCodes)
   bandwidths-fit = rows-fit a (λ k. bandwidthKind k (sideA a)) linkCodes link-codes (bandwidth-stands a (passed .runA))
 
-  application-fits : (n : ℕ) → Fits a (gridOf (applicationSet n (sideA a)))
-  unfolding gridOf
-  application-fits n = rows-fit a (λ k. applicationSet n (sideA a)) gridCodes grid-codes (λ k. application-stands a (passed .runA) n)
-
-  none-fits : Fits a (replicate 10 (0 ∷ 0 ∷ []))
-  unfolding gridOf
-  none-fits = subst (λ (g : List (List ℕ)). Fits a g) (sym grid-empty) (rows-fit a (λ k. []) gridCodes grid-codes (λ k. tt))
-
-  entry-fits : (standard users n : ℕ) → Fits a (gridAt a standard users n)
-  unfolding gridAt
-  entry-fits standard users n = go (inNumbers standard users n)
-    where
-      go : (t : Bool) → Fits a (cond t (gridOf (applicationSet n (sideA a))) (replicate 10 (0 ∷ 0 ∷ [])))
-      go true = application-fits n
-      go false = none-fits
-
-  module _ (standard users : ℕ) (grids : List (List (List ℕ))) (spans : List (List ℕ)) (list : List ℕ) where
-    table-fits : Grids a standard users grids → (n : ℕ) → Fits a (getD grids n [])
-    table-fits g n = go (ltb n 128) refl
-      where
-        go : (t : Bool) → ltb n 128 ≡ t → Fits a (getD grids n [])
-        go true e = subst (λ (g : List (List ℕ)). Fits a g) (sym (g .each n (ltb-true n 128 e))) (entry-fits standard users n)
-        go false e = subst (λ (g : List (List ℕ)). Fits a g) (sym (List·getD-eq-default grids [] (let h = ltb-false n 128 e in omega (arith, g .rows)))) (λ k. nothing-fits a)
-
-    span-ends : Spans b c standard users spans list → (n : ℕ) → (getD (getD spans n []) 0 0 + getD (getD spans n []) 1 0 ≤ length list) × (getD (getD spans n []) 1 0 ≤ 512)
-    span-ends s n = go (ltb n 128) refl
-      where
-        go : (t : Bool) → ltb n 128 ≡ t → (getD (getD spans n []) 0 0 + getD (getD spans n []) 1 0 ≤ length list) × (getD (getD spans n []) 1 0 ≤ 512)
-        go true e = let x = s .each n (ltb-true n 128 e) in (x .below, x .few)
-        go false e = subst (λ (x : List ℕ). (getD x 0 0 + getD x 1 0 ≤ length list) × (getD x 1 0 ≤ 512)) (sym (List·getD-eq-default spans [] (let h = ltb-false n 128 e in omega (arith, s .ends)))) (omega arith, omega arith)
-
-    pub table-sound : Grids a standard users grids → Spans b c standard users spans list → Sound a grids spans list
-    table-sound g s =
-        record { rows = g .rows; ends = s .ends; fits = table-fits g; within = λ n. span-ends s n .0; short = λ n. span-ends s n .1 }
-
-    table-row : Grids a standard users grids → Spans b c standard users spans list → (n : ℕ) → n < 128 → inNumbers standard users n ≡ true → row (tableSet a grids spans list n) ≡ row (meaning (linkSource a b c) .set n)
-    unfolding tableSet gridAt srlgsOf
-    table-row g s n h e =
-        let x = g .each n h in
-        let y = s .each n h .holds in
-        ap₂ (λ (z : List (List ℕ)) (ns : List ℕ). row (S.setOf a z ns)) (x ∙ (rw e)) (y ∙ (rw e)) ∙ application-row a b c (passed .runA) n
-
-    pub describes : (rs gs leads : List ℕ) → NamedBy a b c standard users → Srlgs b c rs gs → Tables a b c standard users grids spans list leads
-        → Describes (meaning (linkSource a b c)) a (map (λ k. rowOf k (bandwidthKind k (sideA a))) linkCodes) (rsvpTeGrid (sideA a)) rs (gridOf (generalSet (sideA a))) gs standard users grids spans list leads
-    describes rs gs leads n s t =
+  module _ (values : List ℕ) (count : ℕ) (grids : List (List (List ℕ))) (bits heads : List (List ℕ)) (t : Filled a b c values count grids bits heads) where
+    pub readable : (k : ℕ) → length values ≤ 768 → 512 ≤ k → Readable a values count grids bits heads k
+    readable k most h =
         record {
-          top = rw (s .rsvpTe) (top-row a b c (passed .runA));
-          general = rw (s .general) (general-row a b c (passed .runA));
-          named = λ k h. n k h ∙ sym (named-is a b c k);
-          set = λ k h e. table-row (t .rows) (t .spanned) k h (n k h ∙ sym (named-is a b c k) ∙ e);
-          led = t .led;
+          valued = most;
+          most = t .most;
+          sound = t .sound;
+          holds = λ i l. let e = t .sound .entry i l in omega (arith, e .counted, e .few);
         }
+
+    pub describes : (rs gs : List ℕ) → Srlgs b c rs gs
+        → Describes (meaning (linkSource a b c)) a (map (λ k. rowOf k (bandwidthKind k (sideA a))) linkCodes) (rsvpTeGrid (sideA a)) rs (gridOf (generalSet (sideA a))) gs values count grids bits heads
+    describes rs gs s =
+        record { top = rw (s .rsvpTe) (top-row a b c (passed .runA)); general = rw (s .general) (general-row a b c (passed .runA)); groups = t .groups }
 
 -- ---- who is named
 
@@ -177,10 +144,6 @@ named-by a b c x y w s xu yu u ax axu by byu ew es eu n h = go (ltb n 64) refl
         let z : member n others ≡ true = member-others n h ∙ ap not (ne-eqb n 0 (λ i. omega arith)) in
         eu (n - 64) ∙ ap₂ (λ (i j : Bool). i || j) (axu (n - 64) (omega arith) ∙ ap (λ (i : ℕ). named i (sideA a)) k) (byu (n - 64) (omega arith) ∙ ap (λ (i : ℕ). named i (sideB b c)) k)
         ∙ ap (λ (i : Bool). i && (named n (sideA a) || named n (sideB b c))) (sym z)
-
--- RSVP-TE is not among them.
-pub nameless : (a b c : List ℕ) (s u : ℕ) → NamedBy a b c s u → inNumbers s u 0 ≡ false
-nameless a b c s u h = h 0 (omega arith) ∙ ap (λ (i : Bool). i && (named 0 (sideA a) || named 0 (sideB b c))) (member-others 0 (omega arith))
 
 -- ---- SRLGs of a subject
 
@@ -237,13 +200,43 @@ bandwidth-rows-are a x y z e f g = three (λ k. rowOf k (bandwidthKind k (sideA 
     three : (h : ℕ → List ℕ) (x y z : List ℕ) → x ≡ h 1089 → y ≡ h 1090 → z ≡ h 1091 → x ∷ y ∷ z ∷ [] ≡ map h linkCodes
     three h x y z e f g = rw (e, f, g) (sym (ap (map h) link-three))
 
--- What is written from the tables is the link's export.
-pub written-as : (a b c : List ℕ) (passed : PassedLink a b c) (standard users : ℕ) (grids : List (List (List ℕ))) (spans : List (List ℕ)) (list rs gs leads : List ℕ)
-    → NamedBy a b c standard users → Srlgs b c rs gs → Tables a b c standard users grids spans list leads
+-- What is written from the table is the link's export.
+pub written-as : (a b c : List ℕ) (passed : PassedLink a b c) (values : List ℕ) (count : ℕ) (grids : List (List (List ℕ))) (bits heads : List (List ℕ)) (rs gs : List ℕ) → Srlgs b c rs gs → Filled a b c values count grids bits heads
     → (l r g : List (List ℕ)) (buffer : List ℕ) → l ≡ map (λ k. rowOf k (bandwidthKind k (sideA a))) linkCodes → r ≡ rsvpTeGrid (sideA a) → g ≡ gridOf (generalSet (sideA a))
-    → write accepted (wholeBytes a l r rs g gs grids spans list leads) buffer ≡ write accepted (export (meaning (linkSource a b c))) buffer
-written-as a b c passed standard users grids spans list rs gs leads n s t l r g buffer e f h =
+    → write accepted (wholeBytes a l r rs g gs values count grids bits heads) buffer ≡ write accepted (export (meaning (linkSource a b c))) buffer
+written-as a b c passed values count grids bits heads rs gs s t l r g buffer e f h =
     rw (e, f, h)
     (ap (λ (x : List ℕ). write accepted x buffer)
-    (whole-export (meaning (linkSource a b c)) a (map (λ k. rowOf k (bandwidthKind k (sideA a))) linkCodes) (rsvpTeGrid (sideA a)) rs (gridOf (generalSet (sideA a))) gs standard users grids spans list leads
-    (describes a b c passed standard users grids spans list rs gs leads n s t)))
+    (whole-export (meaning (linkSource a b c)) a (map (λ k. rowOf k (bandwidthKind k (sideA a))) linkCodes) (rsvpTeGrid (sideA a)) rs (gridOf (generalSet (sideA a))) gs values count grids bits heads
+    (describes a b c passed values count grids bits heads t rs gs s)))
+
+-- ---- room
+
+pub fits-as : (a : List ℕ) (x y : List (List ℕ)) → x ≡ y → Fits a y → Fits a x
+fits-as a x y e f = rw e f
+
+pub room-of : (k : ℕ) (a : List ℕ) (lists : List (List ℕ)) (standards users : List ℕ) → length a ≤ 6 * k → length a < 65536 → length lists ≡ k → length standards ≡ k → length users ≡ k → Room a lists standards users
+room-of k a lists standards users h small x y z = record { small = small; places = omega arith; standards = omega arith; users = omega arith }
+
+pub holds-of : (k n : ℕ) (grids : List (List (List ℕ))) (bits heads : List (List ℕ)) → n ≤ k → length grids ≡ k → length bits ≡ k → length heads ≡ k → T.Holds n grids bits heads
+holds-of k n grids bits heads h x y z = record { gridRoom = omega arith; bitRoom = omega arith; headRoom = omega arith }
+
+pub at-most : (n k m : ℕ) → n ≤ k → m ≡ k → n ≤ m
+at-most n k m h e = omega arith
+
+-- No more than all are named.
+keep-most : (p : ℕ → Bool) (xs : List ℕ) → length (keep p xs) ≤ length xs
+unfolding keep
+keep-most p [] = omega arith
+keep-most p (x ∷ xs) = go (p x) (keep-most p xs)
+  where
+    go : (b : Bool) → length (keep p xs) ≤ length xs → length (cond b (x ∷ keep p xs) (keep p xs)) ≤ suc (length xs)
+    go true h = omega arith
+    go false h = omega arith
+
+pub left-most : (p : ℕ → Bool) → left p 1 ≤ 127
+left-most p = omega (arith, keep-most p (numbers 1 127), length-numbers 127 1)
+
+-- The numbers at the front of a list.
+pub values-part : (b c : List ℕ) (g : Gathered) (x : List ℕ) (k : ℕ) → B.Values b c g (take k x) → B.Values b c g (take (k - 0) (drop 0 x))
+values-part b c g x k v = rw (front-part k x) v

@@ -1,162 +1,543 @@
 // The export of an IS-IS link as BGP-LS TLVs (document 01, "BGP-LS bytes").
 ghost use mathlib.Core.Path.{_≡_};
-ghost use mathlib.Core.Bool.{false};
 ghost use mathlib.Core.List.{List, map};
-ghost use Prim.Native.Nat.{ℕ, _≤_, _<_};
-ghost use lib.ListN.{length};
-ghost use Rattle.linkstate.specs.Replies.{accepted, runA, runB};
+ghost use Prim.Native.Nat.{ℕ, _+_, _*_, _/_, _≤_, _<_};
+ghost use lib.ListN.{length, take};
+ghost use Rattle.linkstate.specs.Replies.{accepted, runA, bytes};
 ghost use Rattle.linkstate.specs.Elements.{elements, faults};
 ghost use Rattle.linkstate.specs.Kinds.{linkCodes};
-ghost use Rattle.linkstate.specs.Sides.{bandwidthKind};
+ghost use Rattle.linkstate.specs.Sides.{named, bandwidthKind};
 ghost use Rattle.linkstate.specs.Questions.{write};
 ghost use Rattle.linkstate.specs.Meaning.{meaning};
 ghost use Rattle.linkstate.specs.Export as Definitions;
-ghost use Rattle.replies.specs.Told.{toldExported};
+ghost use Rattle.replies.specs.Told.{toldWritten, toldExported};
 ghost use Rattle.isis.specs.RunA.{checkA, sideA};
-ghost use Rattle.isis.specs.RunB.{checkB};
-ghost use Rattle.isis.specs.Link.{linkVerdict, linkSource, exportLink};
+ghost use Rattle.isis.specs.RunB.{sideB};
+ghost use Rattle.isis.specs.Link.{linkSource, exportLink};
 ghost use Rattle.isis_grids.specs.Grid.{rowOf};
+ghost use Rattle.isis_sets.specs.Sets.{Holds};
+ghost use Rattle.isis_asla_index.specs.Index.{Room, Indexed};
+ghost use Rattle.isis_srlg_values.specs.Gathered as B;
 ghost use Rattle.asla_bytes.specs.Applications.{inNumbers};
-ghost use Rattle.isis_export.specs.Tables.{PassedLink, NamedBy, Tables, Srlgs};
+ghost use Rattle.isis_table.specs.Filled.{PassedLink, NamedBy, ReadyA, Ready, left, Filled};
+ghost use Rattle.isis_table.specs.Filled as T;
+ghost use Rattle.isis_export.specs.Tables.{Srlgs};
+ghost use Rattle.isis_export.specs.Delivered.{Delivered};
+use isis_asla_index::Index;
 use isis_sets::Masks;
+use isis_srlg_values::Gathered;
 use replies::Checked;
 use replies::Subject;
 use replies::Written;
 
 // The applications other than RSVP-TE that either side names.
-fn named_in_link(a: &[u8], b: &[u8]) -> Masks
-    requires { ⌜ (faults runA checkA (elements 1 0 (now a)) ≡ accepted) × (faults runB checkB (elements 1 0 (now b)) ≡ accepted) ⌝ }
-    ensures { λ r. ⌜ ((c : List ℕ) → NamedBy (now (a .entry)) (now (b .entry)) c (r .standard) (r .user)) ⌝ }
+fn named_in_link(x: Masks, y: isis_tlvs_238::Masks) -> Masks
+    ensures { λ r. ⌜ ((a b c : List ℕ) → Holds (λ n. named n (sideA a)) x → B.Holds (λ n. named n (sideB b c)) (y .standard) (y .user) → NamedBy a b c (r .standard) (r .user)) ⌝ }
 {
-    let x = isis_sets::named_in_a(a);
-    let y = isis_tlvs_238::named_in_b(b);
     let standard = masks::without(masks::joined(x.standard, y.standard), 1);
     let user = masks::joined(x.user, y.user);
     Masks { standard, user }
 }
 
 // The rows of the link's bandwidths.
-fn bandwidth_rows(a: &[u8]) -> [[usize; 2]; 3]
-    requires { ⌜ faults runA checkA (elements 1 0 (now a)) ≡ accepted ⌝ }
+fn bandwidth_rows(
+    a: &[u8],
+    lists: &[[u16; 2]],
+    standards: &[u64],
+    users: &[u64],
+    index: Index,
+) -> [[usize; 2]; 3]
+    requires { ⌜ Indexed (now a) (now lists) (now standards) (now users) index × (faults runA checkA (elements 1 0 (now a)) ≡ accepted) ⌝ }
     ensures { λ r. ⌜ r ≡ map (λ k. rowOf k (bandwidthKind k (sideA (now (a .entry))))) linkCodes ⌝ }
 {
-    let maximum = isis_sets::bandwidth_row(a, 1089);
-    let reservable = isis_sets::bandwidth_row(a, 1090);
-    let unreserved = isis_sets::bandwidth_row(a, 1091);
+    let maximum = isis_index_sets::bandwidth_row(a, lists, standards, users, index, 1089);
+    let reservable = isis_index_sets::bandwidth_row(a, lists, standards, users, index, 1090);
+    let unreserved = isis_index_sets::bandwidth_row(a, lists, standards, users, index, 1091);
     let rows = [maximum, reservable, unreserved];
     rows
 }
 
-// The table of the sets of the named applications, with their leaders.
-fn fill_tables(
+// The export, from the table of the groups and the SRLGs of RSVP-TE and of the general set.
+fn export_table(
     a: &[u8],
     b: &[u8],
     c: &[u8],
-    standard: u64,
-    user: u64,
-    grids: &mut [[[usize; 2]; 10]],
-    spans: &mut [[usize; 2]],
-    list: &mut [u32],
-    leads: &mut [usize],
-)
-    requires { ⌜ PassedLink (now a) (now b) (now c) × (inNumbers standard user 0 ≡ false) × (length (now grids) ≡ 128) × (length (now spans) ≡ 128) × (65536 ≤ length (now list)) × (length (now leads) ≡ 128) ⌝ }
-    ensures { λ _. ⌜ Tables (now (a .entry)) (now (b .entry)) (now (c .entry)) standard user (now (grids .exit)) (now (spans .exit)) (now (list .exit)) (now (leads .exit)) ⌝ }
-{
-    isis_table::fill_grids(a, standard, user, grids);
-    isis_table::fill_spans(b, c, standard, user, spans, list);
-    set_groups::fill_leads(a, standard, user, grids, spans, list, leads);
-}
-
-// The export, from the tables.
-fn export_tables(
-    a: &[u8],
-    standard: u64,
-    user: u64,
+    lists: &[[u16; 2]],
+    standards: &[u64],
+    users: &[u64],
+    index: Index,
+    legacy: &[[usize; 2]; 10],
+    general: &[[usize; 2]; 10],
     rs: &[u32],
     gs: &[u32],
+    values: &[u32],
+    count: usize,
     grids: &[[[usize; 2]; 10]],
-    spans: &[[usize; 2]],
-    list: &[u32],
-    leads: &[usize],
+    bits: &[[u64; 12]],
+    heads: &[[u64; 4]],
+    scratch: &mut [u32],
     out: &mut [u8],
-    b: &[u8],
-    c: &[u8],
 ) -> Written
-    requires { ⌜ PassedLink (now a) (now b) (now c) × NamedBy (now a) (now b) (now c) standard user × Srlgs (now b) (now c) (now rs) (now gs) × Tables (now a) (now b) (now c) standard user (now grids) (now spans) (now list) (now leads) ⌝ }
+    requires { ⌜ PassedLink (now a) (now b) (now c) × ReadyA (now a) (now lists) (now standards) (now users) index (now legacy) (now general) × Srlgs (now b) (now c) (now rs) (now gs) × (length (now values) ≤ 768) × Filled (now a) (now b) (now c) (now values) count (now grids) (now bits) (now heads) × (512 ≤ length (now scratch)) ⌝ }
     ensures { λ r. ⌜ toldExported r (now (out .exit)) ≡ write accepted (Definitions.export (meaning (linkSource (now (a .entry)) (now (b .entry)) (now (c .entry))))) (now (out .entry)) ⌝ }
 {
-    let l = bandwidth_rows(a);
-    let r = isis_sets::rsvp_te_grid(a);
-    let g = isis_sets::general_grid(a);
-    export_bytes::export_sets(a, l, r, rs, g, gs, grids, spans, list, leads, out)
+    let l = bandwidth_rows(a, lists, standards, users, index);
+    let r = isis_index_sets::rsvp_te_grid(a, lists, standards, users, index, legacy);
+    let g = *general;
+    export_bytes::export_sets(
+        a,
+        l,
+        r,
+        rs,
+        g,
+        gs,
+        values,
+        count,
+        grids,
+        bits,
+        heads,
+        scratch,
+        out,
+    )
 }
 
-// The export of an accepted link, with lent room for the sets.
+// The export, with lent room for the table and the SRLGs.
 fn export_with(
     a: &[u8],
     b: &[u8],
     c: &[u8],
+    lists: &[[u16; 2]],
+    standards: &[u64],
+    users: &[u64],
+    index: Index,
+    legacy: &[[usize; 2]; 10],
+    general: &[[usize; 2]; 10],
+    values: &[u32],
+    sets: &[[u64; 12]],
+    takers: &[[u64; 2]],
+    entries: usize,
+    standard: u64,
+    user: u64,
     rs: &mut [u32],
     gs: &mut [u32],
+    scratch: &mut [u32],
     grids: &mut [[[usize; 2]; 10]],
-    spans: &mut [[usize; 2]],
-    list: &mut [u32],
-    leads: &mut [usize],
+    bits: &mut [[u64; 12]],
+    heads: &mut [[u64; 4]],
     out: &mut [u8],
 ) -> Written
-    requires { ⌜ PassedLink (now a) (now b) (now c) × (512 ≤ length (now rs)) × (512 ≤ length (now gs)) × (length (now grids) ≡ 128) × (length (now spans) ≡ 128) × (65536 ≤ length (now list)) × (length (now leads) ≡ 128) ⌝ }
+    requires { ⌜ Ready (now a) (now b) (now c) (now lists) (now standards) (now users) index (now legacy) (now general) (now values) (now sets) (now takers) entries standard user × (512 ≤ length (now rs)) × (512 ≤ length (now gs)) × (512 ≤ length (now scratch)) × T.Holds (left (inNumbers standard user) 1) (now grids) (now bits) (now heads) ⌝ }
     ensures { λ r. ⌜ toldExported r (now (out .exit)) ≡ write accepted (Definitions.export (meaning (linkSource (now (a .entry)) (now (b .entry)) (now (c .entry))))) (now (out .entry)) ⌝ }
 {
-    let named = named_in_link(a, b);
-    let standard = named.standard;
-    let user = named.user;
-    fill_tables(a, b, c, standard, user, grids, spans, list, leads);
-    let rn = isis_srlgs::srlgs_of(b, c, Subject::Standard(0), rs);
-    let gn = isis_srlgs::srlgs_of(b, c, Subject::General, gs);
-    export_tables(
+    let count = isis_table::fill_groups(
         a,
-        standard,
-        user,
-        &rs[0..rn],
-        &gs[0..gn],
-        grids,
-        spans,
-        list,
-        leads,
-        out,
         b,
         c,
+        lists,
+        standards,
+        users,
+        index,
+        legacy,
+        general,
+        values,
+        sets,
+        takers,
+        entries,
+        standard,
+        user,
+        grids,
+        bits,
+        heads,
+    );
+    let rn = isis_srlgs::srlgs_of(b, c, Subject::Standard(0), rs);
+    let gn = isis_srlgs::srlgs_of(b, c, Subject::General, gs);
+    export_table(
+        a,
+        b,
+        c,
+        lists,
+        standards,
+        users,
+        index,
+        legacy,
+        general,
+        &rs[0..rn],
+        &gs[0..gn],
+        values,
+        count,
+        grids,
+        bits,
+        heads,
+        scratch,
+        out,
     )
 }
 
-// The same, with room of its own.
-fn export_accepted(a: &[u8], b: &[u8], c: &[u8], out: &mut [u8]) -> Written
-    requires { ⌜ PassedLink (now a) (now b) (now c) ⌝ }
+// The same with room of its own, for few named applications and for all.
+fn export_few(
+    a: &[u8],
+    b: &[u8],
+    c: &[u8],
+    lists: &[[u16; 2]],
+    standards: &[u64],
+    users: &[u64],
+    index: Index,
+    legacy: &[[usize; 2]; 10],
+    general: &[[usize; 2]; 10],
+    values: &[u32],
+    sets: &[[u64; 12]],
+    takers: &[[u64; 2]],
+    entries: usize,
+    standard: u64,
+    user: u64,
+    out: &mut [u8],
+) -> Written
+    requires { ⌜ Ready (now a) (now b) (now c) (now lists) (now standards) (now users) index (now legacy) (now general) (now values) (now sets) (now takers) entries standard user × (left (inNumbers standard user) 1 ≤ 12) ⌝ }
     ensures { λ r. ⌜ toldExported r (now (out .exit)) ≡ write accepted (Definitions.export (meaning (linkSource (now (a .entry)) (now (b .entry)) (now (c .entry))))) (now (out .entry)) ⌝ }
 {
     let mut rs = [0u32; 512];
     let mut gs = [0u32; 512];
-    let mut grids = [[[0usize; 2]; 10]; 128];
-    let mut spans = [[0usize; 2]; 128];
-    let mut list = [0u32; 65536];
-    let mut leads = [0usize; 128];
+    let mut scratch = [0u32; 512];
+    let mut grids = [[[0usize; 2]; 10]; 12];
+    let mut bits = [[0u64; 12]; 12];
+    let mut heads = [[0u64; 4]; 12];
     export_with(
         a,
         b,
         c,
+        lists,
+        standards,
+        users,
+        index,
+        legacy,
+        general,
+        values,
+        sets,
+        takers,
+        entries,
+        standard,
+        user,
         &mut rs,
         &mut gs,
+        &mut scratch,
         &mut grids,
-        &mut spans,
-        &mut list,
-        &mut leads,
+        &mut bits,
+        &mut heads,
         out,
     )
 }
 
-// The link as BGP-LS TLVs: refused as its bytes are, then by 5; else they stand at the buffer's front, and their length is the answer.
+fn export_many(
+    a: &[u8],
+    b: &[u8],
+    c: &[u8],
+    lists: &[[u16; 2]],
+    standards: &[u64],
+    users: &[u64],
+    index: Index,
+    legacy: &[[usize; 2]; 10],
+    general: &[[usize; 2]; 10],
+    values: &[u32],
+    sets: &[[u64; 12]],
+    takers: &[[u64; 2]],
+    entries: usize,
+    standard: u64,
+    user: u64,
+    out: &mut [u8],
+) -> Written
+    requires { ⌜ Ready (now a) (now b) (now c) (now lists) (now standards) (now users) index (now legacy) (now general) (now values) (now sets) (now takers) entries standard user ⌝ }
+    ensures { λ r. ⌜ toldExported r (now (out .exit)) ≡ write accepted (Definitions.export (meaning (linkSource (now (a .entry)) (now (b .entry)) (now (c .entry))))) (now (out .entry)) ⌝ }
+{
+    let mut rs = [0u32; 512];
+    let mut gs = [0u32; 512];
+    let mut scratch = [0u32; 512];
+    let mut grids = [[[0usize; 2]; 10]; 127];
+    let mut bits = [[0u64; 12]; 127];
+    let mut heads = [[0u64; 4]; 127];
+    export_with(
+        a,
+        b,
+        c,
+        lists,
+        standards,
+        users,
+        index,
+        legacy,
+        general,
+        values,
+        sets,
+        takers,
+        entries,
+        standard,
+        user,
+        &mut rs,
+        &mut gs,
+        &mut scratch,
+        &mut grids,
+        &mut bits,
+        &mut heads,
+        out,
+    )
+}
+
+// The same, by how many are named.
+fn export_named(
+    a: &[u8],
+    b: &[u8],
+    c: &[u8],
+    lists: &[[u16; 2]],
+    standards: &[u64],
+    users: &[u64],
+    index: Index,
+    legacy: &[[usize; 2]; 10],
+    general: &[[usize; 2]; 10],
+    values: &[u32],
+    sets: &[[u64; 12]],
+    takers: &[[u64; 2]],
+    entries: usize,
+    standard: u64,
+    user: u64,
+    out: &mut [u8],
+) -> Written
+    requires { ⌜ Ready (now a) (now b) (now c) (now lists) (now standards) (now users) index (now legacy) (now general) (now values) (now sets) (now takers) entries standard user ⌝ }
+    ensures { λ r. ⌜ toldExported r (now (out .exit)) ≡ write accepted (Definitions.export (meaning (linkSource (now (a .entry)) (now (b .entry)) (now (c .entry))))) (now (out .entry)) ⌝ }
+{
+    if isis_table::few_named(standard, user) {
+        return export_few(
+            a,
+            b,
+            c,
+            lists,
+            standards,
+            users,
+            index,
+            legacy,
+            general,
+            values,
+            sets,
+            takers,
+            entries,
+            standard,
+            user,
+            out,
+        );
+    }
+    export_many(
+        a,
+        b,
+        c,
+        lists,
+        standards,
+        users,
+        index,
+        legacy,
+        general,
+        values,
+        sets,
+        takers,
+        entries,
+        standard,
+        user,
+        out,
+    )
+}
+
+// The export, from the index of run A and the numbers of runs B and C.
+fn export_indexed(
+    a: &[u8],
+    b: &[u8],
+    c: &[u8],
+    lists: &[[u16; 2]],
+    standards: &[u64],
+    users: &[u64],
+    index: Index,
+    legacy: &[[usize; 2]; 10],
+    general: &[[usize; 2]; 10],
+    values: &[u32],
+    g: Gathered,
+    sets: &mut [[u64; 12]],
+    takers: &mut [[u64; 2]],
+    out: &mut [u8],
+) -> Written
+    requires { ⌜ PassedLink (now a) (now b) (now c) × ReadyA (now a) (now lists) (now standards) (now users) index (now legacy) (now general) × B.Values (now b) (now c) g (now values) × (length (now b) + 16 ≤ 16 * length (now sets)) × (length (now b) + 16 ≤ 16 * length (now takers)) ⌝ }
+    ensures { λ r. ⌜ toldExported r (now (out .exit)) ≡ write accepted (Definitions.export (meaning (linkSource (now (a .entry)) (now (b .entry)) (now (c .entry))))) (now (out .entry)) ⌝ }
+{
+    let entries = isis_srlg_index::index_srlgs(b, c, values, g, sets, takers);
+    let named = named_in_link(index.named, g.named);
+    let standard = named.standard;
+    let user = named.user;
+    export_named(
+        a,
+        b,
+        c,
+        lists,
+        standards,
+        users,
+        index,
+        legacy,
+        general,
+        values,
+        sets,
+        takers,
+        entries,
+        standard,
+        user,
+        out,
+    )
+}
+
+// The same, with the numbers at the front of a list.
+fn export_sorted(
+    a: &[u8],
+    b: &[u8],
+    c: &[u8],
+    lists: &[[u16; 2]],
+    standards: &[u64],
+    users: &[u64],
+    index: Index,
+    legacy: &[[usize; 2]; 10],
+    general: &[[usize; 2]; 10],
+    values: &[u32],
+    g: Gathered,
+    sets: &mut [[u64; 12]],
+    takers: &mut [[u64; 2]],
+    out: &mut [u8],
+) -> Written
+    requires { ⌜ PassedLink (now a) (now b) (now c) × ReadyA (now a) (now lists) (now standards) (now users) index (now legacy) (now general) × B.Values (now b) (now c) g (take (g .count) (now values)) × (g .count ≤ length (now values)) × (length (now b) + 16 ≤ 16 * length (now sets)) × (length (now b) + 16 ≤ 16 * length (now takers)) ⌝ }
+    ensures { λ r. ⌜ toldExported r (now (out .exit)) ≡ write accepted (Definitions.export (meaning (linkSource (now (a .entry)) (now (b .entry)) (now (c .entry))))) (now (out .entry)) ⌝ }
+{
+    let n = g.count;
+    export_indexed(
+        a,
+        b,
+        c,
+        lists,
+        standards,
+        users,
+        index,
+        legacy,
+        general,
+        &values[0..n],
+        g,
+        sets,
+        takers,
+        out,
+    )
+}
+
+// The export of an accepted link, with lent room for the indexes.
+fn export_runs(
+    a: &[u8],
+    b: &[u8],
+    c: &[u8],
+    lists: &mut [[u16; 2]],
+    standards: &mut [u64],
+    users: &mut [u64],
+    values: &mut [u32],
+    list: &mut [u32],
+    tmp: &mut [u32],
+    sets: &mut [[u64; 12]],
+    takers: &mut [[u64; 2]],
+    out: &mut [u8],
+) -> Written
+    requires { ⌜ PassedLink (now a) (now b) (now c) × Room (now a) (now lists) (now standards) (now users) × (length (now b) / 4 + length (now c) / 4 ≤ length (now values)) × (length (now b) / 4 + length (now c) / 4 ≤ length (now list)) × (length (now b) / 4 + length (now c) / 4 ≤ length (now tmp)) × (length (now b) + 16 ≤ 16 * length (now sets)) × (length (now b) + 16 ≤ 16 * length (now takers)) ⌝ }
+    ensures { λ r. ⌜ toldExported r (now (out .exit)) ≡ write accepted (Definitions.export (meaning (linkSource (now (a .entry)) (now (b .entry)) (now (c .entry))))) (now (out .entry)) ⌝ }
+{
+    let index = isis_asla_index::index_aslas(a, lists, standards, users);
+    let legacy = isis_grids::legacy_grid(a);
+    let general = isis_index_sets::general_grid(a, lists, standards, users, index);
+    let g = isis_srlg_values::sort_values(b, c, values, list, tmp);
+    export_sorted(
+        a,
+        b,
+        c,
+        lists,
+        standards,
+        users,
+        index,
+        &legacy,
+        &general,
+        values,
+        g,
+        sets,
+        takers,
+        out,
+    )
+}
+
+// The same with room of its own, for short runs and for the longest.
+fn export_small(a: &[u8], b: &[u8], c: &[u8], out: &mut [u8]) -> Written
+    requires { ⌜ PassedLink (now a) (now b) (now c) × (length (now a) ≤ 384) × (length (now b) ≤ 320) × (length (now c) ≤ 192) ⌝ }
+    ensures { λ r. ⌜ toldExported r (now (out .exit)) ≡ write accepted (Definitions.export (meaning (linkSource (now (a .entry)) (now (b .entry)) (now (c .entry))))) (now (out .entry)) ⌝ }
+{
+    let mut lists = [[0u16; 2]; 64];
+    let mut standards = [0u64; 64];
+    let mut users = [0u64; 64];
+    let mut values = [0u32; 128];
+    let mut list = [0u32; 128];
+    let mut tmp = [0u32; 128];
+    let mut sets = [[0u64; 12]; 21];
+    let mut takers = [[0u64; 2]; 21];
+    export_runs(
+        a,
+        b,
+        c,
+        &mut lists,
+        &mut standards,
+        &mut users,
+        &mut values,
+        &mut list,
+        &mut tmp,
+        &mut sets,
+        &mut takers,
+        out,
+    )
+}
+
+fn export_large(a: &[u8], b: &[u8], c: &[u8], out: &mut [u8]) -> Written
+    requires { ⌜ PassedLink (now a) (now b) (now c) × (length (now a) ≤ 2048) ⌝ }
+    ensures { λ r. ⌜ toldExported r (now (out .exit)) ≡ write accepted (Definitions.export (meaning (linkSource (now (a .entry)) (now (b .entry)) (now (c .entry))))) (now (out .entry)) ⌝ }
+{
+    let mut lists = [[0u16; 2]; 342];
+    let mut standards = [0u64; 342];
+    let mut users = [0u64; 342];
+    let mut values = [0u32; 768];
+    let mut list = [0u32; 768];
+    let mut tmp = [0u32; 768];
+    let mut sets = [[0u64; 12]; 129];
+    let mut takers = [[0u64; 2]; 129];
+    export_runs(
+        a,
+        b,
+        c,
+        &mut lists,
+        &mut standards,
+        &mut users,
+        &mut values,
+        &mut list,
+        &mut tmp,
+        &mut sets,
+        &mut takers,
+        out,
+    )
+}
+
+// The export of an accepted link.
+fn export_accepted(a: &[u8], b: &[u8], c: &[u8], out: &mut [u8]) -> Written
+    requires { ⌜ PassedLink (now a) (now b) (now c) × (length (now a) ≤ 2048) ⌝ }
+    ensures { λ r. ⌜ toldExported r (now (out .exit)) ≡ write accepted (Definitions.export (meaning (linkSource (now (a .entry)) (now (b .entry)) (now (c .entry))))) (now (out .entry)) ⌝ }
+{
+    if (a.len() <= 384) & (b.len() <= 320) & (c.len() <= 192) {
+        return export_small(a, b, c, out);
+    }
+    export_large(a, b, c, out)
+}
+
+// The link as BGP-LS TLVs: refused as its bytes are, then by 5; else they stand at the buffer's front, and their length is the answer. What was written is
+// then a rival of the link, and no rival is shorter.
 pub fn export(a: &[u8], b: &[u8], c: &[u8], out: &mut [u8]) -> Written
     ensures { λ r. ⌜ toldExported r (now (out .exit)) ≡ exportLink (now (a .entry)) (now (b .entry)) (now (c .entry)) (now (out .entry)) ⌝ }
+    ensures { λ r. ⌜ ((n : ℕ) → toldWritten r ≡ bytes n → Delivered (now (a .entry)) (now (b .entry)) (now (c .entry)) n (now (out .exit))) ⌝ }
 {
     match isis_check::check_link(a, b, c) {
         Checked::Accepted => export_accepted(a, b, c, out),

@@ -17,6 +17,7 @@ use Rattle.linkstate.specs.Elements.{Element, element, cut, elements, faults}
 use Rattle.linkstate.specs.Attributes.{Attribute}
 use Rattle.linkstate.specs.Sides.{Advertisement, names, general, rsvpTeAlone, ofLive}
 use Rattle.linkstate.proofs.ElementLaws.{none-left}
+use Rattle.linkstate.proofs.ListLaws.{keep-append, each-append}
 use Rattle.linkstate.proofs.WalkLaws.{left, not-accepted, each-end}
 use Rattle.octets.proofs.Laws.{part-is, length-bytesAt, bytesAt-add}
 use Rattle.isis.specs.MaskHeader.{lFlag, maskTooLong, lForNobody, headerLength, advertisement}
@@ -188,20 +189,6 @@ pub placed-selected : (w : Which) (es : List Element) → All Placed (each (sele
 placed-selected w es = all-each Placed (selected w) es (λ e m. placed-one w e)
 
 -- ---- all ASLAs
-
-each-append : {A B : Type 0} (f : A → List B) (xs ys : List A) → each f (xs ++ ys) ≡ each f xs ++ each f ys
-unfolding each
-each-append f [] ys = refl
-each-append f (x ∷ xs) ys = ap (λ (l : List _). f x ++ l) (each-append f xs ys) ∙ sym (append-assoc (f x) (each f xs) (each f ys))
-
-keep-append : {A : Type 0} (p : A → Bool) (xs ys : List A) → keep p (xs ++ ys) ≡ keep p xs ++ keep p ys
-unfolding keep
-keep-append p [] ys = refl
-keep-append p (x ∷ xs) ys = go (p x) (keep-append p xs ys)
-  where
-    go : (b : Bool) → keep p (xs ++ ys) ≡ keep p xs ++ keep p ys → cond b (x ∷ keep p (xs ++ ys)) (keep p (xs ++ ys)) ≡ cond b (x ∷ keep p xs) (keep p xs) ++ keep p ys
-    go true e = ap (λ (l : List _). x ∷ l) e
-    go false e = e
 
 selected-all : (w : Which) (es : List Element) → each (λ d. d .attributes) (keep (selects w) (each aslaAdvertisements es)) ≡ each (selected w) es
 unfolding each keep selected

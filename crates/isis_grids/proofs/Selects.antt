@@ -11,7 +11,8 @@ use Rattle.linkstate.specs.Masks.{bit, user, inMasks, others, asNumber, inNumbe
 use lib.ListN.{length}
 use Rattle.linkstate.specs.Sides.{Advertisement, names, general, rsvpTeAlone}
 use Rattle.linkstate.proofs.Computing.{computing}
-use Rattle.masks.proofs.Laws.{in-number, number-same}
+use Rattle.masks.proofs.Laws.{in-number}
+use Rattle.linkstate.proofs.MaskLaws.{number-same}
 use Rattle.isis_grids.specs.declared.Which.{Which}
 use Rattle.isis_grids.specs.declared.Which.the-variants.{Naming, General, RsvpTeAlone, WithoutL}
 use Rattle.isis_grids.specs.Selected.{selects, unflagged}

@@ -15,33 +15,20 @@ use Rattle.linkstate.specs.Elements.{elements, faults}
 use Rattle.linkstate.specs.Sides.{named, applicationSet, rsvpTeKind}
 use Rattle.linkstate.specs.Attributes.{Attribute, srlgs}
 use Rattle.linkstate.specs.Questions.{Source, Subject, generally, standardNo, userNo, setOf, unwritten, bytesOfFirst, srlgAnswer, listNamed}
-use Rattle.linkstate.proofs.WalkLaws.{then-first, then-second}
+use Rattle.linkstate.proofs.ListLaws.{or-l, or-r, and-l, and-r}
+use Rattle.linkstate.proofs.WalkLaws.{then-first, then-second, unrefused}
 use Rattle.isis.specs.RunA.{checkA, sideA}
 use Rattle.isis.specs.RunB.{checkB, sideB}
 use Rattle.isis.specs.Link.{linkVerdict, linkSource}
 use Rattle.isis.proofs.Computing.{computing}
 use Rattle.masks.proofs.Laws.{is-number}
-use Rattle.rivals.proofs.ListLaws.{and-l, and-r}
 use Rattle.rivals.proofs.KindLaws.{standard-other, user-other}
 use Rattle.isis_srlgs.specs.Runs.{Passed}
-
-not-refused-if : (b : Bool) (n : ℕ) → refusedIf b n ≡ accepted → b ≡ false
-unfolding refusedIf faultOfCall fault
-not-refused-if true n e = absurd (let z : _≡_ {A = ℕ} 0 1 = cc in omega arith)
-not-refused-if false n e = refl
-
-or-l : (x y : Bool) → x || y ≡ false → x ≡ false
-or-l true y e = e
-or-l false y e = refl
-
-or-r : (x y : Bool) → x || y ≡ false → y ≡ false
-or-r true y e = absurd (let z : _≡_ {A = ℕ} 0 1 = cc in omega arith)
-or-r false y e = e
 
 module _ (a b c : List ℕ) (ok : linkVerdict a b c ≡ accepted) where
   sizes : (ltb 2048 (length a) || ltb 2048 (length b)) || ltb 1024 (length c) ≡ false
   unfolding linkVerdict
-  sizes = not-refused-if _ 1 (then-first _ _ ok)
+  sizes = unrefused _ 1 (then-first _ _ ok)
 
   runs : (faults runA checkA (elements 1 0 a) then faults runB checkB (elements 1 0 b)) ≡ accepted
   unfolding linkVerdict

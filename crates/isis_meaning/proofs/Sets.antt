@@ -27,7 +27,7 @@ use Rattle.isis_grids.proofs.Grids.{All}
 use Rattle.isis_grids.proofs.Places.{Stands}
 use Rattle.isis_sets.specs.Sets.{rsvpTeGrid}
 use Rattle.isis_sets.proofs.Stand.{general-stands, application-stands, rsvp-te-stands, bandwidth-stands}
-use Rattle.rivals.proofs.ListLaws.{map-ext, mem-member}
+use Rattle.linkstate.proofs.ListLaws.{map-ext, mem-member}
 use Rattle.rivals.proofs.KindLaws.{link-mem, application-mem}
 use Rattle.isis_meaning.proofs.Rows.{value-at}
 

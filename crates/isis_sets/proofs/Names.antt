@@ -15,6 +15,7 @@ use Rattle.linkstate.specs.Replies.{accepted, runA}
 use Rattle.linkstate.specs.Elements.{Element, element, faults}
 use Rattle.linkstate.specs.Attributes.{Attribute}
 use Rattle.linkstate.specs.Sides.{Advertisement, names, named, namedWithL}
+use Rattle.linkstate.proofs.ListLaws.{any-append}
 use Rattle.linkstate.proofs.WalkLaws.{left, each-end}
 use Rattle.octets.proofs.Laws.{part-is}
 use Rattle.masks.specs.Sets.{turnedPlace, inSent}
@@ -141,15 +142,6 @@ module _ (v : List ℕ) (h : Header) (e : h ≡ headerOf v) (m : Masks) where
       }
 
 -- ---- all ASLAs of run A
-
-pub any-append : {A : Type 0} (p : A → Bool) (xs ys : List A) → any p (xs ++ ys) ≡ any p xs || any p ys
-unfolding any
-any-append p [] ys = refl
-any-append p (x ∷ xs) ys = go (p x) (any-append p xs ys)
-  where
-    go : (b : Bool) → any p (xs ++ ys) ≡ any p xs || any p ys → b || any p (xs ++ ys) ≡ (b || any p xs) || any p ys
-    go true e = refl
-    go false e = e
 
 stronger-tests : (x y z w : Bool) → cond (x || y) WithL (cond (z || w) Named NotNamed) ≡ strongerOf (cond x WithL (cond z Named NotNamed)) (cond y WithL (cond w Named NotNamed))
 unfolding strongerOf

@@ -133,7 +133,7 @@ module _ (ts : List Attribute) where
   unfolding valueOf srlgs srlgWords distinct bytesOfWords each empty
   carries-none e = rw e
 
-keep-none : {A : Type 0} (p : A → Bool) (xs : List A) → any p xs ≡ false → keep p xs ≡ []
+pub keep-none : {A : Type 0} (p : A → Bool) (xs : List A) → any p xs ≡ false → keep p xs ≡ []
 unfolding any keep
 keep-none p [] e = refl
 keep-none p (x ∷ xs) e = go (p x) e (keep-none p xs)

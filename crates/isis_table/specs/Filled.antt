@@ -1,41 +1,70 @@
--- The table of the sets of a link's named applications.
+-- The table of the groups of a link's named applications, and what it is filled from.
 use mathlib.Core.Path.{_≡_}
-use mathlib.Core.Bool.{cond}
-use mathlib.Core.List.{List, [], _∷_}
-use Prim.Native.Nat.{ℕ, _+_, _≤_, _<_}
-use lib.ListN.{length, getD, take, drop, replicate}
-use Rattle.linkstate.specs.Attributes.{srlgs}
-use Rattle.linkstate.specs.Sides.{applicationSet}
-use Rattle.isis.specs.RunA.{sideA}
+use mathlib.Core.Bool.{Bool, true, _&&_, _||_}
+use mathlib.Core.List.{List}
+use Prim.Native.Nat.{ℕ, _+_, _-_, _≤_, _<_}
+use lib.ListN.{length}
+use Rattle.linkstate.specs.Lists.{numbers, keep, member}
+use Rattle.linkstate.specs.Masks.{others}
+use Rattle.linkstate.specs.Replies.{accepted, runA}
+use Rattle.linkstate.specs.Elements.{elements, faults}
+use Rattle.linkstate.specs.Sides.{named, generalSet}
+use Rattle.linkstate.specs.Meaning.{meaning}
+use Rattle.isis.specs.RunA.{checkA, sideA}
 use Rattle.isis.specs.RunB.{sideB}
+use Rattle.isis.specs.Link.{linkSource}
+use Rattle.isis_srlgs.specs.Runs.{Passed}
 use Rattle.isis_grids.specs.Grid.{gridOf}
+use Rattle.isis_asla_index.specs.declared.Index.{Index}
+use Rattle.isis_asla_index.specs.Index as A
+use Rattle.isis_srlg_index.specs.Index as B
 use Rattle.asla_bytes.specs.Applications.{inNumbers}
-use Rattle.set_groups.specs.Table.{inSpan}
+use Rattle.set_groups.specs.Groups.{groupsBelow}
+use Rattle.set_groups.specs.Table.{Sound, tableGroups}
 
--- The grid of an application, absent rows where it is not named.
-unfoldable pub gridAt : List ℕ → ℕ → ℕ → ℕ → List (List ℕ)
-gridAt a standard user n = cond (inNumbers standard user n) (gridOf (applicationSet n (sideA a))) (replicate 10 (0 ∷ 0 ∷ []))
+-- The runs of a link that was accepted.
+pub record PassedLink (a b c : List ℕ) : Type 0 where
+  pub runA : faults runA checkA (elements 1 0 a) ≡ accepted
+  pub runB : Passed b c
 
--- The SRLGs of an application, none where it is not named.
-unfoldable pub srlgsOf : List ℕ → List ℕ → ℕ → ℕ → ℕ → List ℕ
-srlgsOf b c standard user n = cond (inNumbers standard user n) (srlgs (applicationSet n (sideB b c))) []
+-- L19. Two numbers hold the applications other than RSVP-TE that either side names.
+abbrev pub NamedBy : List ℕ → List ℕ → List ℕ → ℕ → ℕ → Type 0
+NamedBy a b c standard users = (n : ℕ) → n < 128 → inNumbers standard users n ≡ member n others && (named n (sideA a) || named n (sideB b c))
 
-pub record Grids (a : List ℕ) (standard user : ℕ) (grids : List (List (List ℕ))) : Type 0 where
-  pub rows : length grids ≡ 128
-  pub each : (n : ℕ) → n < 128 → getD grids n [] ≡ gridAt a standard user n
+-- The index of run A with the grids of its legacy attributes and of the general set.
+pub record ReadyA (a : List ℕ) (lists : List (List ℕ)) (standards users : List ℕ) (index : Index) (old general : List (List ℕ)) : Type 0 where
+  pub indexed : A.Indexed a lists standards users index
+  pub legacy : old ≡ gridOf ((sideA a) .legacy)
+  pub shared : general ≡ gridOf (generalSet (sideA a))
 
--- A span below a place of the list that holds these numbers.
-pub record Span (list span : List ℕ) (end : ℕ) (ns : List ℕ) : Type 0 where
-  pub below : getD span 0 0 + getD span 1 0 ≤ end
-  pub few : getD span 1 0 ≤ 512
-  pub holds : inSpan list span ≡ ns
+-- All that the table is filled from.
+pub record Ready (a b c : List ℕ) (lists : List (List ℕ)) (standards users : List ℕ) (index : Index) (old general : List (List ℕ)) (values : List ℕ) (sets takers : List (List ℕ)) (entries standard user : ℕ) : Type 0 where
+  pub passed : PassedLink a b c
+  pub ofA : ReadyA a lists standards users index old general
+  pub ofB : B.Indexed b c values sets takers entries
+  pub names : NamedBy a b c standard user
 
-pub record Spans (b c : List ℕ) (standard user : ℕ) (spans : List (List ℕ)) (list : List ℕ) : Type 0 where
-  pub ends : length spans ≡ 128
-  pub each : (n : ℕ) → n < 128 → Span list (getD spans n []) (length list) (srlgsOf b c standard user n)
+-- How many of the numbers from n on pass a test.
+abbrev pub left : (ℕ → Bool) → ℕ → ℕ
+left p n = length (keep p (numbers n (128 - n)))
 
--- What one application more leaves in the list: what stands before a place stays, and its numbers follow.
-pub record Added (before after : List ℕ) (at r : ℕ) (ns : List ℕ) : Type 0 where
-  pub few : r ≤ 512
-  pub stays : take at after ≡ take at before
-  pub numbers : take r (drop at after) ≡ ns
+-- Room for entries of a table.
+pub record Holds (k : ℕ) (grids : List (List (List ℕ))) (bits heads : List (List ℕ)) : Type 0 where
+  pub gridRoom : k ≤ length grids
+  pub bitRoom : k ≤ length bits
+  pub headRoom : k ≤ length heads
+
+-- The table of the groups of all named applications below n, where n is the next that passes the test, or 128.
+pub record Begun (a b c values : List ℕ) (p : ℕ → Bool) (n count : ℕ) (grids : List (List (List ℕ))) (bits heads : List (List ℕ)) : Type 0 where
+  pub low : count < n
+  pub high : n ≤ 128
+  pub here : n < 128 → p n ≡ true
+  pub sound : Sound a values count grids bits heads
+  pub groups : tableGroups a values count grids bits heads ≡ groupsBelow (meaning (linkSource a b c)) n
+  pub room : Holds (count + left p n) grids bits heads
+
+-- The table of the groups of all named applications.
+pub record Filled (a b c values : List ℕ) (count : ℕ) (grids : List (List (List ℕ))) (bits heads : List (List ℕ)) : Type 0 where
+  pub most : count ≤ 127
+  pub sound : Sound a values count grids bits heads
+  pub groups : tableGroups a values count grids bits heads ≡ groupsBelow (meaning (linkSource a b c)) 128

@@ -1,89 +1,126 @@
-// The table of the sets of a link's named applications: a grid over run A for each, and its SRLGs as a span of one list.
+// The table of the groups of a link's named applications: each joins with its set on side A, by the index of run A, and its SRLGs, by that of runs B and C.
 ghost use mathlib.Core.Path.{_≡_};
-ghost use mathlib.Core.Bool.{false};
-ghost use Prim.Native.Nat.{_+_, _≤_, _<_};
-ghost use lib.ListN.{length, take};
-ghost use Rattle.linkstate.specs.Replies.{accepted, runA};
-ghost use Rattle.linkstate.specs.Elements.{elements, faults};
-ghost use Rattle.linkstate.specs.Attributes.{srlgs};
-ghost use Rattle.linkstate.specs.Sides.{applicationSet};
-ghost use Rattle.isis.specs.RunA.{checkA};
-ghost use Rattle.isis.specs.RunB.{sideB};
+ghost use mathlib.Core.Bool.{true};
+ghost use mathlib.Core.List.{List};
+ghost use Prim.Native.Nat.{ℕ, _+_, _≤_, _<_};
+ghost use lib.ListN.{length};
+ghost use Rattle.linkstate.specs.Meaning.{meaning, row};
+ghost use Rattle.isis.specs.Link.{linkSource};
+ghost use Rattle.isis_srlg_index.specs.Index as B;
+ghost use Rattle.masks.specs.Sets.{IsNext};
 ghost use Rattle.asla_bytes.specs.Applications.{inNumbers};
-ghost use Rattle.isis_srlgs.specs.Runs.{Passed};
-ghost use Rattle.isis_table.specs.Filled.{gridAt, srlgsOf, Grids, Spans, Added};
-use replies::Subject;
+ghost use Rattle.set_groups.specs.Table.{Sound, Joined};
+ghost use Rattle.isis_table.specs.Filled.{PassedLink, ReadyA, Ready, left, Holds, Filled};
+use isis_asla_index::Index;
 
-// The grid of an application, absent rows where it is not named.
-fn grid_at(a: &[u8], standard: u64, user: u64, n: usize) -> [[usize; 2]; 10]
-    requires { ⌜ (faults runA checkA (elements 1 0 (now a)) ≡ accepted) × (n < 128) ⌝ }
-    ensures { λ r. ⌜ r ≡ gridAt (now (a .entry)) standard user n ⌝ }
+// The first application of two sets, standard and user, from `from` on, or 128.
+fn next_named(standard: u64, user: u64, from: usize) -> usize
+    requires { ⌜ from ≤ 128 ⌝ }
+    ensures { λ r. ⌜ IsNext 128 (inNumbers standard user) from r ⌝ }
 {
-    if !set_groups::is_named(standard, user, n) {
-        let none = [[0usize; 2]; 10];
-        return none;
+    if from < 64 {
+        let n = masks::next_bit(standard, from as u32);
+        if n < 64 {
+            return n as usize;
+        }
+        return 64 + masks::next_bit(user, 0) as usize;
     }
-    isis_sets::application_grid(a, n as u32)
+    64 + masks::next_bit(user, (from - 64) as u32) as usize
 }
 
-// The grids of all named applications.
-pub fn fill_grids(a: &[u8], standard: u64, user: u64, grids: &mut [[[usize; 2]; 10]])
-    requires { ⌜ (faults runA checkA (elements 1 0 (now a)) ≡ accepted) × (length (now grids) ≡ 128) ⌝ }
-    ensures { λ _. ⌜ Grids (now (a .entry)) standard user (now (grids .exit)) ⌝ }
+// Whether no more than twelve applications are named.
+pub fn few_named(standard: u64, user: u64) -> bool
+    ensures { λ r. ⌜ (r ≡ true → left (inNumbers standard user) 1 ≤ 12) ⌝ }
 {
-    for n in 0..128 {
-        let g = grid_at(a, standard, user, n);
-        grids[n] = g;
+    let mut k: usize = 0;
+    let mut n = next_named(standard, user, 1);
+    while n < 128 {
+        if k == 12 {
+            return false;
+        }
+        k += 1;
+        n = next_named(standard, user, n + 1);
     }
+    true
 }
 
-// The SRLGs of an application other than RSVP-TE, ascending, at the front of the list; how many there are.
-fn srlgs_into(b: &[u8], c: &[u8], n: usize, out: &mut [u32]) -> usize
-    requires { ⌜ Passed (now b) (now c) × (512 ≤ length (now out)) × (n < 128) ⌝ }
-    ensures { λ r. ⌜ (r ≤ 512) × ((n ≡ 0 → ⊥) → take r (now (out .exit)) ≡ srlgs (applicationSet n (sideB (now (b .entry)) (now (c .entry))))) ⌝ }
-{
-    if n < 64 {
-        return isis_srlgs::srlgs_of(b, c, Subject::Standard(n as u32), out);
-    }
-    isis_srlgs::srlgs_of(b, c, Subject::User((n - 64) as u32), out)
-}
-
-// The SRLGs of an application, none where it is not named, from a place of the list on; how many there are.
-fn add_srlgs(
+// Application n joins; how many groups there are then.
+fn join_next(
+    a: &[u8],
     b: &[u8],
     c: &[u8],
-    standard: u64,
-    user: u64,
+    lists: &[[u16; 2]],
+    standards: &[u64],
+    users: &[u64],
+    index: Index,
+    legacy: &[[usize; 2]; 10],
+    general: &[[usize; 2]; 10],
+    values: &[u32],
+    sets: &[[u64; 12]],
+    takers: &[[u64; 2]],
+    entries: usize,
     n: usize,
-    list: &mut [u32],
-    at: usize,
+    count: usize,
+    grids: &mut [[[usize; 2]; 10]],
+    bits: &mut [[u64; 12]],
+    heads: &mut [[u64; 4]],
 ) -> usize
-    requires { ⌜ Passed (now b) (now c) × (at + 512 ≤ length (now list)) × (n < 128) × (inNumbers standard user 0 ≡ false) ⌝ }
-    ensures { λ r. ⌜ Added (now (list .entry)) (now (list .exit)) at r (srlgsOf (now (b .entry)) (now (c .entry)) standard user n) ⌝ }
+    requires { ⌜ PassedLink (now a) (now b) (now c) × ReadyA (now a) (now lists) (now standards) (now users) index (now legacy) (now general) × B.Indexed (now b) (now c) (now values) (now sets) (now takers) entries × (1 ≤ n) × (n < 128) × Sound (now a) (now values) count (now grids) (now bits) (now heads) × Holds (count + 1) (now grids) (now bits) (now heads) ⌝ }
+    ensures { λ r. ⌜ Joined (now (a .entry)) (now (values .entry)) n (row (meaning (linkSource (now (a .entry)) (now (b .entry)) (now (c .entry))) .set n)) count (now (grids .entry)) (now (bits .entry)) (now (heads .entry)) r (now (grids .exit)) (now (bits .exit)) (now (heads .exit)) ⌝ }
 {
-    if !set_groups::is_named(standard, user, n) {
-        return 0;
-    }
-    srlgs_into(b, c, n, &mut list[at..])
+    let g = isis_index_sets::set_grid(a, lists, standards, users, index, legacy, general, n as u32);
+    let w = isis_srlg_index::srlg_bits(sets, takers, entries, n);
+    set_groups::join(a, values, n, g, w, count, grids, bits, heads)
 }
 
-// The SRLGs of all named applications.
-pub fn fill_spans(
+// All named applications join, ascending; how many groups there are.
+pub fn fill_groups(
+    a: &[u8],
     b: &[u8],
     c: &[u8],
+    lists: &[[u16; 2]],
+    standards: &[u64],
+    users: &[u64],
+    index: Index,
+    legacy: &[[usize; 2]; 10],
+    general: &[[usize; 2]; 10],
+    values: &[u32],
+    sets: &[[u64; 12]],
+    takers: &[[u64; 2]],
+    entries: usize,
     standard: u64,
     user: u64,
-    spans: &mut [[usize; 2]],
-    list: &mut [u32],
-)
-    requires { ⌜ Passed (now b) (now c) × (inNumbers standard user 0 ≡ false) × (length (now spans) ≡ 128) × (65536 ≤ length (now list)) ⌝ }
-    ensures { λ _. ⌜ Spans (now (b .entry)) (now (c .entry)) standard user (now (spans .exit)) (now (list .exit)) ⌝ }
+    grids: &mut [[[usize; 2]; 10]],
+    bits: &mut [[u64; 12]],
+    heads: &mut [[u64; 4]],
+) -> usize
+    requires { ⌜ Ready (now a) (now b) (now c) (now lists) (now standards) (now users) index (now legacy) (now general) (now values) (now sets) (now takers) entries standard user × Holds (left (inNumbers standard user) 1) (now grids) (now bits) (now heads) ⌝ }
+    ensures { λ r. ⌜ Filled (now (a .entry)) (now (b .entry)) (now (c .entry)) (now (values .entry)) r (now (grids .exit)) (now (bits .exit)) (now (heads .exit)) ⌝ }
 {
-    let mut at = 0;
-    for n in 0..128 {
-        let count = add_srlgs(b, c, standard, user, n, list, at);
-        let span = [at, count];
-        spans[n] = span;
-        at = at + count;
+    let mut count = 0;
+    let mut n = next_named(standard, user, 1);
+    while n < 128 {
+        count = join_next(
+            a,
+            b,
+            c,
+            lists,
+            standards,
+            users,
+            index,
+            legacy,
+            general,
+            values,
+            sets,
+            takers,
+            entries,
+            n,
+            count,
+            grids,
+            bits,
+            heads,
+        );
+        n = next_named(standard, user, n + 1);
     }
+    count
 }

@@ -147,7 +147,7 @@ behind-listed value h = subst Listed (sym (after-is value (h .0))) (h .1)
 
 -- ---- what it says
 
-any-one : {A : Type 0} (p : A → Bool) (b : Bool) (d : A) → any p (cond b (d ∷ []) []) ≡ b && p d
+pub any-one : {A : Type 0} (p : A → Bool) (b : Bool) (d : A) → any p (cond b (d ∷ []) []) ≡ b && p d
 unfolding any
 any-one p false d = refl
 any-one p true d = go (p d)
@@ -200,7 +200,7 @@ part-few value k r from e =
 
 -- Another type says nothing.
 module _ (at t : ℕ) (value : List ℕ) (other : t ≡ 238 → ⊥) where
-  none-there : srlgAdvertisements (element at t value) ≡ []
+  pub none-there : srlgAdvertisements (element at t value) ≡ []
   unfolding srlgAdvertisements
   none-there = rw (ne-eqb t 238 other)
 
@@ -218,11 +218,11 @@ module _ (at t : ℕ) (value : List ℕ) (other : t ≡ 238 → ⊥) where
 
 -- A 238, with x what `taken` says of it.
 module _ (at t : ℕ) (value v : List ℕ) (is : t ≡ 238) (e : v ≡ afterNeighbour value) where
-  one-there : srlgAdvertisements (element at t value) ≡ cond (liveSrlg at v) (srlgAdvertisement at v ∷ []) []
+  pub one-there : srlgAdvertisements (element at t value) ≡ cond (liveSrlg at v) (srlgAdvertisement at v ∷ []) []
   unfolding srlgAdvertisements
   one-there = rw (is, e)
 
-  names-are : (a : ℕ) → any (names a) (srlgAdvertisements (element at t value)) ≡ liveSrlg at v && names a (advertisement v [])
+  pub names-are : (a : ℕ) → any (names a) (srlgAdvertisements (element at t value)) ≡ liveSrlg at v && names a (advertisement v [])
   unfolding names srlgAdvertisement advertisement
   names-are a = ap (any (names a)) one-there ∙ any-one (names a) (liveSrlg at v) (srlgAdvertisement at v)
 
@@ -245,7 +245,7 @@ module _ (at t : ℕ) (value v : List ℕ) (is : t ≡ 238) (e : v ≡ afterNeig
     pub how-no-l : x ≡ true → lFlag v ≡ false → WithoutL ≡ howAmong n (srlgAdvertisements (element at t value))
     how-no-l g l = rw (g, l) at (how-is n x f)
 
-  words-are : (w : Which) (x : Bool) → x ≡ liveSrlg at v && selects w (advertisement v [])
+  pub words-are : (w : Which) (x : Bool) → x ≡ liveSrlg at v && selects w (advertisement v [])
       → wordsIn w (element at t value) ≡ cond x (cond (lFlag v) [] (words (srlgValues v))) []
   unfolding wordsIn srlgAdvertisement advertisement
   words-are w x f =
@@ -300,7 +300,7 @@ module _ (at t : ℕ) (value v : List ℕ) (is : t ≡ 238) (e : v ≡ afterNeig
   pub names-dead : (a : ℕ) → l ≡ false → any (names a) (srlgAdvertisements (element at t value)) ≡ false
   names-dead a d = names-are at t value v is e a ∙ ap (λ (b : Bool). b && names a (advertisement v [])) (sym f ∙ d)
 
-  names-live : (a : ℕ) → l ≡ true → any (names a) (srlgAdvertisements (element at t value)) ≡ names a (advertisement v [])
+  pub names-live : (a : ℕ) → l ≡ true → any (names a) (srlgAdvertisements (element at t value)) ≡ names a (advertisement v [])
   names-live a d = names-are at t value v is e a ∙ ap (λ (b : Bool). b && names a (advertisement v [])) (sym f ∙ d)
 
   -- with a mask as a number, joined to what was there

@@ -13,6 +13,7 @@ use Rattle.linkstate.specs.Replies.{Verdict, accepted, runB}
 use Rattle.linkstate.specs.Elements.{Element, element, cut, elements, faults}
 use Rattle.linkstate.specs.Attributes.{Attribute, ofKind}
 use Rattle.linkstate.specs.Sides.{Advertisement, names, ofLive}
+use Rattle.linkstate.proofs.ListLaws.{any-append, keep-append, each-append}
 use Rattle.linkstate.proofs.WalkLaws.{left, typeAt, type-one, length-one, faults-passed, each-end, each-turn}
 use Rattle.octets.proofs.Laws.{part-is, put-nil, put-then}
 use Rattle.isis.specs.RunB.{checkB, srlgAdvertisements, sideB}
@@ -24,26 +25,7 @@ use Rattle.isis_tlvs_238.proofs.Tlvs as tlv
 
 -- ---- lists joined
 
-each-append : {A B : Type 0} (f : A → List B) (xs ys : List A) → each f (xs ++ ys) ≡ each f xs ++ each f ys
-unfolding each
-each-append f [] ys = refl
-each-append f (x ∷ xs) ys = ap (λ (l : List _). f x ++ l) (each-append f xs ys) ∙ sym (append-assoc (f x) (each f xs) (each f ys))
-
-keep-append : {A : Type 0} (p : A → Bool) (xs ys : List A) → keep p (xs ++ ys) ≡ keep p xs ++ keep p ys
-unfolding keep
-keep-append p [] ys = refl
-keep-append p (x ∷ xs) ys = go (p x) (keep-append p xs ys)
-  where
-    go : (b : Bool) → keep p (xs ++ ys) ≡ keep p xs ++ keep p ys → cond b (x ∷ keep p (xs ++ ys)) (keep p (xs ++ ys)) ≡ cond b (x ∷ keep p xs) (keep p xs) ++ keep p ys
-    go true e = ap (λ (l : List _). x ∷ l) e
-    go false e = e
-
-any-append : {A : Type 0} (p : A → Bool) (xs ys : List A) → any p (xs ++ ys) ≡ any p xs || any p ys
-unfolding any
-any-append p [] ys = refl
-any-append p (x ∷ xs) ys = ap (λ (b : Bool). p x || b) (any-append p xs ys) ∙ sym (or-assoc (p x) (any p xs) (any p ys))
-
-words-append : (ts us : List Attribute) → srlgWords (ts ++ us) ≡ srlgWords ts ++ srlgWords us
+pub words-append : (ts us : List Attribute) → srlgWords (ts ++ us) ≡ srlgWords ts ++ srlgWords us
 unfolding srlgWords ofKind
 words-append ts us =
     ap (each (λ t. words (t .value))) (keep-append (λ t. eqb 1096 (t .code)) ts us)
@@ -129,7 +111,7 @@ module _ (b : List ℕ) (at : ℕ) (here : at < length b) (ok : faults runB chec
   pub value-whole : Whole (getD b at 0) (valueAt b at)
   value-whole = tlv.whole at (getD b at 0) (valueAt b at) (passes .1)
 
-  turn : {A : Type 0} (f : Element → List A) → each f (left 1 0 b at) ≡ f (tlvAt b at) ++ each f (left 1 0 b next)
+  pub turn : {A : Type 0} (f : Element → List A) → each f (left 1 0 b at) ≡ f (tlvAt b at) ++ each f (left 1 0 b next)
   turn f =
       each-turn f 1 (omega arith) 0 b at (getD b (at + 1) 0) (length-one b at) inside
       ∙ ap (λ (e : Element). f e ++ each f (left 1 0 b next)) here-is
@@ -166,7 +148,7 @@ module _ (b : List ℕ) (at : ℕ) (here : at < length b) (ok : faults runB chec
 -- ---- the end
 
 module _ (b : List ℕ) (at : ℕ) (end : length b ≤ at) where
-  none-left : {A : Type 0} (f : Element → List A) → each f (left 1 0 b at) ≡ []
+  pub none-left : {A : Type 0} (f : Element → List A) → each f (left 1 0 b at) ≡ []
   none-left f = each-end f 1 (omega arith) 0 b at end
 
   pub how-end : (n : ℕ) (h : How) → h ≡ stronger h (howAmong n (each srlgAdvertisements (left 1 0 b at)))

@@ -39,7 +39,7 @@ fn passes(which: Which, standard: &[u8], user: &[u8]) -> bool
 }
 
 // The masks of what follows the neighbour bytes and has the header h.
-fn standard_mask(v: &[u8], h: Header) -> &[u8]
+pub fn standard_mask(v: &[u8], h: Header) -> &[u8]
     requires { ⌜ (h ≡ headerOf (now v)) × (headerLength (now v) ≤ length (now v)) ⌝ }
     ensures { λ r. ⌜ now r ≡ take (sabmLength (now (v .entry))) (drop 2 (now (v .entry))) ⌝ }
 {
@@ -47,7 +47,7 @@ fn standard_mask(v: &[u8], h: Header) -> &[u8]
     &v[2..end]
 }
 
-fn user_mask(v: &[u8], h: Header) -> &[u8]
+pub fn user_mask(v: &[u8], h: Header) -> &[u8]
     requires { ⌜ (h ≡ headerOf (now v)) × (headerLength (now v) ≤ length (now v)) ⌝ }
     ensures { λ r. ⌜ now r ≡ take (udabmLength (now (v .entry))) (drop (2 + sabmLength (now (v .entry))) (now (v .entry))) ⌝ }
 {

@@ -2,3 +2,5 @@ pub mod Computing
 pub mod Vectors
 pub mod ElementLaws
 pub mod WalkLaws
+pub mod ListLaws
+pub mod MaskLaws

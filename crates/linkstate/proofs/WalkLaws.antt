@@ -12,7 +12,7 @@ use lib.ListN.{length, take, drop, getD, length-drop, drop-of-length-le}
 use lib.Seq.{drop-drop, drop-cons}
 use Rattle.linkstate.specs.Lists.{each}
 use Rattle.linkstate.specs.Bytes.{number, numberFrom, bytesAt}
-use Rattle.linkstate.specs.Replies.{Run, Verdict, accepted, refused, Refusal, fault, _then_}
+use Rattle.linkstate.specs.Replies.{Run, Verdict, accepted, refused, Refusal, fault, _then_, refusedIf, faultOfCall}
 use Rattle.linkstate.specs.Elements.{Element, element, cut, typeOf, lengthOf, sizeOf, elements, faults}
 use Rattle.linkstate.proofs.ElementLaws.{none-left, first-cut, first-whole}
 
@@ -100,6 +100,12 @@ then-second (refused r) w e = absurd (let z : _≡_ {A = ℕ} 0 1 = cc in omega 
 pub not-accepted : (n : ℕ) (run : Run) (o : ℕ) → fault n run o ≡ accepted → ⊥
 unfolding fault
 not-accepted n run o e = let z : _≡_ {A = ℕ} 0 1 = cc in omega arith
+
+-- A test that leads to a refusal did not hold.
+pub unrefused : (b : Bool) (n : ℕ) → refusedIf b n ≡ accepted → b ≡ false
+unfolding refusedIf faultOfCall fault
+unrefused true n e = absurd (let z : _≡_ {A = ℕ} 0 1 = cc in omega arith)
+unrefused false n e = refl
 
 module _ (run : Run) (check : ℕ → ℕ → List ℕ → Verdict) (w : ℕ) (p : 0 < w) (base : ℕ) (s : List ℕ) (at : ℕ) where
   pub faults-end : length s ≤ at → faults run check (left w base s at) ≡ accepted

@@ -16,6 +16,8 @@ use lib.ListN.{length, getD, length-map, List·getD-eq-default}
 use lib.Seq.{ext-getD}
 use Rattle.linkstate.specs.Lists.{keep, numbers}
 use Rattle.linkstate.specs.Masks.{bit, one, powersBelow, asNumber, inNumber, Last, none, last, lastBelow, bytesToHold, maskSize, maskByte, mask}
+use Rattle.linkstate.proofs.ListLaws.{getD-numbers}
+use Rattle.linkstate.proofs.MaskLaws.{one-le, ones, bit-byte, length-mask, bit-mask, powers-same, number-same}
 use Rattle.masks.specs.Sets.{IsNext}
 
 -- what holds of each number below k, and of k, holds of each below suc k
@@ -27,11 +29,6 @@ below-suc P k all here n h = go (ltb n k) refl
     go false e = let f : k ≡ n = omega (arith, ltb-false n k e) in rw f at here
 
 -- ---- a truth as a digit
-
-one-le : (b : Bool) → one b ≤ 1
-unfolding one
-one-le true = omega arith
-one-le false = omega arith
 
 one-is : (b : Bool) → eqb (one b % 2) 1 ≡ b
 unfolding one
@@ -77,11 +74,6 @@ powers-in (suc k) p n h =
     (λ i l. ap (λ (j : ℕ). eqb j 1) (low-digit x d i k l) ∙ powers-in k p i l)
     (ap (λ (j : ℕ). eqb (j % 2) 1) (top-digit x k d (powers-lt k p)) ∙ one-is (p k)) n h
 
-powers-same : (k : ℕ) (p q : ℕ → Bool) → ((n : ℕ) → n < k → p n ≡ q n) → powersBelow k p ≡ powersBelow k q
-unfolding powersBelow
-powers-same zero p q h = refl
-powers-same (suc k) p q h = cc (powers-same k p q (λ n l. h n (omega arith)), h k (omega arith))
-
 powers-of : (k m : ℕ) → powersBelow k (inNumber m) ≡ m % 2 ^ k
 unfolding powersBelow inNumber
 powers-of zero m = omega arith
@@ -98,10 +90,6 @@ module _ (p : ℕ → Bool) where
   pub number-lt : asNumber p < 2 ^ 64
   unfolding asNumber
   number-lt = powers-lt 64 p
-
-pub number-same : (p q : ℕ → Bool) → ((n : ℕ) → n < 64 → p n ≡ q n) → asNumber p ≡ asNumber q
-unfolding asNumber
-number-same p q h = powers-same 64 p q h
 
 pub number-of : (m : ℕ) → m < 2 ^ 64 → asNumber (inNumber m) ≡ m
 unfolding asNumber
@@ -235,75 +223,29 @@ size-same p q h = ap bytesToHold (last-same 64 p q h)
 
 -- a test's eight digits as a byte
 module _ (p : ℕ → Bool) (n : ℕ) where
-  ones : (one (p n) ≤ 1) × (one (p (n + 1)) ≤ 1) × (one (p (n + 2)) ≤ 1) × (one (p (n + 3)) ≤ 1) × (one (p (n + 4)) ≤ 1) × (one (p (n + 5)) ≤ 1) × (one (p (n + 6)) ≤ 1) × (one (p (n + 7)) ≤ 1)
-  ones = (one-le (p n), one-le (p (n + 1)), one-le (p (n + 2)), one-le (p (n + 3)), one-le (p (n + 4)), one-le (p (n + 5)), one-le (p (n + 6)), one-le (p (n + 7)))
-
   byte-lt : maskByte p n < 256
   unfolding maskByte
-  byte-lt = omega (arith, ones)
+  byte-lt = omega (arith, ones p n)
 
-  digit-is : (d i : ℕ) → maskByte p n / d % 2 ≡ one (p i) → eqb (maskByte p n / d % 2) 1 ≡ p i
-  digit-is d i e = let l = one-le (p i) in let m : maskByte p n / d % 2 ≡ one (p i) % 2 = omega arith in ap (λ (x : ℕ). eqb x 1) m ∙ one-is (p i)
-
-  -- from the top, the digits are the test at n, n + 1, ..
-  byte-digit : (j : ℕ) → j < 8 → eqb (maskByte p n / 2 ^ (7 - j) % 2) 1 ≡ p (n + j)
-  unfolding maskByte
-  byte-digit zero h = digit-is 128 n (omega (arith, ones)) ∙ ap p (omega arith)
-  byte-digit (suc zero) h = digit-is 64 (n + 1) (omega (arith, ones))
-  byte-digit (suc (suc zero)) h = digit-is 32 (n + 2) (omega (arith, ones))
-  byte-digit (suc (suc (suc zero))) h = digit-is 16 (n + 3) (omega (arith, ones))
-  byte-digit (suc (suc (suc (suc zero)))) h = digit-is 8 (n + 4) (omega (arith, ones))
-  byte-digit (suc (suc (suc (suc (suc zero))))) h = digit-is 4 (n + 5) (omega (arith, ones))
-  byte-digit (suc (suc (suc (suc (suc (suc zero)))))) h = digit-is 2 (n + 6) (omega (arith, ones))
-  byte-digit (suc (suc (suc (suc (suc (suc (suc zero))))))) h = digit-is 1 (n + 7) (omega (arith, ones))
-  byte-digit (suc (suc (suc (suc (suc (suc (suc (suc j)))))))) h = absurd (omega arith)
-
-  -- and from the bottom, those at n + 7, n + 6, ..
+  -- from the bottom, the digits are the test at n + 7, n + 6, ..
   byte-in : (j : ℕ) → j < 8 → inNumber (maskByte p n) j ≡ p (n + (7 - j))
   unfolding inNumber
-  byte-in j h = let e : 7 - (7 - j) ≡ j = omega arith in rw e at (byte-digit (7 - j) (omega arith))
+  byte-in j h = let e : 7 - (7 - j) ≡ j = omega arith in rw e at (bit-byte p n (7 - j) (omega arith))
 
   pub byte-is : (x : ℕ) → x < 256 → ((j : ℕ) → j < 8 → inNumber x j ≡ p (n + (7 - j))) → x ≡ maskByte p n
   byte-is x h e = same-members 8 x (maskByte p n) h byte-lt (λ j l. e j l ∙ sym (byte-in j l))
-
-length-numbers : (n from : ℕ) → length (numbers from n) ≡ n
-unfolding numbers
-length-numbers zero from = refl
-length-numbers (suc n) from = ap suc (length-numbers n (suc from))
-
-getD-numbers : (f : ℕ → ℕ) (n from i : ℕ) → i < n → getD (map f (numbers from n)) i 0 ≡ f (from + i)
-unfolding numbers
-getD-numbers f zero from i h = absurd (omega arith)
-getD-numbers f (suc n) from zero h = ap f (omega arith)
-getD-numbers f (suc n) from (suc i) h = getD-numbers f n (suc from) i (omega arith) ∙ ap f (omega arith)
 
 pub bit-beyond : (s : List ℕ) (n : ℕ) → 8 * length s ≤ n → bit s n ≡ false
 unfolding bit
 bit-beyond s n h = rw (List·getD-eq-default s 0 {n = n / 8} (omega arith), zero-div)
 
 module _ (p : ℕ → Bool) where
-  pub length-mask : length (mask p) ≡ maskSize p
-  unfolding mask
-  length-mask = length-map (numbers 0 (maskSize p)) (λ i. maskByte p (8 * i)) ∙ length-numbers (maskSize p) 0
-
   pub mask-at : (i : ℕ) → i < maskSize p → getD (mask p) i 0 ≡ maskByte p (8 * i)
   unfolding mask
   mask-at i h = getD-numbers (λ j. maskByte p (8 * j)) (maskSize p) 0 i h ∙ ap (λ (j : ℕ). maskByte p (8 * j)) (omega arith)
 
   pub bit-above : (n : ℕ) → 64 ≤ n → bit (mask p) n ≡ false
-  bit-above n h = bit-beyond (mask p) n (omega (arith, length-mask, size-le p))
-
-  -- a written mask reads back
-  pub bit-mask : (n : ℕ) → n < 64 → bit (mask p) n ≡ p n
-  unfolding bit
-  bit-mask n h = go (ltb (n / 8) (maskSize p)) refl (p n) refl
-    where
-      go : (b : Bool) → ltb (n / 8) (maskSize p) ≡ b → (c : Bool) → p n ≡ c → bit (mask p) n ≡ p n
-      go true e c d =
-          ap (λ (x : ℕ). eqb (x / 2 ^ (7 - n % 8) % 2) 1) (mask-at (n / 8) (ltb-true (n / 8) (maskSize p) e))
-          ∙ byte-digit p (8 * (n / 8)) (n % 8) (omega arith) ∙ ap p (omega arith)
-      go false e true d = absurd (omega (arith, size-holds p n h d, ltb-false (n / 8) (maskSize p) e))
-      go false e false d = bit-beyond (mask p) n (omega (arith, length-mask, ltb-false (n / 8) (maskSize p) e)) ∙ sym d
+  bit-above n h = bit-beyond (mask p) n (omega (arith, length-mask p, size-le p))
 
 pub mask-same : (p q : ℕ → Bool) → ((n : ℕ) → n < 64 → p n ≡ q n) → mask p ≡ mask q
 mask-same p q h =

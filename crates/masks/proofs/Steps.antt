@@ -17,7 +17,8 @@ use lib.Seq.{drop-cons, drop-length, getD-drop, paste, paste-suc, take-all, take
 use Rattle.linkstate.specs.Lists.{put}
 use Rattle.linkstate.specs.Masks.{bit, one, asNumber, inNumber, last, lastBelow, bytesToHold, maskSize, maskByte, mask}
 use Rattle.masks.specs.Sets.{IsNext, littleEndian, turnedPlace, exchanged}
-use Rattle.masks.proofs.Laws.{below-suc, low-digit, digit-one, is-number, last-is, none-is, byte-is, length-mask, mask-at, size-le}
+use Rattle.masks.proofs.Laws.{below-suc, low-digit, digit-one, is-number, last-is, none-is, byte-is, mask-at, size-le}
+use Rattle.linkstate.proofs.MaskLaws.{length-mask}
 
 -- ---- a test at each number below k, computed
 

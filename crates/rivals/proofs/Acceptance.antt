@@ -17,7 +17,7 @@ use Rattle.linkstate.specs.Questions.{Subject, generally, Source, numberTooHigh
 use Rattle.linkstate.specs.Meaning.{Accepted}
 use Rattle.linkstate.specs.BgpLs.{notIgnored, aslaHeader, innerElements, checkInner, checkAsla, checkTop, runVerdict, runSource}
 use Rattle.linkstate.proofs.Computing.{computing}
-use Rattle.rivals.proofs.ListLaws.{all-mem, member-mem}
+use Rattle.linkstate.proofs.ListLaws.{all-mem, member-mem}
 
 -- ---- the numbers that a verdict may refuse by
 

@@ -14,10 +14,10 @@ use Rattle.linkstate.specs.Masks.{user, others, maskSize}
 use Rattle.linkstate.specs.Meaning.{Meaning, row}
 use Rattle.linkstate.specs.Export.{tlv, present, topValue, aslaValue, generalValues, leader, inGroup, leaders, groupValue, aslaValues, tlvs, export}
 use Rattle.linkstate.specs.WellFormed.{Values, WellFormed}
-use Rattle.rivals.proofs.ListLaws.{and-l, keep-mem, map-mem, length-numbers}
+use Rattle.linkstate.proofs.ListLaws.{and-l, keep-mem, map-mem, length-numbers}
 use Rattle.rivals.proofs.Sums.{sumOf, sumOf-one, sumOf-most}
 use Rattle.rivals.proofs.Sizes.{cost, costs, size, length-bytes, size-present}
-use Rattle.rivals.proofs.MaskLaws.{mask-small, no-bits}
+use Rattle.linkstate.proofs.MaskLaws.{mask-small, no-bits}
 use Rattle.rivals.proofs.ExportSize.{asla-size, generalCost, groupCost, length-export}
 
 -- ---- any meaning

@@ -3,13 +3,13 @@
 use mathlib.Core.Path.{_≡_, refl, sym, ap₂, _∙_}
 use mathlib.Core.Bool.{Bool, true, false, cond, false≢true}
 use mathlib.Core.List.{List}
-use Prim.Native.Nat.{ℕ, zero, suc, _<_}
+use Prim.Native.Nat.{ℕ, _<_}
 use native.Mathlib.Omega.{arith}
 use borrow.Author.Tests.{eqb-true, le-ltb}
 use lib.Dec.{eqb}
 use Rattle.linkstate.specs.Lists.{member}
 use Rattle.linkstate.specs.Kinds.{applicationCodes, linkCodes, isCode, isLinkCode}
-use Rattle.linkstate.specs.Masks.{user, others, powersBelow, asNumber}
+use Rattle.linkstate.specs.Masks.{user, others, asNumber}
 use Rattle.linkstate.specs.Replies.{accepted, unless, listed}
 use Rattle.linkstate.specs.Questions.{Subject, generally, standardNo, userNo, numberTooHigh, listNamed}
 use Rattle.linkstate.specs.Meaning.{Meaning, meaning, row, Same}
@@ -17,8 +17,9 @@ use Rattle.linkstate.specs.BgpLs.{runSource}
 use Rattle.linkstate.specs.Export.{export}
 use Rattle.linkstate.specs.WellFormed.{WellFormed}
 use Rattle.linkstate.proofs.Computing.{computing}
+use Rattle.linkstate.proofs.MaskLaws.{number-same}
 use Rattle.rivals.specs.Reads.{applicationMeant, setMeant, meant, Reads}
-use Rattle.rivals.proofs.ListLaws.{map-at}
+use Rattle.linkstate.proofs.ListLaws.{map-at}
 use Rattle.rivals.proofs.KindLaws.{standard-other, user-other, code-mem, link-mem, application-mem}
 use Rattle.rivals.proofs.RoundTrip.{export-is-rival}
 use Rattle.rivals.proofs.Reader.{run-reads}
@@ -55,15 +56,6 @@ module _ (m n : Meaning) (same : Same m n) (k : ℕ) (c : isCode k ≡ true) whe
       go : (b : Bool) → isLinkCode k ≡ b → cond b (m .bandwidth k) (setMeant m whom k) ≡ cond b (n .bandwidth k) (setMeant n whom k)
       go true e = map-at (m .bandwidth) (n .bandwidth) linkCodes (same .bandwidth) (link-mem (code-mem k c) e)
       go false e = same-set e whom h
-
-powers-same : (k : ℕ) (p q : ℕ → Bool) → ((n : ℕ) → n < k → p n ≡ q n) → powersBelow k p ≡ powersBelow k q
-unfolding powersBelow
-powers-same zero p q h = refl
-powers-same (suc k) p q h = cc (powers-same k p q (λ n l. h n (omega arith)), h k (omega arith))
-
-number-same : (p q : ℕ → Bool) → ((n : ℕ) → n < 64 → p n ≡ q n) → asNumber p ≡ asNumber q
-unfolding asNumber
-number-same p q h = powers-same 64 p q h
 
 rsvpTe-apart : member 0 others ≡ false
 unfolding computing

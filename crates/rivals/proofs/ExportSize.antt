@@ -12,7 +12,7 @@ use Rattle.linkstate.specs.Meaning.{Meaning, row}
 use Rattle.linkstate.specs.Export.{tlv, bytesOf, present, topValue, aslaValue, generalValues, inGroup, leaders, groupValue, aslaValues, tlvs, export}
 use Rattle.rivals.proofs.Sums.{sumOf, sumOf-append, sumOf-map, sumOf-keep, sumIf-cond}
 use Rattle.rivals.proofs.Sizes.{costs, size, length-bytes, size-present, cost}
-use Rattle.rivals.proofs.MaskLaws.{length-mask, no-bits}
+use Rattle.linkstate.proofs.MaskLaws.{length-mask, no-bits}
 use Rattle.rivals.proofs.KindLaws.{lowCodes, highCodes, low-high}
 
 -- An ASLA's weight: eight fixed bytes, the masks, the set.

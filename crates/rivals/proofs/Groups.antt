@@ -12,7 +12,7 @@ use Rattle.linkstate.specs.Masks.{others}
 use Rattle.linkstate.specs.Meaning.{Meaning, row}
 use Rattle.linkstate.specs.Export.{leader, inGroup, leaders, aslaValue, generalValues, groupValue, aslaValues}
 use Rattle.linkstate.specs.WellFormed.{Values, WellFormed}
-use Rattle.rivals.proofs.ListLaws.{and-l, and-r, mem-any, first-mem, keep-mem, keep-no, keep-number, map-mem, member-mem, mem-member, rows-refl, rows-eq, different}
+use Rattle.linkstate.proofs.ListLaws.{and-l, and-r, mem-any, first-mem, keep-mem, keep-no, keep-number, map-mem, member-mem, mem-member, rows-refl, rows-eq, different}
 use Rattle.rivals.proofs.KindLaws.{others-different}
 
 -- The leader depends on the set's values only.

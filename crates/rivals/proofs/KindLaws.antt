@@ -12,7 +12,7 @@ use Rattle.linkstate.specs.Masks.{user, others}
 use Rattle.linkstate.specs.Meaning.{Meaning, row}
 use Rattle.linkstate.specs.Export.{topValue}
 use Rattle.linkstate.proofs.Computing.{computing}
-use Rattle.rivals.proofs.ListLaws.{and-l, and-r, all-mem, any-no, any-mem, mem-any, mem-map, keep-mem, map-at, map-ext, member-mem, mem-member, mem-numbers, different}
+use Rattle.linkstate.proofs.ListLaws.{and-l, and-r, all-mem, any-no, any-mem, mem-any, mem-map, keep-mem, map-at, map-ext, member-mem, mem-member, mem-numbers, different}
 
 -- ---- computed
 

@@ -18,7 +18,7 @@ use Rattle.linkstate.specs.Sides.{Advertisement}
 use Rattle.linkstate.specs.BgpLs.{sabmLength, udabmLength, notIgnored, aslaHeader, innerElements, attributesOf, advertisement, advertisementsOf}
 use Rattle.linkstate.specs.Export.{Tlv, tlv, bytesOf, present}
 use Rattle.linkstate.proofs.ElementLaws.{none-left, first-whole, moved, elements-moved}
-use Rattle.rivals.proofs.ListLaws.{and-l, and-r, keep-map, different}
+use Rattle.linkstate.proofs.ListLaws.{and-l, and-r, keep-map, different}
 
 -- ---- elements
 

@@ -22,7 +22,7 @@ use Rattle.linkstate.specs.Meaning.{meaning, Accepted}
 use Rattle.linkstate.specs.BgpLs.{aslaHeader, innerElements, checkInner, checkTop, advertisement, attributesOf, aslas, topLevel, runSide, runSource}
 use Rattle.linkstate.proofs.ElementLaws.{at-place, rest-place}
 use Rattle.rivals.specs.Reads.{applicationMeant, setMeant, meant, Tells, tellsAbsent, tellsReading, tellsSrlgs, tellsTooMany, Reads}
-use Rattle.rivals.proofs.ListLaws.{keep-mem, each-mem}
+use Rattle.linkstate.proofs.ListLaws.{keep-mem, each-mem}
 use Rattle.rivals.proofs.Sizes.{not-refused}
 use Rattle.rivals.proofs.SrlgLaws.{distinct-twice}
 use Rattle.rivals.proofs.KindLaws.{standard-other, user-other, code-mem, not-asla, top-bytes, inside-bytes}

@@ -22,8 +22,8 @@ use Rattle.linkstate.specs.BgpLs.{sabmLength, udabmLength, aslaHeader, notIgnor
 use Rattle.linkstate.specs.Export.{Tlv, tlv, bytesOf, present, topValue, aslaValue, generalValues, leader, inGroup, leaders, groupValue, aslaValues, tlvs, export}
 use Rattle.linkstate.specs.Rival.{IsRival}
 use Rattle.linkstate.specs.WellFormed.{Values, WellFormed}
-use Rattle.rivals.proofs.ListLaws.{and-r, absorb, all-mem, keep-append, keep-ext, keep-keep, keep-map, keep-no, any-keep, count-keep, empty-nil, map-ext, map-mem, mem-map, map-append, each-append, keep-mem, member-mem, mem-member, numbers-mem, different}
-use Rattle.rivals.proofs.MaskLaws.{length-mask, size-is-length, no-bits, bit-mask}
+use Rattle.linkstate.proofs.ListLaws.{and-r, absorb, all-mem, keep-append, keep-ext, keep-keep, keep-map, keep-no, any-keep, count-keep, empty-nil, map-ext, map-mem, mem-map, map-append, each-append, keep-mem, member-mem, mem-member, numbers-mem, different}
+use Rattle.linkstate.proofs.MaskLaws.{length-mask, size-is-length, no-bits, bit-mask}
 use Rattle.rivals.proofs.KindLaws.{codes-different, application-codes-different, lowCodes, highCodes, low-high, not-asla, low-code, high-code, right-inside, bandwidths-of, rsvpTe-of}
 use Rattle.rivals.proofs.RunLaws.{named-set}
 use Rattle.rivals.proofs.Groups.{leader-facts, leads-itself, one-group, asla-is}

@@ -18,15 +18,16 @@ use Rattle.linkstate.specs.Sides.{Advertisement, names, named, namedWithL, ofLi
 use Rattle.linkstate.specs.Meaning.{Accepted}
 use Rattle.linkstate.specs.BgpLs.{sabmLength, udabmLength, aslaHeader, isMaskLength, notIgnored, innerElements, checkInner, checkAsla, checkTop, runVerdict, attributesOf, advertisement, advertisementsOf, aslas, runSide, runSource}
 use Rattle.linkstate.specs.Kinds.{wrongAtTop}
-use Rattle.rivals.proofs.ListLaws.{and-l, and-r, eqb-sym, any-no, each-mem}
+use Rattle.linkstate.proofs.ListLaws.{and-l, and-r, eqb-sym, any-no, each-mem}
+use Rattle.linkstate.proofs.WalkLaws.{then-first, then-second}
 use Rattle.rivals.proofs.Sums.{sumOf, sumIf}
-use Rattle.rivals.proofs.Sizes.{then-l, then-r, not-refused, weight, whole}
+use Rattle.rivals.proofs.Sizes.{not-refused, weight, whole}
 
 -- ---- elements that pass their checks
 
 pub accepted-faults : (r : List ℕ) → Accepted (runSource r) → faults runBgpLs checkTop (elements 2 0 r) ≡ accepted
 unfolding runSource runVerdict
-accepted-faults r h = then-r (refusedIf (ltb 524288 (length r)) 1) (faults runBgpLs checkTop (elements 2 0 r)) h
+accepted-faults r h = then-second (refusedIf (ltb 524288 (length r)) 1) (faults runBgpLs checkTop (elements 2 0 r)) h
 
 pub faults-mem : (run : Run) (check : ℕ → ℕ → List ℕ → Verdict) (es : List Element) → faults run check es ≡ accepted
     → {at t : ℕ} {v : List ℕ} → List·Memᴰ (element at t v) es → check at t v ≡ accepted
@@ -34,14 +35,14 @@ unfolding faults fault
 faults-mem run check [] h i = elim i [ ]
 faults-mem run check (cut o ∷ es) h i = not-refused _ h
 faults-mem run check (element o u x ∷ es) h {at} {t} {v} i =
-    go (List·Memᴰ·cases-cons i) (λ k. faults-mem run check es (then-r (check o u x) (faults run check es) h) k)
+    go (List·Memᴰ·cases-cons i) (λ k. faults-mem run check es (then-second (check o u x) (faults run check es) h) k)
   where
     go : (element at t v ≡ element o u x) ⊎ List·Memᴰ (element at t v) es → (List·Memᴰ (element at t v) es → check at t v ≡ accepted) → check at t v ≡ accepted
     go (inl e) f =
         let a : at ≡ o = cc in
         let b : t ≡ u = cc in
         let c : v ≡ x = cc in
-        rw (a, b, c) (then-l (check o u x) (faults run check es) h)
+        rw (a, b, c) (then-first (check o u x) (faults run check es) h)
     go (inr k) f = f k
 
 -- ---- attributes and advertisements, by their elements
@@ -122,7 +123,7 @@ aslas-weight [] h = zero-le
 aslas-weight (cut at ∷ es) h = not-refused _ h
 aslas-weight (element at t v ∷ es) h =
     rw (eqb-sym 1122 t)
-    (go (eqb t 1122) (notIgnored v) refl (then-l (checkTop at t v) (faults runBgpLs checkTop es) h) (aslas-weight es (then-r (checkTop at t v) (faults runBgpLs checkTop es) h)))
+    (go (eqb t 1122) (notIgnored v) refl (then-first (checkTop at t v) (faults runBgpLs checkTop es) h) (aslas-weight es (then-second (checkTop at t v) (faults runBgpLs checkTop es) h)))
   where
     others : ℕ
     others = sumIf (λ t. eqb 1122 (t .code)) weight (each attributesOf es)

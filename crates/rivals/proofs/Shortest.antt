@@ -23,10 +23,10 @@ use Rattle.linkstate.specs.Export.{topValue, leader, inGroup, export}
 use Rattle.linkstate.specs.Rival.{IsRival}
 use Rattle.linkstate.specs.WellFormed.{WellFormed}
 use Rattle.linkstate.proofs.Computing.{computing}
-use Rattle.rivals.proofs.ListLaws.{and-l, and-r, and-false, mem-any, mem-keep, keep-one, first-mem, member-mem, mem-member}
+use Rattle.linkstate.proofs.ListLaws.{and-l, and-r, and-false, mem-any, mem-keep, keep-one, first-mem, member-mem, mem-member}
 use Rattle.rivals.proofs.Sums.{sumOf, sumIf, sumOf-le, sumOf-each, sumOf-map, sumOf-keep, sumIf-add, sumIf-one, sumIf-mono, parts}
 use Rattle.rivals.proofs.Sizes.{weight, whole, cost, costs, value-cost, set-cost}
-use Rattle.rivals.proofs.MaskLaws.{bit-length, mask-least}
+use Rattle.linkstate.proofs.MaskLaws.{bit-length, mask-least}
 use Rattle.rivals.proofs.KindLaws.{codes-different, application-codes-different, others-different, top-of}
 use Rattle.rivals.proofs.RunLaws.{accepted-faults, aslaWeight, aslas-weight, masks-fit, named-set}
 use Rattle.rivals.proofs.Groups.{leader-row}

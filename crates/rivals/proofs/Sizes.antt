@@ -17,20 +17,11 @@ use Rattle.linkstate.specs.Attributes.{Attribute, attribute, ofKind, srlgs, fir
 use Rattle.linkstate.specs.BgpLs.{attributesOf}
 use Rattle.linkstate.specs.Export.{Tlv, tlv, bytesOf, present}
 use Rattle.linkstate.proofs.ElementLaws.{Framed, done, short, step, framed, value-length}
-use Rattle.rivals.proofs.ListLaws.{different}
+use Rattle.linkstate.proofs.ListLaws.{different}
+use Rattle.linkstate.proofs.WalkLaws.{then-second}
 use Rattle.rivals.proofs.Sums.{sumOf, sumIf, sumOf-le, sumOf-keep, parts}
 
 -- ---- checks in turn
-
-pub then-l : (u w : Verdict) → u then w ≡ accepted → u ≡ accepted
-unfolding _then_
-then-l accepted w h = refl
-then-l (refused x) w h = h
-
-pub then-r : (u w : Verdict) → u then w ≡ accepted → w ≡ accepted
-unfolding _then_
-then-r accepted w h = h
-then-r (refused x) w h = cc
 
 pub not-refused : {A : Type 0} (x : Refusal) → refused x ≡ accepted → A
 not-refused x h = let z : _≡_ {A = ℕ} 0 1 = cc in absurd (omega arith)
@@ -47,7 +38,7 @@ unfolding faults fault attributesOf attribute each sumOf weight sizeOf
 whole-in done run check h = refl
 whole-in (short l) run check h = not-refused _ h
 whole-in (step {at = at} {s = s} {es = es} l f) run check h =
-    omega (arith, whole-in f run check (then-r (check at _ _) (faults run check es) h), value-length 2 s l, length-drop (sizeOf 2 s) s)
+    omega (arith, whole-in f run check (then-second (check at _ _) (faults run check es) h), value-length 2 s l, length-drop (sizeOf 2 s) s)
 
 -- The elements that pass their checks are the whole list.
 pub whole : (run : Run) (check : ℕ → ℕ → List ℕ → Verdict) (at : ℕ) (s : List ℕ)

@@ -10,7 +10,7 @@ use borrow.Author.Tests.{eqb-true, not-true}
 use lib.Dec.{eqb}
 use lib.ListN.{length}
 use Rattle.linkstate.specs.Lists.{keep, each, member}
-use Rattle.rivals.proofs.ListLaws.{and-l, and-r, or-l, or-r, eqb-sym, different}
+use Rattle.linkstate.proofs.ListLaws.{and-l, and-r, or-l, or-r, eqb-sym, different}
 
 module _ {A : Type 0} where
   unfoldable pub sumOf : (A → ℕ) → List A → ℕ

@@ -17,7 +17,7 @@ use Rattle.isis.specs.RunB.{sideB}
 use Rattle.isis.specs.Link.{sideOf, linkSource}
 use Rattle.rivals.specs.Reads.{applicationMeant, setMeant, meant}
 use Rattle.rivals.proofs.KindLaws.{standard-other, user-other}
-use Rattle.rivals.proofs.ListLaws.{or-l, or-r}
+use Rattle.linkstate.proofs.ListLaws.{or-l, or-r}
 use Rattle.rivals.proofs.Reader.{meant-given}
 use Rattle.rivals.proofs.ExportRead.{same-meant}
 use Rattle.demands.specs.Demands.{meaningOf, exportOf}

@@ -64,7 +64,7 @@ module _ (a : List ℕ) (x y : List ℕ) (c : ℕ) where
 
 -- ---- grids
 
-ten : length gridCodes ≡ 10
+pub ten : length gridCodes ≡ 10
 unfolding computing
 ten = refl
 
@@ -82,7 +82,7 @@ row-of (suc (suc (suc (suc (suc (suc (suc (suc zero)))))))) h = refl
 row-of (suc (suc (suc (suc (suc (suc (suc (suc (suc zero))))))))) h = refl
 row-of (suc (suc (suc (suc (suc (suc (suc (suc (suc (suc k)))))))))) h = absurd (omega arith)
 
-grid-at : (a : List ℕ) (g : List (List ℕ)) (k : ℕ) → k < 10 → gridValue a g (getD gridCodes k 0) ≡ rowValue a (getD gridCodes k 0) (getD g k [])
+pub grid-at : (a : List ℕ) (g : List (List ℕ)) (k : ℕ) → k < 10 → gridValue a g (getD gridCodes k 0) ≡ rowValue a (getD gridCodes k 0) (getD g k [])
 unfolding gridValue
 grid-at a g k h = ap (λ (j : ℕ). rowValue a (getD gridCodes k 0) (getD g j [])) (row-of k h)
 
@@ -127,7 +127,7 @@ third-first false q true t = refl
 third-first false q false t = refl
 
 module _ (a : List ℕ) (g h : List (List ℕ)) (xs ys : List ℕ) where
-  sets-are : sameRows (row (setOf a g xs)) (row (setOf a h ys)) ≡ sameBytes (bytesOfWords xs) (bytesOfWords ys) && sameRows (map (gridValue a g) gridCodes) (map (gridValue a h) gridCodes)
+  pub sets-are : sameRows (row (setOf a g xs)) (row (setOf a h ys)) ≡ sameBytes (bytesOfWords xs) (bytesOfWords ys) && sameRows (map (gridValue a g) gridCodes) (map (gridValue a h) gridCodes)
   unfolding row setOf gridValue applicationCodes gridCodes computing
   sets-are = third-first (sameBytes (gridValue a g 1088) (gridValue a h 1088)) (sameBytes (gridValue a g 1092) (gridValue a h 1092)) (sameBytes (bytesOfWords xs) (bytesOfWords ys)) _
 

@@ -1,2 +1,2 @@
 -- Laws of this crate's functions.
-mod Laws
+pub mod Laws

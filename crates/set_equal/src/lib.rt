@@ -1,28 +1,16 @@
 // Whether two sets of one link are the same: equal value bytes of every kind, and the same SRLGs.
 ghost use mathlib.Core.Path.{_≡_};
-ghost use mathlib.Core.List.{map};
-ghost use Prim.Native.Nat.{ℕ};
+ghost use mathlib.Core.Bool.{true};
+ghost use mathlib.Core.List.{List, map};
+ghost use Prim.Native.Nat.{ℕ, _≤_};
+ghost use lib.ListN.{length};
 ghost use Rattle.linkstate.specs.Lists.{sameBytes, sameRows};
 ghost use Rattle.linkstate.specs.Meaning.{row};
 ghost use Rattle.kinds.specs.Rules.{gridCodes};
+ghost use Rattle.srlg.specs.Ascending.{ascending};
+ghost use Rattle.srlg_ranks.specs.Ranks.{picked, Within};
 ghost use Rattle.set_bytes.specs.Sets.{rowValue, setOf, RowFits, Fits};
 ghost use Rattle.set_equal.specs.Grids.{gridValue};
-
-// Whether two lists of numbers are equal. The loop has no early return, so it compiles to compares of many numbers at a time.
-fn same_numbers(x: &[u32], y: &[u32]) -> bool
-    ensures { λ r. ⌜ r ≡ sameBytes (now (x .entry)) (now (y .entry)) ⌝ }
-{
-    if x.len() != y.len() {
-        return false;
-    }
-    let mut equal = true;
-    for i in 0..x.len() {
-        if x[i] != y[i] {
-            equal = false;
-        }
-    }
-    equal
-}
 
 // Whether two rows of one kind are absent both, or stand for the same bytes. One place of the run is equal to itself without a look at its bytes.
 fn same_row(a: &[u8], x: [usize; 2], y: [usize; 2]) -> bool
@@ -60,12 +48,18 @@ fn same_grids(a: &[u8], g: [[usize; 2]; 10], h: [[usize; 2]; 10]) -> bool
     true
 }
 
-// Whether two sets are the same.
-pub fn same_sets(a: &[u8], g: [[usize; 2]; 10], h: [[usize; 2]; 10], xs: &[u32], ys: &[u32]) -> bool
+// Whether two sets are the same, whose SRLGs are bits over one list.
+pub fn same_sets(
+    a: &[u8],
+    g: [[usize; 2]; 10],
+    h: [[usize; 2]; 10],
+    x: [u64; 12],
+    y: [u64; 12],
+) -> bool
     requires { ⌜ Fits (now a) g × Fits (now a) h ⌝ }
-    ensures { λ r. ⌜ r ≡ sameRows (row (setOf (now (a .entry)) g (now (xs .entry)))) (row (setOf (now (a .entry)) h (now (ys .entry)))) ⌝ }
+    ensures { λ r. ⌜ ((values : List ℕ) → ascending values ≡ true → length values ≤ 768 → Within values x → Within values y → r ≡ sameRows (row (setOf (now (a .entry)) g (picked values x))) (row (setOf (now (a .entry)) h (picked values y)))) ⌝ }
 {
-    if !same_numbers(xs, ys) {
+    if !srlg_ranks::same_bits(x, y) {
         return false;
     }
     same_grids(a, g, h)

@@ -1,45 +1,52 @@
--- A table of the sets of named applications: whose they are, a grid over run A for each, and for each a span, start and count, in one list of SRLGs.
+-- The table of groups: for each a grid over run A, bits over a list of SRLGs, and a head of four numbers, which are its standard members, its user members, how many SRLGs it has, and its mark.
 use mathlib.Core.Path.{_≡_}
-use mathlib.Core.Bool.{cond}
-use mathlib.Core.List.{List, []}
-use Prim.Native.Nat.{ℕ, _+_, _≤_, _<_}
+use mathlib.Core.Bool.{true, false, _||_}
+use mathlib.Core.List.{List, [], _∷_, map}
+use Prim.Native.Nat.{ℕ, suc, _≤_, _<_}
+use lib.Dec.{eqb}
 use lib.ListN.{length, getD}
-use Rattle.linkstate.specs.Bytes.{bytesAt}
-use Rattle.linkstate.specs.Meaning.{Meaning}
-use Rattle.linkstate.specs.Export.{leader}
+use Rattle.linkstate.specs.Lists.{numbers, sameRows}
+use Rattle.linkstate.specs.Masks.{user, asNumber, inNumber}
+use Rattle.linkstate.specs.Meaning.{row}
+use Rattle.srlg_ranks.specs.Ranks.{picked, Within}
 use Rattle.set_bytes.specs.Sets.{setOf, Fits}
-use Rattle.asla_bytes.specs.Applications.{inNumbers}
+use Rattle.set_marks.specs.Marks.{markOf}
+use Rattle.set_groups.specs.Groups.{Group, group, join}
 
--- The numbers of a span of a list.
-unfoldable pub inSpan : List ℕ → List ℕ → List ℕ
-inSpan list span = bytesAt list (getD span 0 0) (getD span 1 0)
+-- An entry that can be read: its rows lie within run A, its bits within the list, and its head says so.
+pub record Entry (a values : List ℕ) (g : List (List ℕ)) (w h : List ℕ) : Type 0 where
+  pub fits : Fits a g
+  pub within : Within values w
+  pub counted : length (picked values w) ≡ getD h 2 0
+  pub few : getD h 2 0 ≤ 512
+  pub marked : getD h 3 0 ≡ markOf a values g w
 
-unfoldable pub tableSet : List ℕ → List (List (List ℕ)) → List (List ℕ) → List ℕ → ℕ → ℕ → List ℕ
-tableSet a grids spans list n = setOf a (getD grids n []) (inSpan list (getD spans n []))
+-- A table of so many entries.
+pub record Sound (a values : List ℕ) (count : ℕ) (grids : List (List (List ℕ))) (bits heads : List (List ℕ)) : Type 0 where
+  pub gridRoom : count ≤ length grids
+  pub bitRoom : count ≤ length bits
+  pub headRoom : count ≤ length heads
+  pub entry : (i : ℕ) → i < count → Entry a values (getD grids i []) (getD bits i []) (getD heads i [])
 
--- What a table says of applications. It has no bandwidths, no RSVP-TE set and no general set: groups do not depend on them.
-unfoldable pub tableMeaning : List ℕ → ℕ → ℕ → List (List (List ℕ)) → List (List ℕ) → List ℕ → Meaning
-tableMeaning a standard user grids spans list =
-    record {
-      bandwidth = λ k. [];
-      rsvpTe = λ k. [];
-      general = λ k. [];
-      named = inNumbers standard user;
-      set = tableSet a grids spans list;
-    }
+unfoldable pub entryGroup : List ℕ → List ℕ → List (List ℕ) → List ℕ → List ℕ → Group
+entryGroup a values g w h = group (row (setOf a g (picked values w))) (getD h 0 0) (getD h 1 0)
 
--- A table that can be read: its rows lie within run A, and its spans within the list.
-pub record Sound (a : List ℕ) (grids : List (List (List ℕ))) (spans : List (List ℕ)) (list : List ℕ) : Type 0 where
-  pub rows : length grids ≡ 128
-  pub ends : length spans ≡ 128
-  pub fits : (n : ℕ) → Fits a (getD grids n [])
-  pub within : (n : ℕ) → getD (getD spans n []) 0 0 + getD (getD spans n []) 1 0 ≤ length list
-  pub short : (n : ℕ) → getD (getD spans n []) 1 0 ≤ 512
+-- The groups that a table stands for.
+unfoldable pub tableGroups : List ℕ → List ℕ → ℕ → List (List (List ℕ)) → List (List ℕ) → List (List ℕ) → List Group
+tableGroups a values count grids bits heads = map (λ i. entryGroup a values (getD grids i []) (getD bits i []) (getD heads i [])) (numbers 0 count)
 
--- The leaders of all applications, 0 of one that is not named.
-unfoldable pub leadOf : Meaning → ℕ → ℕ
-leadOf m n = cond (m .named n) (leader m n) 0
+-- A head with application n as a member more.
+unfoldable pub withMember : List ℕ → ℕ → List ℕ
+withMember h n = asNumber (λ k. inNumber (getD h 0 0) k || eqb k n) ∷ asNumber (λ k. inNumber (getD h 1 0) k || eqb (user k) n) ∷ getD h 2 0 ∷ getD h 3 0 ∷ []
 
-pub record Leads (m : Meaning) (leads : List ℕ) : Type 0 where
-  pub all : length leads ≡ 128
-  pub each : (n : ℕ) → n < 128 → getD leads n 0 ≡ leadOf m n
+-- r is the first entry with these values, or the number of entries where none has them.
+pub record Finds (a values : List ℕ) (vs : List (List ℕ)) (count : ℕ) (grids : List (List (List ℕ))) (bits : List (List ℕ)) (r : ℕ) : Type 0 where
+  pub most : r ≤ count
+  pub before : (j : ℕ) → j < r → sameRows (row (setOf a (getD grids j []) (picked values (getD bits j [])))) vs ≡ false
+  pub there : r < count → sameRows (row (setOf a (getD grids r []) (picked values (getD bits r [])))) vs ≡ true
+
+-- What is left of a table, with r entries, once application n with these values has joined.
+pub record Joined (a values : List ℕ) (n : ℕ) (vs : List (List ℕ)) (count : ℕ) (grids : List (List (List ℕ))) (bits heads : List (List ℕ)) (r : ℕ) (grids' : List (List (List ℕ))) (bits' heads' : List (List ℕ)) : Type 0 where
+  pub sound : Sound a values r grids' bits' heads'
+  pub more : r ≤ suc count
+  pub groups : tableGroups a values r grids' bits' heads' ≡ join n vs (tableGroups a values count grids bits heads)

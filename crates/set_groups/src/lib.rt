@@ -1,124 +1,123 @@
-// Applications with equal sets, over a table of the sets of those that are named (document 01, "BGP-LS bytes"): who leads each, and the masks of a group.
+// The groups of applications with equal sets, in a table that applications join one by one (document 01, "BGP-LS bytes").
 ghost use mathlib.Core.Path.{_≡_};
-ghost use mathlib.Core.List.{List, []};
+ghost use mathlib.Core.Bool.{true, _||_};
+ghost use mathlib.Core.List.{[]};
 ghost use Prim.Native.Nat.{ℕ, _+_, _≤_, _<_};
 ghost use lib.Dec.{eqb};
 ghost use lib.ListN.{length, getD};
 ghost use Rattle.linkstate.specs.Lists.{sameRows};
-ghost use Rattle.linkstate.specs.Masks.{asNumber};
+ghost use Rattle.linkstate.specs.Masks.{user, asNumber, inNumber};
 ghost use Rattle.linkstate.specs.Meaning.{row};
-ghost use Rattle.linkstate.specs.Export.{leader};
-ghost use Rattle.asla_bytes.specs.Applications.{inNumbers};
-ghost use Rattle.set_groups.specs.Table.{inSpan, tableSet, tableMeaning, Sound, leadOf, Leads};
+ghost use Rattle.srlg.specs.Ascending.{ascending};
+ghost use Rattle.srlg_ranks.specs.Ranks.{picked, Within};
+ghost use Rattle.set_bytes.specs.Sets.{setOf, Fits};
+ghost use Rattle.set_marks.specs.Marks.{markOf};
+ghost use Rattle.set_groups.specs.Groups as Definitions;
+ghost use Rattle.set_groups.specs.Table.{Sound, tableGroups, withMember, Finds, Joined};
 
-// Whether an application is in two sets, of standard and of user applications.
-pub fn is_named(standard: u64, user: u64, n: usize) -> bool
-    requires { ⌜ n < 128 ⌝ }
-    ensures { λ r. ⌜ r ≡ inNumbers standard user n ⌝ }
+// The standard applications of a set, and n if it is one.
+fn with_standard(m: u64, n: usize) -> u64
+    ensures { λ r. ⌜ r ≡ asNumber (λ k. inNumber m k || eqb k n) ⌝ }
 {
     if n < 64 {
-        return masks::has(standard, n as u32);
+        return m | (1 << n);
     }
-    masks::has(user, (n - 64) as u32)
+    m
 }
 
-// The SRLGs of an application of a table.
-pub fn srlgs_at<'a, 'b>(spans: &'a [[usize; 2]], list: &'b [u32], n: usize) -> &'b [u32]
-    requires { ⌜ (n < length (now spans)) × (getD (getD (now spans) n []) 0 0 + getD (getD (now spans) n []) 1 0 ≤ length (now list)) ⌝ }
-    ensures { λ r. ⌜ now r ≡ inSpan (now (list .entry)) (getD (now (spans .entry)) n []) ⌝ }
+// The user applications of a set, and n if it is one.
+fn with_user(m: u64, n: usize) -> u64
+    requires { ⌜ n < 128 ⌝ }
+    ensures { λ r. ⌜ r ≡ asNumber (λ k. inNumber m k || eqb (user k) n) ⌝ }
 {
-    let start = spans[n][0];
-    let end = start + spans[n][1];
-    &list[start..end]
+    if n < 64 {
+        return m;
+    }
+    m | (1 << (n - 64))
 }
 
-// Whether two applications of a table have the same set.
-fn same_entries(
+// A head with a member more.
+fn with_member(h: [u64; 4], n: usize) -> [u64; 4]
+    requires { ⌜ n < 128 ⌝ }
+    ensures { λ r. ⌜ r ≡ withMember h n ⌝ }
+{
+    let standard = with_standard(h[0], n);
+    let user = with_user(h[1], n);
+    let r = [standard, user, h[2], h[3]];
+    r
+}
+
+// Whether entry i has the set of a grid and bits.
+fn same_entry(
     a: &[u8],
+    values: &[u32],
+    g: [[usize; 2]; 10],
+    w: [u64; 12],
     grids: &[[[usize; 2]; 10]],
-    spans: &[[usize; 2]],
-    list: &[u32],
-    k: usize,
-    n: usize,
+    bits: &[[u64; 12]],
+    i: usize,
 ) -> bool
-    requires { ⌜ Sound (now a) (now grids) (now spans) (now list) × (k < 128) × (n < 128) ⌝ }
-    ensures { λ r. ⌜ r ≡ sameRows (row (tableSet (now (a .entry)) (now (grids .entry)) (now (spans .entry)) (now (list .entry)) k)) (row (tableSet (now (a .entry)) (now (grids .entry)) (now (spans .entry)) (now (list .entry)) n)) ⌝ }
+    requires { ⌜ (ascending (now values) ≡ true) × (length (now values) ≤ 768) × Fits (now a) g × Within (now values) w × (i < length (now grids)) × (i < length (now bits)) × Fits (now a) (getD (now grids) i []) × Within (now values) (getD (now bits) i []) ⌝ }
+    ensures { λ r. ⌜ r ≡ sameRows (row (setOf (now (a .entry)) (getD (now (grids .entry)) i []) (picked (now (values .entry)) (getD (now (bits .entry)) i [])))) (row (setOf (now (a .entry)) g (picked (now (values .entry)) w))) ⌝ }
 {
-    let g = grids[k];
-    let h = grids[n];
-    set_equal::same_sets(a, g, h, srlgs_at(spans, list, k), srlgs_at(spans, list, n))
+    let h = grids[i];
+    let x = bits[i];
+    set_equal::same_sets(a, h, g, x, w)
 }
 
-// The first named application with the same set as n, which leads n's group.
-fn leader_of(
+// The first entry with the set of a grid and bits, which has the mark; or the number of entries.
+fn find(
     a: &[u8],
-    standard: u64,
-    user: u64,
+    values: &[u32],
+    g: [[usize; 2]; 10],
+    w: [u64; 12],
+    mark: u64,
+    count: usize,
     grids: &[[[usize; 2]; 10]],
-    spans: &[[usize; 2]],
-    list: &[u32],
-    n: usize,
+    bits: &[[u64; 12]],
+    heads: &[[u64; 4]],
 ) -> usize
-    requires { ⌜ Sound (now a) (now grids) (now spans) (now list) × (n < 128) ⌝ }
-    ensures { λ r. ⌜ r ≡ leader (tableMeaning (now (a .entry)) standard user (now (grids .entry)) (now (spans .entry)) (now (list .entry))) n ⌝ }
+    requires { ⌜ (ascending (now values) ≡ true) × (length (now values) ≤ 768) × Fits (now a) g × Within (now values) w × (mark ≡ markOf (now a) (now values) g w) × Sound (now a) (now values) count (now grids) (now bits) (now heads) ⌝ }
+    ensures { λ r. ⌜ Finds (now (a .entry)) (now (values .entry)) (row (setOf (now (a .entry)) g (picked (now (values .entry)) w))) count (now (grids .entry)) (now (bits .entry)) r ⌝ }
 {
-    for k in 1..128 {
-        if is_named(standard, user, k) {
-            if same_entries(a, grids, spans, list, k, n) {
-                return k;
+    for i in 0..count {
+        if heads[i][3] == mark {
+            if same_entry(a, values, g, w, grids, bits, i) {
+                return i;
             }
         }
     }
-    0
+    count
 }
 
-// The same, and 0 where n is not named.
-fn lead_of(
+// Application n joins, with the set of a grid and bits; how many entries there are then.
+pub fn join(
     a: &[u8],
-    standard: u64,
-    user: u64,
-    grids: &[[[usize; 2]; 10]],
-    spans: &[[usize; 2]],
-    list: &[u32],
+    values: &[u32],
     n: usize,
+    g: [[usize; 2]; 10],
+    w: [u64; 12],
+    count: usize,
+    grids: &mut [[[usize; 2]; 10]],
+    bits: &mut [[u64; 12]],
+    heads: &mut [[u64; 4]],
 ) -> usize
-    requires { ⌜ Sound (now a) (now grids) (now spans) (now list) × (n < 128) ⌝ }
-    ensures { λ r. ⌜ r ≡ leadOf (tableMeaning (now (a .entry)) standard user (now (grids .entry)) (now (spans .entry)) (now (list .entry))) n ⌝ }
+    requires { ⌜ (ascending (now values) ≡ true) × (length (now values) ≤ 768) × (n < 128) × Fits (now a) g × Within (now values) w × (length (picked (now values) w) ≤ 512) × Sound (now a) (now values) count (now grids) (now bits) (now heads) × (count < length (now grids)) × (count < length (now bits)) × (count < length (now heads)) ⌝ }
+    ensures { λ r. ⌜ Joined (now (a .entry)) (now (values .entry)) n (row (setOf (now (a .entry)) g (picked (now (values .entry)) w))) count (now (grids .entry)) (now (bits .entry)) (now (heads .entry)) r (now (grids .exit)) (now (bits .exit)) (now (heads .exit)) ⌝ }
 {
-    if !is_named(standard, user, n) {
-        return 0;
+    let mark = set_marks::mark_of(a, values, g, w);
+    let i = find(a, values, g, w, mark, count, grids, bits, heads);
+    if i < count {
+        let h = heads[i];
+        let joined = with_member(h, n);
+        heads[i] = joined;
+        return count;
     }
-    leader_of(a, standard, user, grids, spans, list, n)
-}
-
-// The leaders of all applications.
-pub fn fill_leads(
-    a: &[u8],
-    standard: u64,
-    user: u64,
-    grids: &[[[usize; 2]; 10]],
-    spans: &[[usize; 2]],
-    list: &[u32],
-    leads: &mut [usize],
-)
-    requires { ⌜ Sound (now a) (now grids) (now spans) (now list) × (length (now leads) ≡ 128) ⌝ }
-    ensures { λ _. ⌜ Leads (tableMeaning (now (a .entry)) standard user (now (grids .entry)) (now (spans .entry)) (now (list .entry))) (now (leads .exit)) ⌝ }
-{
-    for n in 0..128 {
-        leads[n] = lead_of(a, standard, user, grids, spans, list, n);
-    }
-}
-
-// The applications from `from` on that the leader leads, as a number.
-pub fn group_of(leads: &[usize], from: usize, leader: usize) -> u64
-    requires { ⌜ from + 64 ≤ length (now leads) ⌝ }
-    ensures { λ r. ⌜ r ≡ asNumber (λ n. eqb (getD (now (leads .entry)) (from + n) 0) leader) ⌝ }
-{
-    let mut group: u64 = 0;
-    for n in 0..64 {
-        if leads[from + n] == leader {
-            group = group + (1 << n);
-        }
-    }
-    group
+    let srlgs = srlg_ranks::count_bits(w, values.len()) as u64;
+    let h = [0, 0, srlgs, mark];
+    let joined = with_member(h, n);
+    grids[count] = g;
+    bits[count] = w;
+    heads[count] = joined;
+    count + 1
 }

@@ -19,11 +19,11 @@ nothing = 0 ∷ 0 ∷ 0 ∷ []
 abbrev pub whomOf : ℕ → ℕ → Subject
 whomOf who number = cond (eqb who 0) generally (cond (eqb who 1) (standardNo number) (cond (eqb who 2) (userNo number) (standardNo 64)))
 
--- A number above 63 as 64: both are refused by 6 (`asks-low` and `values-low` in proofs/).
+-- A number above 63 as 64: both are refused by 6 (`asked-low` and `value-low` in proofs/Laws.antt).
 abbrev pub least : ℕ → ℕ
 least n = cond (ltb 63 n) 64 n
 
--- R8. Refusal n has status 128 + n; then its run and its offset. No refusal names run C.
+-- R8. Refusal n has status 128 + n; then its run and its offset. No refusal names run C (`Statuses` in the proofs of status_entries).
 abbrev pub runNumber : Run → ℕ
 runNumber runA = 0
 runNumber runB = 1

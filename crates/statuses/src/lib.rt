@@ -1,7 +1,7 @@
 // Answers as a C program reads them: a status and two numbers. What each status says is `specs/Words.antt`.
 ghost use mathlib.Core.Path.{_≡_};
-ghost use mathlib.Core.List.{List, [], _∷_};
-ghost use Prim.Native.Nat.{ℕ, _≤_};
+ghost use mathlib.Core.List.{[], _∷_};
+ghost use Prim.Native.Nat.{_+_};
 ghost use lib.ListN.{length};
 ghost use Rattle.linkstate.specs.Bytes.{number};
 ghost use Rattle.replies.specs.Told.{toldRun, toldRefusal, toldReading, toldAnswer, toldNamed, toldWritten, subjectOf};
@@ -67,16 +67,22 @@ fn run_number(run: Run) -> u64
     }
 }
 
+fn refusal_status(number: u8) -> u64
+    ensures { λ r. ⌜ r ≡ 128 + number ⌝ }
+{
+    128 + number as u64
+}
+
 fn refusal_words(x: Refusal) -> Words
     ensures { λ r. ⌜ words r ≡ refusalWords (toldRefusal x) ⌝ }
 {
-    let number = x.number as u64;
+    let status = refusal_status(x.number);
     let place = x.place;
     let run = place.run;
     let offset = place.offset as u64;
     let of_run = run_number(run);
     Words {
-        status: 128 + number,
+        status,
         first: of_run,
         second: offset,
     }

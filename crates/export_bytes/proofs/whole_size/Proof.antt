@@ -20,8 +20,8 @@ add-result-2 : tie.Need-add-result-2
 add-result-2 c = search needs
 
 returns : tie.Need-returns
-returns c = λ a ns ms list fl fr e fg f ok.
-    size-is a _ _ ns _ ms _ _ list _ _ _ _ (c .before .before .top-size .ensures .1 a ns fl fr e) (c .before .general-size .ensures .1 a ms fg f) (c .groups-size .ensures .1 a list ok)
+returns c = λ a ns ms values bits fl fr e fg f ok.
+    size-is a _ _ ns _ ms values _ _ bits _ _ _ _ (c .before .before .top-size .ensures .1 a ns fl fr e) (c .before .general-size .ensures .1 a ms fg f) (c .groups-size .ensures .1 a values bits ok)
 
 pub whole-size-spec : {M : Type 1} → statement M
 whole-size-spec =

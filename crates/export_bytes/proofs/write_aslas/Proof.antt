@@ -14,13 +14,17 @@ write-groups-requires c κs = search needs
 same-length : tie.Need-same-length
 same-length c = search needs
 
+same-length-2 : tie.Need-same-length-2
+same-length-2 c = search needs
+
 returns : tie.Need-returns
-returns c = let a = c .before .before .before .before .before .before .before .before .before .before .before .before .before .args in
-    let p = c .before .before .before .before .before .before .before .before .before .before .before .before .before .pre in
-    let g = c .before .before .before .before .before .before .write-general .ensures in
-    let r = c .before .before .write-groups .ensures in
-    (omega (arith, g .0, r .0), put-both (a .out .now) _ _ (a .at) _ _ _ (g .1) (r .1) (g .0) (p .4))
+returns c = let a = c .before .before .before .before .before .before .before .before .before .before .before .before .before .before .before .before .args in
+    let p = c .before .before .before .before .before .before .before .before .before .before .before .before .before .before .before .before .pre in
+    let g = c .before .before .before .before .before .before .before .before .before .write-general .ensures in
+    let r = c .before .before .before .before .write-groups .ensures in
+    (omega (arith, g .0, r .0), put-both (a .out .now) _ _ (a .at) _ _ _ (g .1) (r .1) (g .0) (p .3))
 
 pub write-aslas-spec : {M : Type 1} → statement M
 write-aslas-spec =
-    tie.close (tie.spec write-general-requires write-groups-requires same-length returns)
+    tie.close
+    (tie.spec write-general-requires write-groups-requires same-length same-length-2 returns)

@@ -1,52 +1,43 @@
 -- `isis_export::export_with` meets its contract.
-use Rattle.isis_export.proofs.Laws.{nameless, srlgs-ready, rsvp-te-number, general-number}
-use native.Mathlib.Omega.{arith}
+use Rattle.isis_export.proofs.Laws.{srlgs-ready, rsvp-te-number, general-number}
+use denote.Ref.{now}
 use borrow.Author.Needs.{needs}
 use Rattle.isis_export.proofs.export_with.Statement.{statement}
 use Rattle.isis_export.proofs.export_with.Tie as tie
 
-named-in-link-requires : tie.Need-named-in-link-requires
-named-in-link-requires c κs = search needs
-
-fill-tables-requires : tie.Need-fill-tables-requires
-fill-tables-requires c κs = let p = c .before .before .before .before .before .before .before .before .before .before .before .before .before .pre in
-    let a = c .before .before .before .before .before .before .before .before .before .before .before .before .before .args in
-    (p .0, nameless (a .a .now) (a .b .now) (a .c .now) _ _ (c .before .before .before .before .named-in-link .ensures (a .c .now)), p .3, p .4, p .5, p .6)
+fill-groups-requires : tie.Need-fill-groups-requires
+fill-groups-requires c κs = search needs
 
 srlgs-of-requires : tie.Need-srlgs-of-requires
-srlgs-of-requires c κs = let p = c .before .before .before .before .before .before .before .before .before .before .before .before .before .before .before .before .before .before .before .before .before .pre in (p .0 .runB, p .1, rsvp-te-number)
+srlgs-of-requires c κs = let p = c .before .before .before .before .before .before .before .before .before .before .before .before .before .before .before .before .before .before .pre in (p .0 .passed .runB, p .1, rsvp-te-number)
 
 srlgs-of-requires-2 : tie.Need-srlgs-of-requires-2
-srlgs-of-requires-2 c κs = let p = c .before .before .before .before .before .before .before .before .before .before .before .before .before .before .before .before .before .before .before .before .before .before .before .before .before .pre in (p .0 .runB, p .2, general-number)
+srlgs-of-requires-2 c κs = let p = c .before .before .before .before .before .before .before .before .before .before .before .before .before .before .before .before .before .before .before .before .before .before .pre in (p .0 .passed .runB, p .2, general-number)
 
-sub-export-tables : tie.Need-sub-export-tables
-sub-export-tables c = search needs
+sub-export-table : tie.Need-sub-export-table
+sub-export-table c = search needs
 
-part-export-tables-start : tie.Need-part-export-tables-start
-part-export-tables-start c = search needs
+part-export-table-start : tie.Need-part-export-table-start
+part-export-table-start c = search needs
 
-part-export-tables-end : tie.Need-part-export-tables-end
-part-export-tables-end c = let p = c .before .before .before .before .before .before .before .before .before .before .before .before .before .before .before .before .before .before .before .before .before .before .before .before .before .before .before .before .before .pre in
-    let r = c .before .before .before .before .before .before .before .srlgs-of in
-    omega (arith, r .ensures .1, r .kept .1 .1 .1 .0, p .1)
+part-export-table-end : tie.Need-part-export-table-end
+part-export-table-end c = search needs
 
-sub-export-tables-2 : tie.Need-sub-export-tables-2
-sub-export-tables-2 c = search needs
+sub-export-table-2 : tie.Need-sub-export-table-2
+sub-export-table-2 c = search needs
 
-part-export-tables-start-2 : tie.Need-part-export-tables-start-2
-part-export-tables-start-2 c = search needs
+part-export-table-start-2 : tie.Need-part-export-table-start-2
+part-export-table-start-2 c = search needs
 
-part-export-tables-end-2 : tie.Need-part-export-tables-end-2
-part-export-tables-end-2 c = let p = c .before .before .before .before .before .before .before .before .before .before .before .before .before .before .before .before .before .before .before .before .before .before .before .before .before .before .before .before .before .before .before .pre in
-    let r = c .before .before .before .before .before .srlgs-of2 in
-    omega (arith, r .ensures .1, r .kept .1 .1 .1 .0, p .2)
+part-export-table-end-2 : tie.Need-part-export-table-end-2
+part-export-table-end-2 c = search needs
 
-export-tables-requires : tie.Need-export-tables-requires
-export-tables-requires c κs = let p = c .before .before .before .before .before .before .before .before .before .before .before .before .before .before .before .before .before .before .before .before .before .before .before .before .before .before .before .before .before .before .before .before .before .before .before .before .before .pre in
-    let a = c .before .before .before .before .before .before .before .before .before .before .before .before .before .before .before .before .before .before .before .before .before .before .before .before .before .before .before .before .before .before .before .before .before .before .before .before .before .args in
+export-table-requires : tie.Need-export-table-requires
+export-table-requires c κs = let a = c .before .before .before .before .before .before .before .before .before .before .before .before .before .before .before .before .before .before .before .before .before .before .before .before .before .before .before .before .before .before .before .before .before .before .args in
+    let p = c .before .before .before .before .before .before .before .before .before .before .before .before .before .before .before .before .before .before .before .before .before .before .before .before .before .before .before .before .before .before .before .before .before .before .pre in
     let r = c .before .before .before .before .before .before .before .before .before .before .before .before .before .before .before .srlgs-of .ensures in
     let g = c .before .before .before .before .before .before .before .before .before .before .before .srlgs-of2 .ensures in
-    (p .0, c .before .before .before .before .before .before .before .before .before .before .before .before .before .before .before .before .before .before .before .before .before .before .before .before .before .before .before .before .named-in-link .ensures (a .c .now), srlgs-ready (a .b .now) (a .c .now) _ _ _ _ (r .0) (g .0) (r .1) (g .1), c .before .before .before .before .before .before .before .before .before .before .before .before .before .before .before .before .before .before .before .before .before .before .before .fill-tables .ensures)
+    (p .0 .passed, p .0 .ofA, srlgs-ready (now (a .b)) (now (a .c)) _ _ _ _ (r .0) (g .0) (r .1) (g .1), p .0 .ofB .most, c .before .before .before .before .before .before .before .before .before .before .before .before .before .before .before .before .before .before .before .before .fill-groups .ensures, p .3)
 
 same-length : tie.Need-same-length
 same-length c = search needs
@@ -58,7 +49,7 @@ same-length-3 : tie.Need-same-length-3
 same-length-3 c = search needs
 
 same-length-4 : tie.Need-same-length-4
-same-length-4 c = search needs
+same-length-4 c = c .before .before .before .before .before .before .before .before .before .before .before .before .before .before .before .before .before .before .before .before .before .before .before .before .before .fill-groups .kept .1 .1 .1 .1 .1 .1 .1 .1 .1 .1 .1 .1 .1 .1 .1 .0
 
 same-length-5 : tie.Need-same-length-5
 same-length-5 c = search needs
@@ -76,17 +67,16 @@ pub export-with-spec : {M : Type 1} → statement M
 export-with-spec =
     tie.close
     (tie.spec
-    named-in-link-requires
-    fill-tables-requires
+    fill-groups-requires
     srlgs-of-requires
     srlgs-of-requires-2
-    sub-export-tables
-    part-export-tables-start
-    part-export-tables-end
-    sub-export-tables-2
-    part-export-tables-start-2
-    part-export-tables-end-2
-    export-tables-requires
+    sub-export-table
+    part-export-table-start
+    part-export-table-end
+    sub-export-table-2
+    part-export-table-start-2
+    part-export-table-end-2
+    export-table-requires
     same-length
     same-length-2
     same-length-3

@@ -17,7 +17,7 @@ same-length : tie.Need-same-length
 same-length c = search needs
 
 returns : tie.Need-returns
-returns c = exported-by _ _ _ _ _ (c .hand-over .ensures) (c .before .before .length-words .ensures) (c .before .before .before .before .before .export .ensures)
+returns c = exported-by _ _ _ _ _ (c .hand-over .ensures) (c .before .before .length-words .ensures) (c .before .before .before .before .before .export .ensures .0)
 
 pub nakhshirul-export-spec : {M : Type 1} → statement M
 nakhshirul-export-spec =

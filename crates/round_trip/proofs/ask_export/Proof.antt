@@ -34,7 +34,7 @@ part-ask-start c = search needs
 -- src/lib.rt:23:48
 part-ask-end : tie.Need-part-ask-end
 part-ask-end c = let a = c .before .before .before .before .before .before .before .before .before .before .before .before .before .args in
-    delivered (a .a .now) (a .b .now) (a .c .now) (a .out .now) (c .before .before .n .given .0 .0) _ (sym (c .before .before .before .before .before .before .export .ensures) ∙ ap (λ (x : Written). toldExported x (c .before .before .before .before .before .before .export .last .1 .1 .1 .0)) (c .before .before .n .given .1)) .within
+    delivered (a .a .now) (a .b .now) (a .c .now) (a .out .now) (c .before .before .n .given .0 .0) _ (sym (c .before .before .before .before .before .before .export .ensures .0) ∙ ap (λ (x : Written). toldExported x (c .before .before .before .before .before .before .export .last .1 .1 .1 .0)) (c .before .before .n .given .1)) .within
 
 -- src/lib.rt:23:30
 ask-requires : tie.Need-ask-requires
@@ -47,7 +47,7 @@ same-length c = search needs
 -- src/lib.rt:10:1
 returns : tie.Need-returns
 returns c = let a = c .before .before .before .before .before .before .before .before .before .before .before .before .args in
-    refused-back (a .a .now) (a .b .now) (a .c .now) (a .out .now) _ (subjectOf (a .whom)) (a .code) (a .list .now) (toldRefusal (c .before .x .given .0 .0)) (sym (c .before .before .before .before .before .export .ensures) ∙ ap (λ (x : Written). toldExported x (c .before .before .before .before .before .export .last .1 .1 .1 .0)) (c .before .x .given .1))
+    refused-back (a .a .now) (a .b .now) (a .c .now) (a .out .now) _ (subjectOf (a .whom)) (a .code) (a .list .now) (toldRefusal (c .before .x .given .0 .0)) (sym (c .before .before .before .before .before .export .ensures .0) ∙ ap (λ (x : Written). toldExported x (c .before .before .before .before .before .export .last .1 .1 .1 .0)) (c .before .x .given .1))
 
 -- src/lib.rt:10:1
 same-length-2 : tie.Need-same-length-2
@@ -60,7 +60,7 @@ same-length-3 c = search needs
 -- src/lib.rt:10:1
 returns-2 : tie.Need-returns-2
 returns-2 c = let a = c .before .before .before .before .before .before .before .before .before .before .before .before .before .before .before .before .before .before .args in
-    asked-back (a .a .now) (a .b .now) (a .c .now) (a .out .now) _ (c .before .before .before .before .before .before .before .n .given .0 .0) (sym (c .before .before .before .before .before .before .before .before .before .before .before .export .ensures) ∙ ap (λ (x : Written). toldExported x (c .before .before .before .before .before .before .before .before .before .before .before .export .last .1 .1 .1 .0)) (c .before .before .before .before .before .before .before .n .given .1)) (subjectOf (a .whom)) (a .code) (a .list .now) _ (c .before .before .ask .ensures)
+    asked-back (a .a .now) (a .b .now) (a .c .now) (a .out .now) _ (c .before .before .before .before .before .before .before .n .given .0 .0) (sym (c .before .before .before .before .before .before .before .before .before .before .before .export .ensures .0) ∙ ap (λ (x : Written). toldExported x (c .before .before .before .before .before .before .before .before .before .before .before .export .last .1 .1 .1 .0)) (c .before .before .before .before .before .before .before .n .given .1)) (subjectOf (a .whom)) (a .code) (a .list .now) _ (c .before .before .ask .ensures)
 
 pub ask-export-spec : {M : Type 1} → statement M
 ask-export-spec =

@@ -35,7 +35,7 @@ part-named-start c = search needs
 -- src/lib.rt:33:50
 part-named-end : tie.Need-part-named-end
 part-named-end c = let a = c .before .before .before .before .before .before .before .before .before .before .before .before .args in
-    delivered (a .a .now) (a .b .now) (a .c .now) (a .out .now) (c .before .before .n .given .0 .0) _ (sym (c .before .before .before .before .before .before .export .ensures) ∙ ap (λ (x : Written). toldExported x (c .before .before .before .before .before .before .export .last .1 .1 .1 .0)) (c .before .before .n .given .1)) .within
+    delivered (a .a .now) (a .b .now) (a .c .now) (a .out .now) (c .before .before .n .given .0 .0) _ (sym (c .before .before .before .before .before .before .export .ensures .0) ∙ ap (λ (x : Written). toldExported x (c .before .before .before .before .before .before .export .last .1 .1 .1 .0)) (c .before .before .n .given .1)) .within
 
 -- src/lib.rt:33:30
 named-requires : tie.Need-named-requires
@@ -48,7 +48,7 @@ same-length c = search needs
 -- src/lib.rt:28:1
 returns : tie.Need-returns
 returns c =
-    refusedNames (toldRefusal (c .before .x .given .0 .0)) (sym (c .before .before .before .before .before .export .ensures) ∙ ap (λ (x : Written). toldExported x (c .before .before .before .before .before .export .last .1 .1 .1 .0)) (c .before .x .given .1)) refl
+    refusedNames (toldRefusal (c .before .x .given .0 .0)) (sym (c .before .before .before .before .before .export .ensures .0) ∙ ap (λ (x : Written). toldExported x (c .before .before .before .before .before .export .last .1 .1 .1 .0)) (c .before .x .given .1)) refl
 
 -- src/lib.rt:28:1
 same-length-2 : tie.Need-same-length-2
@@ -57,7 +57,7 @@ same-length-2 c = search needs
 -- src/lib.rt:28:1
 returns-2 : tie.Need-returns-2
 returns-2 c = let a = c .before .before .before .before .before .before .before .before .before .before .before .before .before .before .args in
-    named-back (a .a .now) (a .b .now) (a .c .now) (a .out .now) _ (c .before .before .before .before .n .given .0 .0) (sym (c .before .before .before .before .before .before .before .before .export .ensures) ∙ ap (λ (x : Written). toldExported x (c .before .before .before .before .before .before .before .before .export .last .1 .1 .1 .0)) (c .before .before .before .before .n .given .1)) _ (c .named .ensures)
+    named-back (a .a .now) (a .b .now) (a .c .now) (a .out .now) _ (c .before .before .before .before .n .given .0 .0) (sym (c .before .before .before .before .before .before .before .before .export .ensures .0) ∙ ap (λ (x : Written). toldExported x (c .before .before .before .before .before .before .before .before .export .last .1 .1 .1 .0)) (c .before .before .before .before .n .given .1)) _ (c .named .ensures)
 
 pub named-export-spec : {M : Type 1} → statement M
 named-export-spec =

@@ -1,20 +1,16 @@
+-- Above 63, and not.
 use native.Mathlib.Omega.{arith}
 use borrow.Author.Tests.{lt-ltb, le-ltb}
 use borrow.Author.Needs.{needs}
 use Rattle.statuses.proofs.lowered.Statement.{statement}
 use Rattle.statuses.proofs.lowered.Tie as tie
-use Rattle.statuses.proofs.lowered.Reads as reads
-use Rattle.statuses.proofs.lowered.Lts as lts
 
--- src/lib.rt:159:9
 returns : tie.Need-returns
 returns c = rw (lt-ltb 63 _ (c .if1 .taken))
 
--- src/lib.rt:161:5
 cast-result : tie.Need-cast-result
 cast-result c = search needs
 
--- src/lib.rt:155:1
 returns-2 : tie.Need-returns-2
 returns-2 c = rw (le-ltb 63 (c .before .args .number) (omega arith))
 

@@ -1,33 +1,25 @@
+-- Each whom, and nobody.
 use native.Mathlib.Omega.{arith}
 use Rattle.statuses.proofs.Laws.{nobody}
 use borrow.Author.Needs.{needs}
 use Rattle.statuses.proofs.subject.Statement.{statement}
 use Rattle.statuses.proofs.subject.Tie as tie
-use Rattle.statuses.proofs.subject.Reads as reads
-use Rattle.statuses.proofs.subject.Lts as lts
-use Rattle.statuses.proofs.lowered.Reads as lowered-reads
 
--- src/lib.rt:170:32
 lowered-requires : tie.Need-lowered-requires
 lowered-requires c κs = search needs
 
--- src/lib.rt:171:28
 lowered-requires-2 : tie.Need-lowered-requires-2
 lowered-requires-2 c κs = search needs
 
--- src/lib.rt:165:1
 returns : tie.Need-returns
 returns c = rw (c .match .keys1)
 
--- src/lib.rt:165:1
 returns-2 : tie.Need-returns-2
 returns-2 c = rw (c .before .match .keys2, c .lowered .ensures)
 
--- src/lib.rt:165:1
 returns-3 : tie.Need-returns-3
 returns-3 c = rw (c .before .match .keys3, c .lowered2 .ensures)
 
--- src/lib.rt:165:1
 returns-4 : tie.Need-returns-4
 returns-4 c = nobody (c .before .args .who) _ (λ e. omega arith) (λ e. omega arith) (λ e. omega arith)
 

@@ -1,0 +1,397 @@
+//! What is asked, and what is answered.
+use std::error::Error;
+use std::fmt;
+
+/// Whom a question is about.
+#[derive(Clone, Copy, Debug, PartialEq, Eq, Hash)]
+pub enum Subject {
+    /// The general set: what every application gets that nothing names.
+    General,
+    /// A standard application: 0 is RSVP-TE, 1 SR Policy, 2 LFA. Above 63 a question is refused.
+    Standard(u64),
+    /// A user-defined application, 0 to 63.
+    User(u64),
+}
+
+impl Subject {
+    pub(crate) fn who(self) -> u8 {
+        match self {
+            Subject::General => 0,
+            Subject::Standard(_) => 1,
+            Subject::User(_) => 2,
+        }
+    }
+
+    pub(crate) fn number(self) -> u64 {
+        match self {
+            Subject::General => 0,
+            Subject::Standard(n) | Subject::User(n) => n,
+        }
+    }
+}
+
+/// An application that is named.
+///
+/// ```
+/// use nakhshirul::{Application, Subject};
+///
+/// assert_eq!(Subject::from(Application::Standard(1)), Subject::Standard(1));
+/// ```
+#[derive(Clone, Copy, Debug, PartialEq, Eq, PartialOrd, Ord, Hash)]
+pub enum Application {
+    /// A standard application by its number, 0 to 63.
+    Standard(u8),
+    /// A user-defined application by its number, 0 to 63.
+    User(u8),
+}
+
+impl From<Application> for Subject {
+    fn from(application: Application) -> Subject {
+        match application {
+            Application::Standard(n) => Subject::Standard(n.into()),
+            Application::User(n) => Subject::User(n.into()),
+        }
+    }
+}
+
+/// The answer to a question.
+#[derive(Clone, Copy, Debug, PartialEq, Eq)]
+pub enum Answer<'a, 'l> {
+    /// Nothing of the kind is there.
+    Absent,
+    /// What the value reads as.
+    Found(Reading<'a, 'l>),
+    /// Why there is no answer.
+    Refused(Refusal),
+}
+
+impl<'a, 'l> Answer<'a, 'l> {
+    /// The reading, or none where it is absent, or the refusal.
+    ///
+    /// ```
+    /// use nakhshirul::{code, Link, Reading, Subject};
+    ///
+    /// # fn main() -> Result<(), nakhshirul::Refusal> {
+    /// let link = Link { a: &[0x12, 3, 0, 0, 10], b: &[], c: &[] };
+    /// let metric = link.ask(Subject::Standard(0), code::TE_METRIC, &mut []).found()?;
+    /// assert_eq!(metric, Some(Reading::Number(10)));
+    /// # Ok(())
+    /// # }
+    /// ```
+    pub fn found(self) -> Result<Option<Reading<'a, 'l>>, Refusal> {
+        match self {
+            Answer::Absent => Ok(None),
+            Answer::Found(reading) => Ok(Some(reading)),
+            Answer::Refused(refusal) => Err(refusal),
+        }
+    }
+}
+
+/// What a value reads as.
+#[derive(Clone, Copy, Debug, PartialEq, Eq)]
+pub enum Reading<'a, 'l> {
+    /// A whole number, flag bits too (1088, 1092, 1114, 1116, 1117).
+    Number(u32),
+    /// Two numbers, flag bits too (1115).
+    Pair(u32, u32),
+    /// A bandwidth (1089, 1090, 1118, 1119, 1120).
+    Bandwidth(Bandwidth),
+    /// A part of the run (1091, 1173).
+    Part(Part<'a>),
+    /// The different SRLGs, ascending, at the front of the list that was lent (1096).
+    Srlgs(&'l [u32]),
+}
+
+/// A bandwidth, by the bits that stand in the run. Two are equal when their bits are.
+#[derive(Clone, Copy, Debug, PartialEq, Eq, Hash)]
+pub struct Bandwidth(u32);
+
+impl Bandwidth {
+    /// The bits of its IEEE 754 binary32.
+    pub fn bits(self) -> u32 {
+        self.0
+    }
+
+    /// The number that they write.
+    pub fn bytes_per_second(self) -> f32 {
+        f32::from_bits(self.0)
+    }
+}
+
+/// A value's bytes in the run that was asked, and the offset of the first.
+#[derive(Clone, Copy, Debug, PartialEq, Eq, Hash)]
+pub struct Part<'a> {
+    /// The offset of its first byte.
+    pub offset: usize,
+    /// Its bytes.
+    pub bytes: &'a [u8],
+}
+
+/// The run that a refusal is about.
+#[derive(Clone, Copy, Debug, PartialEq, Eq, Hash)]
+pub enum Run {
+    /// The sub-TLVs of a link.
+    A,
+    /// The TLVs 238 of a link.
+    B,
+    /// A BGP-LS run.
+    BgpLs,
+}
+
+/// Why a call was refused. After one nothing was written.
+#[derive(Clone, Copy, Debug, PartialEq, Eq, Hash)]
+pub enum Refusal {
+    /// 1: a run is too long.
+    TooLong,
+    /// 2: the length of run C is not a multiple of 4.
+    OddSrlgs,
+    /// 3: an element, a mask or an inner list runs past what holds it, or is too short for its
+    /// fixed fields. The innermost faulty element begins there.
+    Cut {
+        /// The run to blame.
+        run: Run,
+        /// The element's first byte.
+        offset: usize,
+    },
+    /// 4: a known kind or link identifier has a wrong length.
+    Length {
+        /// The run to blame.
+        run: Run,
+        /// The element's first byte.
+        offset: usize,
+    },
+    /// 5: the result is longer than the room that was lent.
+    NoRoom,
+    /// 6: the application's number is above 63.
+    NoApplication,
+    /// 7: the code is none of the fourteen.
+    NoKind,
+}
+
+impl Refusal {
+    /// Its number, 1 to 7.
+    ///
+    /// ```
+    /// assert_eq!(nakhshirul::Refusal::NoRoom.number(), 5);
+    /// ```
+    pub fn number(self) -> u8 {
+        match self {
+            Refusal::TooLong => 1,
+            Refusal::OddSrlgs => 2,
+            Refusal::Cut { .. } => 3,
+            Refusal::Length { .. } => 4,
+            Refusal::NoRoom => 5,
+            Refusal::NoApplication => 6,
+            Refusal::NoKind => 7,
+        }
+    }
+}
+
+impl fmt::Display for Run {
+    fn fmt(&self, f: &mut fmt::Formatter<'_>) -> fmt::Result {
+        f.write_str(match self {
+            Run::A => "run A",
+            Run::B => "run B",
+            Run::BgpLs => "the BGP-LS run",
+        })
+    }
+}
+
+impl fmt::Display for Refusal {
+    fn fmt(&self, f: &mut fmt::Formatter<'_>) -> fmt::Result {
+        match self {
+            Refusal::TooLong => f.write_str("a run is too long"),
+            Refusal::OddSrlgs => f.write_str("the length of run C is not a multiple of 4"),
+            Refusal::Cut { run, offset } => {
+                write!(f, "an element is cut at offset {offset} of {run}")
+            }
+            Refusal::Length { run, offset } => write!(
+                f,
+                "an element has a wrong length at offset {offset} of {run}"
+            ),
+            Refusal::NoRoom => f.write_str("the result is longer than the room lent"),
+            Refusal::NoApplication => f.write_str("the application's number is above 63"),
+            Refusal::NoKind => f.write_str("the code is none of the fourteen"),
+        }
+    }
+}
+
+impl Error for Refusal {}
+
+/// The applications that are named, RSVP-TE left out.
+#[derive(Clone, Copy, Debug, Default, PartialEq, Eq, Hash)]
+pub struct Applications {
+    standard: u64,
+    user: u64,
+}
+
+impl Applications {
+    /// The standard ones, application n as 2 to the n.
+    pub fn standard(self) -> u64 {
+        self.standard
+    }
+
+    /// The user-defined ones, application n as 2 to the n.
+    pub fn user(self) -> u64 {
+        self.user
+    }
+
+    /// How many there are.
+    pub fn len(self) -> usize {
+        (self.standard.count_ones() + self.user.count_ones()) as usize
+    }
+
+    /// Whether there is none.
+    pub fn is_empty(self) -> bool {
+        self.standard == 0 && self.user == 0
+    }
+
+    /// Whether an application is one of them.
+    pub fn contains(self, application: Application) -> bool {
+        let (set, n) = match application {
+            Application::Standard(n) => (self.standard, n),
+            Application::User(n) => (self.user, n),
+        };
+        n < 64 && set >> n & 1 == 1
+    }
+
+    /// Each of them: the standard ones ascending, then the user-defined ones.
+    pub fn iter(self) -> Iter {
+        Iter { left: self }
+    }
+}
+
+impl IntoIterator for Applications {
+    type Item = Application;
+    type IntoIter = Iter;
+
+    fn into_iter(self) -> Iter {
+        self.iter()
+    }
+}
+
+/// Iterates over [`Applications`].
+///
+/// ```
+/// use nakhshirul::{code, Link};
+///
+/// // Two ASLAs: SR Policy and LFA have metric 20, user-defined application 63 has metric 21.
+/// let a = [
+///     0x10, 8, 1, 0, 0x60, 0x12, 3, 0, 0, 20,
+///     0x10, 15, 0, 8, 0, 0, 0, 0, 0, 0, 0, 1, 0x12, 3, 0, 0, 21,
+/// ];
+/// let link = Link { a: &a, b: &[], c: &[] };
+/// for application in link.named().unwrap() {
+///     let metric = link.value(application.into(), code::TE_METRIC).unwrap();
+///     println!("{application:?} has metric {:?}", metric.bytes);
+/// }
+/// assert_eq!(link.named().unwrap().iter().len(), 3);
+/// ```
+#[derive(Clone, Debug)]
+pub struct Iter {
+    left: Applications,
+}
+
+impl Iterator for Iter {
+    type Item = Application;
+
+    fn next(&mut self) -> Option<Application> {
+        if self.left.standard != 0 {
+            let n = self.left.standard.trailing_zeros();
+            self.left.standard &= self.left.standard - 1;
+            return Some(Application::Standard(n as u8));
+        }
+        if self.left.user != 0 {
+            let n = self.left.user.trailing_zeros();
+            self.left.user &= self.left.user - 1;
+            return Some(Application::User(n as u8));
+        }
+        None
+    }
+
+    fn size_hint(&self) -> (usize, Option<usize>) {
+        (self.left.len(), Some(self.left.len()))
+    }
+}
+
+impl ExactSizeIterator for Iter {}
+
+/// The two numbers of a reply, read by its status. It is proved of the library that it gives no
+/// other status, and names no other run, than those that are read here.
+pub(crate) struct Reply([u64; 2]);
+
+impl Reply {
+    pub(crate) fn new() -> Reply {
+        Reply([0; 2])
+    }
+
+    pub(crate) fn as_mut_ptr(&mut self) -> *mut u64 {
+        self.0.as_mut_ptr()
+    }
+
+    fn part_of<'a>(&self, run: &'a [u8]) -> Part<'a> {
+        let offset = self.0[0] as usize;
+        let len = self.0[1] as usize;
+        Part {
+            offset,
+            bytes: &run[offset..offset + len],
+        }
+    }
+
+    fn refusal(&self, status: u64) -> Refusal {
+        let offset = self.0[1] as usize;
+        let run = match self.0[0] {
+            0 => Run::A,
+            1 => Run::B,
+            2 => Run::BgpLs,
+            n => unreachable!("run {n}"),
+        };
+        match status {
+            129 => Refusal::TooLong,
+            130 => Refusal::OddSrlgs,
+            131 => Refusal::Cut { run, offset },
+            132 => Refusal::Length { run, offset },
+            133 => Refusal::NoRoom,
+            134 => Refusal::NoApplication,
+            135 => Refusal::NoKind,
+            n => unreachable!("status {n}"),
+        }
+    }
+
+    pub(crate) fn answer<'a, 'l>(
+        &self,
+        status: u64,
+        run: &'a [u8],
+        list: &'l [u32],
+    ) -> Answer<'a, 'l> {
+        let [first, second] = self.0;
+        Answer::Found(match status {
+            0 => return Answer::Absent,
+            1 => Reading::Number(first as u32),
+            2 => Reading::Pair(first as u32, second as u32),
+            3 => Reading::Bandwidth(Bandwidth(first as u32)),
+            4 => Reading::Part(self.part_of(run)),
+            5 => Reading::Srlgs(&list[..first as usize]),
+            n => return Answer::Refused(self.refusal(n)),
+        })
+    }
+
+    pub(crate) fn part<'a>(&self, status: u64, run: &'a [u8]) -> Option<Part<'a>> {
+        (status == 4).then(|| self.part_of(run))
+    }
+
+    pub(crate) fn named(&self, status: u64) -> Result<Applications, Refusal> {
+        if status != 6 {
+            return Err(self.refusal(status));
+        }
+        let [standard, user] = self.0;
+        Ok(Applications { standard, user })
+    }
+
+    pub(crate) fn written<'o>(&self, status: u64, out: &'o [u8]) -> Result<&'o [u8], Refusal> {
+        if status != 7 {
+            return Err(self.refusal(status));
+        }
+        Ok(&out[..self.0[0] as usize])
+    }
+}

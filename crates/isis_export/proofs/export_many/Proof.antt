@@ -1,0 +1,47 @@
+-- `isis_export::export_many` meets its contract.
+use Rattle.isis_export.proofs.Laws.{holds-of, left-most}
+use mathlib.Core.Path.{refl}
+use borrow.Author.Needs.{needs}
+use Rattle.isis_export.proofs.export_many.Statement.{statement}
+use Rattle.isis_export.proofs.export_many.Tie as tie
+
+slice-aggregate-export-with : tie.Need-slice-aggregate-export-with
+slice-aggregate-export-with c = search needs
+
+slice-aggregate-export-with-2 : tie.Need-slice-aggregate-export-with-2
+slice-aggregate-export-with-2 c = search needs
+
+slice-aggregate-export-with-3 : tie.Need-slice-aggregate-export-with-3
+slice-aggregate-export-with-3 c = search needs
+
+slice-aggregate-export-with-4 : tie.Need-slice-aggregate-export-with-4
+slice-aggregate-export-with-4 c = search needs
+
+slice-aggregate-export-with-5 : tie.Need-slice-aggregate-export-with-5
+slice-aggregate-export-with-5 c = search needs
+
+slice-aggregate-export-with-6 : tie.Need-slice-aggregate-export-with-6
+slice-aggregate-export-with-6 c = search needs
+
+export-with-requires : tie.Need-export-with-requires
+export-with-requires c κs = let p = c .before .before .before .before .before .before .before .before .before .before .before .before .before .before .pre in (p, search needs, search needs, search needs, holds-of 127 _ _ _ _ (left-most _) refl refl refl)
+
+same-length : tie.Need-same-length
+same-length c = search needs
+
+returns : tie.Need-returns
+returns c = search needs
+
+pub export-many-spec : {M : Type 1} → statement M
+export-many-spec =
+    tie.close
+    (tie.spec
+    slice-aggregate-export-with
+    slice-aggregate-export-with-2
+    slice-aggregate-export-with-3
+    slice-aggregate-export-with-4
+    slice-aggregate-export-with-5
+    slice-aggregate-export-with-6
+    export-with-requires
+    same-length
+    returns)

@@ -1,0 +1,540 @@
+/*
+ * Calls every function of the C interface and compares what it answers: the
+ * worked links of document 01, each status, each refusal with its run and
+ * offset, what is written and what is left alone, and the links of
+ * bench/links (the folder is the first argument).
+ *
+ * A line for each group; the last line is 'N passed, M failed', in groups. The
+ * status is 0 only if nothing differed.
+ */
+#include "nakhshirul.h"
+
+#include <stdio.h>
+#include <string.h>
+
+/* ---- groups and checks */
+
+static unsigned checks, differences, passed, failed;
+
+static void check(int holds, const char *what, int line)
+{
+    checks++;
+    if (!holds) {
+        differences++;
+        printf("  line %d: %s\n", line, what);
+    }
+}
+
+#define CHECK(x) check((x), #x, __LINE__)
+
+static void group(const char *name, void (*run)(void))
+{
+    checks = 0;
+    differences = 0;
+    run();
+    printf("%s: %u checks, %u differ\n", name, checks, differences);
+    if (checks > 0 && differences == 0)
+        passed++;
+    else
+        failed++;
+}
+
+/* ---- calls, with guards around the reply */
+
+#define GUARD 0xA5A5A5A5A5A5A5A5u
+
+struct answer {
+    uint64_t status, first, second;
+};
+
+static uint64_t lent[4];
+
+static uint64_t *lend(void)
+{
+    lent[0] = lent[1] = lent[2] = lent[3] = GUARD;
+    return lent + 1;
+}
+
+static struct answer take(uint64_t status)
+{
+    struct answer r;
+    check(lent[0] == GUARD && lent[3] == GUARD, "only the two numbers of the reply are written", __LINE__);
+    r.status = status;
+    r.first = lent[1];
+    r.second = lent[2];
+    return r;
+}
+
+static int is(struct answer r, uint64_t status, uint64_t first, uint64_t second)
+{
+    if (r.status == status && r.first == first && r.second == second)
+        return 1;
+    printf("  answered %llu with %llu, %llu\n", (unsigned long long)r.status, (unsigned long long)r.first, (unsigned long long)r.second);
+    return 0;
+}
+
+static int refused(struct answer r, unsigned number, unsigned run, uint64_t offset)
+{
+    return is(r, NAKHSHIRUL_REFUSED + number, run, offset);
+}
+
+/* A link or a BGP-LS run. */
+struct run {
+    const uint8_t *bytes;
+    size_t len;
+};
+
+struct link {
+    struct run a, b, c;
+};
+
+static const uint8_t nothing[1] = {0};
+
+static struct run run_of(const uint8_t *bytes, size_t len)
+{
+    struct run r;
+    r.bytes = len > 0 ? bytes : nothing;
+    r.len = len;
+    return r;
+}
+
+#define RUN(x) run_of((x), sizeof(x))
+
+static struct link link_of(struct run a, struct run b, struct run c)
+{
+    struct link l;
+    l.a = a;
+    l.b = b;
+    l.c = c;
+    return l;
+}
+
+static struct link only_a(struct run a)
+{
+    return link_of(a, run_of(nothing, 0), run_of(nothing, 0));
+}
+
+#define LIST 1024
+
+static uint32_t list[LIST + 2];
+
+static struct answer ask_with(struct link l, unsigned who, uint64_t number, unsigned code, size_t room)
+{
+    memset(list, 0xEE, sizeof list);
+    return take(nakhshirul_ask(l.a.bytes, l.a.len, l.b.bytes, l.b.len, l.c.bytes, l.c.len, (uint8_t)who, number, (uint16_t)code, list + 1, room, lend()));
+}
+
+static struct answer ask(struct link l, unsigned who, uint64_t number, unsigned code)
+{
+    return ask_with(l, who, number, code, LIST);
+}
+
+static struct answer run_ask_with(struct run r, unsigned who, uint64_t number, unsigned code, size_t room)
+{
+    memset(list, 0xEE, sizeof list);
+    return take(nakhshirul_run_ask(r.bytes, r.len, (uint8_t)who, number, (uint16_t)code, list + 1, room, lend()));
+}
+
+static struct answer run_ask(struct run r, unsigned who, uint64_t number, unsigned code)
+{
+    return run_ask_with(r, who, number, code, LIST);
+}
+
+/* Whether everything from an entry of the list on, and the one before it, is as it was lent. */
+static int list_untouched_from(size_t n)
+{
+    size_t i;
+    if (list[0] != 0xEEEEEEEEu)
+        return 0;
+    for (i = n + 1; i < LIST + 2; i++)
+        if (list[i] != 0xEEEEEEEEu)
+            return 0;
+    return 1;
+}
+
+static struct answer value(struct link l, unsigned who, uint64_t number, unsigned code)
+{
+    return take(nakhshirul_value(l.a.bytes, l.a.len, l.b.bytes, l.b.len, l.c.bytes, l.c.len, (uint8_t)who, number, (uint16_t)code, lend()));
+}
+
+static struct answer run_value(struct run r, unsigned who, uint64_t number, unsigned code)
+{
+    return take(nakhshirul_run_value(r.bytes, r.len, (uint8_t)who, number, (uint16_t)code, lend()));
+}
+
+static struct answer named(struct link l)
+{
+    return take(nakhshirul_named(l.a.bytes, l.a.len, l.b.bytes, l.b.len, l.c.bytes, l.c.len, lend()));
+}
+
+static struct answer run_named(struct run r)
+{
+    return take(nakhshirul_run_named(r.bytes, r.len, lend()));
+}
+
+#define OUT 65536
+
+static uint8_t out[OUT + 2];
+
+static struct answer export_to(struct link l, size_t room)
+{
+    memset(out, 0xEE, sizeof out);
+    return take(nakhshirul_export(l.a.bytes, l.a.len, l.b.bytes, l.b.len, l.c.bytes, l.c.len, out + 1, room, lend()));
+}
+
+static int out_untouched_from(size_t n)
+{
+    size_t i;
+    if (out[0] != 0xEE)
+        return 0;
+    for (i = n + 1; i < OUT + 2; i++)
+        if (out[i] != 0xEE)
+            return 0;
+    return 1;
+}
+
+/* ---- the worked links of document 01 */
+
+#define M 0x12, 0x03, 0x00, 0x00, 0x0A
+#define S 0x10, 0x08, 0x01, 0x00, 0x40, 0x12, 0x03, 0x00, 0x00, 0x14
+#define G 0x10, 0x07, 0x00, 0x00, 0x12, 0x03, 0x00, 0x00, 0x1E
+#define Z 0x10, 0x03, 0x81, 0x00, 0x40
+
+static const uint8_t msg[] = {M, S, G};
+static const uint8_t mzg[] = {M, Z, G};
+static const uint8_t msz[] = {M, S, Z};
+static const uint8_t empty_named[] = {0x10, 0x03, 0x01, 0x00, 0x40, G};
+static const uint8_t no_bit[] = {0x10, 0x08, 0x01, 0x00, 0x00, 0x12, 0x03, 0x00, 0x00, 0x14, G};
+static const uint8_t bit_6[] = {0x10, 0x08, 0x01, 0x00, 0x02, 0x12, 0x03, 0x00, 0x00, 0x14};
+static const uint8_t two_naming[] = {S, 0x10, 0x08, 0x01, 0x00, 0x60, 0x12, 0x03, 0x00, 0x00, 0x15};
+static const uint8_t user_0[] = {0x10, 0x08, 0x00, 0x01, 0x80, 0x12, 0x03, 0x00, 0x00, 0x14, G};
+static const uint8_t long_mask[] = {0x10, 0x0B, 0x09, 0x00, 0xFF, 0xFF, 0xFF, 0xFF, 0xFF, 0xFF, 0xFF, 0xFF, 0xFF};
+static const uint8_t just_g[] = {G};
+
+/* A TLV 238 that names SR Policy, with a link identifier of type 4 and SRLG 7. */
+static const uint8_t srlg_7[] = {0xEE, 0x19, 1, 2, 3, 4, 5, 6, 7, 0x01, 0x00, 0x40, 0x0A, 0x04, 0x08, 0, 0, 0, 1, 0, 0, 0, 2, 0, 0, 0, 7};
+
+#define GENERAL NAKHSHIRUL_GENERAL
+#define STANDARD NAKHSHIRUL_STANDARD
+#define USER NAKHSHIRUL_USER
+
+static int metric(struct link l, unsigned who, uint64_t number, uint64_t expected)
+{
+    return is(ask(l, who, number, 1092), NAKHSHIRUL_NUMBER, expected, 0) && list_untouched_from(0);
+}
+
+static int absent(struct answer r)
+{
+    return is(r, NAKHSHIRUL_ABSENT, 0, 0);
+}
+
+static void worked_links(void)
+{
+    static const unsigned codes[] = {1088, 1089, 1090, 1091, 1092, 1096, 1114, 1115, 1116, 1117, 1118, 1119, 1120, 1173};
+    struct link l = only_a(run_of(nothing, 0));
+    size_t i;
+    for (i = 0; i < sizeof codes / sizeof codes[0]; i++) {
+        CHECK(absent(ask(l, GENERAL, 0, codes[i])));
+        CHECK(absent(ask(l, STANDARD, 0, codes[i])));
+        CHECK(absent(ask(l, STANDARD, 1, codes[i])));
+        CHECK(absent(ask(l, USER, 63, codes[i])));
+    }
+    l = only_a(RUN(msg));
+    CHECK(metric(l, STANDARD, 0, 10) && metric(l, STANDARD, 1, 20) && metric(l, STANDARD, 2, 30) && metric(l, USER, 5, 30));
+    CHECK(metric(l, GENERAL, 0, 30) && metric(l, GENERAL, 64, 30));
+    l = only_a(RUN(mzg));
+    CHECK(metric(l, STANDARD, 1, 10) && metric(l, STANDARD, 2, 30));
+    CHECK(metric(only_a(RUN(msz)), STANDARD, 1, 10));
+    l = only_a(RUN(empty_named));
+    CHECK(absent(ask(l, STANDARD, 1, 1092)) && metric(l, STANDARD, 2, 30));
+    CHECK(metric(only_a(RUN(no_bit)), STANDARD, 1, 30));
+    l = only_a(RUN(bit_6));
+    CHECK(metric(l, STANDARD, 6, 20) && absent(ask(l, STANDARD, 1, 1092)));
+    l = only_a(RUN(two_naming));
+    CHECK(metric(l, STANDARD, 1, 20) && metric(l, STANDARD, 2, 21));
+    l = only_a(RUN(user_0));
+    CHECK(metric(l, USER, 0, 20) && absent(ask(l, STANDARD, 0, 1092)) && metric(l, STANDARD, 1, 30));
+    CHECK(absent(ask(only_a(RUN(long_mask)), STANDARD, 1, 1092)));
+    l = link_of(RUN(just_g), RUN(srlg_7), run_of(nothing, 0));
+    CHECK(metric(l, STANDARD, 1, 30));
+    CHECK(is(ask(l, STANDARD, 1, 1096), NAKHSHIRUL_SRLGS, 1, 0) && list[1] == 7 && list_untouched_from(1));
+    CHECK(absent(ask(l, STANDARD, 2, 1096)));
+}
+
+/* ---- every status of a question */
+
+/* Legacy attributes of each form; the bandwidth is a NaN with a payload, the reservable one 1.0. */
+static const uint8_t each_form[] = {
+    0x03, 0x04, 0x80, 0x00, 0x00, 0x01,                                     /* administrative group */
+    0x09, 0x04, 0x7F, 0xA1, 0x23, 0x45,                                     /* maximum link bandwidth */
+    0x0A, 0x04, 0x3F, 0x80, 0x00, 0x00,                                     /* maximum reservable bandwidth */
+    0x22, 0x08, 0x80, 0x00, 0x00, 0x05, 0x00, 0x00, 0x00, 0x09,             /* minimum and maximum delay */
+    0x0E, 0x08, 1, 2, 3, 4, 5, 6, 7, 8,                                     /* extended administrative group */
+    0x25, 0x04, 0xFF, 0xFF, 0xFF, 0xFF,                                     /* residual bandwidth, a NaN */
+};
+static const uint8_t four_srlgs[] = {0, 0, 0, 9, 0xFF, 0xFF, 0xFF, 0xFF, 0, 0, 0, 9, 0, 0, 0, 2};
+
+static void readings(void)
+{
+    struct link l = link_of(RUN(each_form), run_of(nothing, 0), RUN(four_srlgs));
+    CHECK(is(ask(l, STANDARD, 0, 1088), NAKHSHIRUL_NUMBER, 0x80000001u, 0));
+    CHECK(is(ask(l, STANDARD, 0, 1115), NAKHSHIRUL_PAIR, 0x80000005u, 9));
+    CHECK(is(ask(l, STANDARD, 0, 1089), NAKHSHIRUL_BANDWIDTH, 0x7FA12345u, 0));
+    CHECK(is(ask(l, USER, 63, 1089), NAKHSHIRUL_BANDWIDTH, 0x7FA12345u, 0));
+    CHECK(is(ask(l, GENERAL, 0, 1090), NAKHSHIRUL_BANDWIDTH, 0x3F800000u, 0));
+    CHECK(is(ask(l, STANDARD, 0, 1118), NAKHSHIRUL_BANDWIDTH, 0xFFFFFFFFu, 0));
+    CHECK(absent(ask(l, STANDARD, 1, 1118)));
+    CHECK(is(ask(l, STANDARD, 0, 1173), NAKHSHIRUL_PLACE, 30, 8));
+    CHECK(list_untouched_from(0));
+    CHECK(is(ask(l, STANDARD, 0, 1096), NAKHSHIRUL_SRLGS, 3, 0));
+    CHECK(list[1] == 2 && list[2] == 9 && list[3] == 0xFFFFFFFFu && list_untouched_from(3));
+    CHECK(is(ask_with(l, STANDARD, 0, 1096, 3), NAKHSHIRUL_SRLGS, 3, 0) && list[3] == 0xFFFFFFFFu && list_untouched_from(3));
+    CHECK(refused(ask_with(l, STANDARD, 0, 1096, 2), NAKHSHIRUL_NO_ROOM, NAKHSHIRUL_RUN_A, 0) && list_untouched_from(0));
+    CHECK(absent(ask_with(l, STANDARD, 1, 1096, 0)));
+}
+
+static void values(void)
+{
+    struct link l = link_of(RUN(each_form), run_of(nothing, 0), RUN(four_srlgs));
+    CHECK(is(value(l, STANDARD, 0, 1088), NAKHSHIRUL_PLACE, 2, 4));
+    CHECK(is(value(l, STANDARD, 0, 1089), NAKHSHIRUL_PLACE, 8, 4));
+    CHECK(is(value(l, STANDARD, 0, 1115), NAKHSHIRUL_PLACE, 20, 8));
+    CHECK(is(value(l, STANDARD, 0, 1173), NAKHSHIRUL_PLACE, 30, 8));
+    CHECK(absent(value(l, STANDARD, 0, 1092)));
+    CHECK(absent(value(l, STANDARD, 0, 1096)));
+    CHECK(absent(value(l, STANDARD, 64, 1088)));
+    CHECK(absent(value(l, 3, 0, 1088)));
+    CHECK(absent(value(l, STANDARD, 0, 1122)));
+    l = only_a(RUN(msg));
+    CHECK(is(value(l, STANDARD, 0, 1092), NAKHSHIRUL_PLACE, 2, 3));
+    CHECK(is(value(l, STANDARD, 1, 1092), NAKHSHIRUL_PLACE, 12, 3));
+    CHECK(is(value(l, USER, 5, 1092), NAKHSHIRUL_PLACE, 21, 3));
+    CHECK(absent(value(only_a(run_of(msg, 8)), STANDARD, 0, 1092)));
+}
+
+static void names(void)
+{
+    static const uint8_t all[] = {0x10, 0x12, 0x08, 0x08, 0xFF, 0xFF, 0xFF, 0xFF, 0xFF, 0xFF, 0xFF, 0xFF, 0x80, 0, 0, 0, 0, 0, 0, 1};
+    CHECK(is(named(only_a(run_of(nothing, 0))), NAKHSHIRUL_NAMED, 0, 0));
+    CHECK(is(named(only_a(RUN(msg))), NAKHSHIRUL_NAMED, 2, 0));
+    CHECK(is(named(only_a(RUN(two_naming))), NAKHSHIRUL_NAMED, 6, 0));
+    CHECK(is(named(only_a(RUN(bit_6))), NAKHSHIRUL_NAMED, 64, 0));
+    CHECK(is(named(only_a(RUN(user_0))), NAKHSHIRUL_NAMED, 0, 1));
+    CHECK(is(named(only_a(RUN(all))), NAKHSHIRUL_NAMED, 0xFFFFFFFFFFFFFFFEu, 0x8000000000000001u));
+    CHECK(is(named(link_of(RUN(just_g), RUN(srlg_7), run_of(nothing, 0))), NAKHSHIRUL_NAMED, 2, 0));
+    CHECK(refused(named(only_a(run_of(msg, 4))), NAKHSHIRUL_CUT, NAKHSHIRUL_RUN_A, 0));
+}
+
+/* ---- the export */
+
+static const uint8_t msg_export[] = {
+    0x04, 0x44, 0x00, 0x04, 0x00, 0x00, 0x00, 0x0A, 0x04, 0x62, 0x00, 0x0C, 0x00, 0x00, 0x00,
+    0x00, 0x04, 0x44, 0x00, 0x04, 0x00, 0x00, 0x00, 0x1E, 0x04, 0x62, 0x00, 0x10, 0x04, 0x00,
+    0x00, 0x00, 0x40, 0x00, 0x00, 0x00, 0x04, 0x44, 0x00, 0x04, 0x00, 0x00, 0x00, 0x14,
+};
+
+static void exports(void)
+{
+    struct link l = only_a(RUN(msg));
+    CHECK(sizeof msg_export == 44);
+    CHECK(is(export_to(l, 44), NAKHSHIRUL_EXPORTED, 44, 0));
+    CHECK(memcmp(out + 1, msg_export, 44) == 0 && out_untouched_from(44));
+    CHECK(is(export_to(l, OUT), NAKHSHIRUL_EXPORTED, 44, 0));
+    CHECK(memcmp(out + 1, msg_export, 44) == 0 && out_untouched_from(44));
+    CHECK(refused(export_to(l, 43), NAKHSHIRUL_NO_ROOM, NAKHSHIRUL_RUN_A, 0) && out_untouched_from(0));
+    CHECK(refused(export_to(l, 0), NAKHSHIRUL_NO_ROOM, NAKHSHIRUL_RUN_A, 0) && out_untouched_from(0));
+    CHECK(is(export_to(only_a(run_of(nothing, 0)), 0), NAKHSHIRUL_EXPORTED, 0, 0) && out_untouched_from(0));
+    CHECK(is(export_to(only_a(RUN(empty_named)), OUT), NAKHSHIRUL_EXPORTED, 28, 0));
+    CHECK(refused(export_to(only_a(run_of(msg, 4)), OUT), NAKHSHIRUL_CUT, NAKHSHIRUL_RUN_A, 0) && out_untouched_from(0));
+}
+
+/* ---- refusals: number, run, offset, order */
+
+static uint8_t zeros[524289];
+
+static void refusals(void)
+{
+    static const uint8_t short_asla[] = {0x10, 0x01, 0x00};
+    static const uint8_t short_metric[] = {0x12, 0x02, 0x00, 0x0A};
+    static const uint8_t past_end[] = {M, 0x12, 0x03, 0x00, 0x00};
+    static const uint8_t inner_length[] = {M, 0x10, 0x06, 0x00, 0x00, 0x12, 0x02, 0x00, 0x14};
+    static const uint8_t short_238[] = {0xEE, 0x01, 0x00};
+    static const uint8_t framed_then_cut[] = {0x01, 0x00, 0xEE, 0x02, 0x00};
+    struct run none = run_of(nothing, 0);
+    struct link l = only_a(RUN(msg));
+    CHECK(refused(ask(only_a(RUN(short_asla)), STANDARD, 1, 1092), NAKHSHIRUL_CUT, NAKHSHIRUL_RUN_A, 0));
+    CHECK(refused(ask(only_a(RUN(short_metric)), STANDARD, 1, 1092), NAKHSHIRUL_LENGTH, NAKHSHIRUL_RUN_A, 0));
+    CHECK(refused(ask(only_a(RUN(past_end)), STANDARD, 1, 1092), NAKHSHIRUL_CUT, NAKHSHIRUL_RUN_A, 5));
+    CHECK(refused(ask(only_a(RUN(inner_length)), STANDARD, 1, 1092), NAKHSHIRUL_LENGTH, NAKHSHIRUL_RUN_A, 9));
+    CHECK(refused(ask(link_of(none, RUN(short_238), none), STANDARD, 1, 1092), NAKHSHIRUL_CUT, NAKHSHIRUL_RUN_B, 0));
+    CHECK(refused(named(link_of(none, RUN(framed_then_cut), none)), NAKHSHIRUL_CUT, NAKHSHIRUL_RUN_B, 2));
+    CHECK(refused(ask(link_of(none, none, run_of(msg, 5)), STANDARD, 1, 1092), NAKHSHIRUL_ODD_SRLGS, NAKHSHIRUL_RUN_A, 0));
+    CHECK(absent(ask(only_a(run_of(zeros, 2048)), STANDARD, 1, 1092)));
+    CHECK(refused(ask(only_a(run_of(zeros, 2049)), STANDARD, 1, 1092), NAKHSHIRUL_TOO_LONG, NAKHSHIRUL_RUN_A, 0));
+    CHECK(refused(ask(link_of(none, run_of(zeros, 2049), none), STANDARD, 1, 1092), NAKHSHIRUL_TOO_LONG, NAKHSHIRUL_RUN_A, 0));
+    CHECK(refused(ask(link_of(none, none, run_of(zeros, 1025)), STANDARD, 1, 1092), NAKHSHIRUL_TOO_LONG, NAKHSHIRUL_RUN_A, 0));
+    CHECK(metric(l, STANDARD, 63, 30) && metric(l, USER, 63, 30));
+    CHECK(refused(ask(l, STANDARD, 64, 1092), NAKHSHIRUL_NO_APPLICATION, NAKHSHIRUL_RUN_A, 0));
+    CHECK(refused(ask(l, USER, 64, 1092), NAKHSHIRUL_NO_APPLICATION, NAKHSHIRUL_RUN_A, 0));
+    CHECK(refused(ask(l, STANDARD, 0x100000001u, 1092), NAKHSHIRUL_NO_APPLICATION, NAKHSHIRUL_RUN_A, 0));
+    CHECK(refused(ask(l, USER, 0xFFFFFFFFFFFFFFFFu, 1092), NAKHSHIRUL_NO_APPLICATION, NAKHSHIRUL_RUN_A, 0));
+    CHECK(refused(ask(l, 3, 0, 1092), NAKHSHIRUL_NO_APPLICATION, NAKHSHIRUL_RUN_A, 0));
+    CHECK(refused(ask(only_a(run_of(zeros, 2049)), 255, 0, 1), NAKHSHIRUL_NO_APPLICATION, NAKHSHIRUL_RUN_A, 0));
+    CHECK(refused(ask(l, STANDARD, 1, 1122), NAKHSHIRUL_NO_KIND, NAKHSHIRUL_RUN_A, 0));
+    CHECK(refused(ask(only_a(run_of(zeros, 2049)), STANDARD, 1, 0), NAKHSHIRUL_NO_KIND, NAKHSHIRUL_RUN_A, 0));
+    CHECK(refused(ask(l, STANDARD, 64, 0), NAKHSHIRUL_NO_APPLICATION, NAKHSHIRUL_RUN_A, 0));
+    CHECK(refused(ask(link_of(RUN(past_end), RUN(short_238), run_of(msg, 5)), STANDARD, 1, 1092), NAKHSHIRUL_ODD_SRLGS, NAKHSHIRUL_RUN_A, 0));
+    CHECK(refused(ask(link_of(RUN(past_end), RUN(short_238), none), STANDARD, 1, 1092), NAKHSHIRUL_CUT, NAKHSHIRUL_RUN_A, 5));
+}
+
+/* ---- BGP-LS runs */
+
+static void runs(void)
+{
+    static const uint8_t form_each[] = {
+        0x04, 0x41, 0x00, 0x04, 0x7F, 0xA1, 0x23, 0x45,             /* 1089, a NaN */
+        0x04, 0x95, 0x00, 0x04, 0x00, 0x00, 0x00, 0x02,             /* 1173 */
+        0x04, 0x48, 0x00, 0x08, 0, 0, 0, 9, 0, 0, 0, 2,             /* 1096 */
+        0x04, 0x5B, 0x00, 0x08, 0, 0, 0, 1, 0, 0, 0, 3,             /* 1115 */
+    };
+    static const uint8_t bad_length[] = {0x00, 0x01, 0x00, 0x00, 0x04, 0x44, 0x00, 0x03, 0x00, 0x00, 0x0A};
+    static const uint8_t cut_header[] = {0x00, 0x01, 0x00, 0x00, 0x04, 0x44, 0x00};
+    struct run r = RUN(msg_export);
+    CHECK(is(run_ask(r, STANDARD, 0, 1092), NAKHSHIRUL_NUMBER, 10, 0));
+    CHECK(is(run_ask(r, STANDARD, 1, 1092), NAKHSHIRUL_NUMBER, 20, 0));
+    CHECK(is(run_ask(r, STANDARD, 2, 1092), NAKHSHIRUL_NUMBER, 30, 0));
+    CHECK(is(run_ask(r, USER, 5, 1092), NAKHSHIRUL_NUMBER, 30, 0));
+    CHECK(is(run_ask(r, GENERAL, 99, 1092), NAKHSHIRUL_NUMBER, 30, 0));
+    CHECK(is(run_value(r, STANDARD, 1, 1092), NAKHSHIRUL_PLACE, 40, 4));
+    CHECK(is(run_named(r), NAKHSHIRUL_NAMED, 2, 0));
+    CHECK(absent(run_ask(run_of(nothing, 0), GENERAL, 0, 1092)) && is(run_named(run_of(nothing, 0)), NAKHSHIRUL_NAMED, 0, 0));
+    r = RUN(form_each);
+    CHECK(is(run_ask(r, USER, 1, 1089), NAKHSHIRUL_BANDWIDTH, 0x7FA12345u, 0));
+    CHECK(is(run_ask(r, STANDARD, 0, 1173), NAKHSHIRUL_PLACE, 12, 4));
+    CHECK(is(run_ask(r, STANDARD, 0, 1096), NAKHSHIRUL_SRLGS, 2, 0) && list[1] == 2 && list[2] == 9 && list_untouched_from(2));
+    CHECK(refused(run_ask_with(r, STANDARD, 0, 1096, 1), NAKHSHIRUL_NO_ROOM, NAKHSHIRUL_RUN_A, 0) && list_untouched_from(0));
+    CHECK(is(run_ask(r, STANDARD, 0, 1115), NAKHSHIRUL_PAIR, 1, 3));
+    CHECK(absent(run_value(r, STANDARD, 0, 1096)));
+    CHECK(refused(run_ask(RUN(bad_length), GENERAL, 0, 1092), NAKHSHIRUL_LENGTH, NAKHSHIRUL_RUN_BGPLS, 4));
+    CHECK(refused(run_named(RUN(cut_header)), NAKHSHIRUL_CUT, NAKHSHIRUL_RUN_BGPLS, 4));
+    CHECK(absent(run_value(RUN(bad_length), GENERAL, 0, 1092)));
+    CHECK(refused(run_ask(r, 3, 0, 1092), NAKHSHIRUL_NO_APPLICATION, NAKHSHIRUL_RUN_A, 0));
+    CHECK(refused(run_ask(r, USER, 64, 1), NAKHSHIRUL_NO_APPLICATION, NAKHSHIRUL_RUN_A, 0));
+    CHECK(refused(run_ask(r, USER, 1, 1), NAKHSHIRUL_NO_KIND, NAKHSHIRUL_RUN_A, 0));
+    CHECK(absent(run_ask(run_of(zeros, 524288), GENERAL, 0, 1092)));
+    CHECK(refused(run_ask(run_of(zeros, 524289), GENERAL, 0, 1092), NAKHSHIRUL_TOO_LONG, NAKHSHIRUL_RUN_A, 0));
+}
+
+/* ---- the links of bench/links, and their exports */
+
+static const char *folder;
+
+static struct run read_file(const char *name, const char *ending, uint8_t *room, size_t size)
+{
+    char path[1024];
+    FILE *f;
+    size_t n = 0;
+    if (strlen(folder) + strlen(name) + strlen(ending) + 3 > sizeof path) {
+        check(0, "the folder's name is too long", __LINE__);
+        return run_of(room, 0);
+    }
+    strcpy(path, folder);
+    strcat(path, "/");
+    strcat(path, name);
+    strcat(path, ".");
+    strcat(path, ending);
+    f = fopen(path, "rb");
+    CHECK(f != NULL);
+    if (f != NULL) {
+        n = fread(room, 1, size, f);
+        fclose(f);
+    }
+    return run_of(room, n);
+}
+
+/* Whether a link and its export answer a question alike: numbers, bits, SRLGs and value bytes; places differ. */
+static int alike(struct link l, struct run r, unsigned who, uint64_t number, unsigned code)
+{
+    static uint32_t first[LIST + 2];
+    struct answer x = ask(l, who, number, code), y, p, q;
+    memcpy(first, list, sizeof list);
+    y = run_ask(r, who, number, code);
+    p = value(l, who, number, code);
+    q = run_value(r, who, number, code);
+    if (x.status != y.status || p.status != q.status || memcmp(first, list, sizeof list) != 0)
+        return 0;
+    if (x.status != NAKHSHIRUL_PLACE && !is(y, x.status, x.first, x.second))
+        return 0;
+    if (p.status != NAKHSHIRUL_PLACE)
+        return absent(p) && absent(q);
+    if (x.status == NAKHSHIRUL_PLACE && !(is(p, x.status, x.first, x.second) && is(q, y.status, y.first, y.second)))
+        return 0;
+    if (code == 1092)
+        return p.second == 3 && q.second == 4 && memcmp(l.a.bytes + p.first, r.bytes + q.first + 1, 3) == 0;
+    return p.second == q.second && memcmp(l.a.bytes + p.first, r.bytes + q.first, (size_t)p.second) == 0;
+}
+
+static void bench_link(const char *name)
+{
+    static const unsigned codes[] = {1088, 1089, 1090, 1091, 1092, 1096, 1114, 1115, 1116, 1117, 1118, 1119, 1120, 1173};
+    static uint8_t a[4096], b[4096], c[4096], exported[OUT];
+    struct link l;
+    struct run r;
+    struct answer x, y;
+    unsigned n;
+    size_t i;
+    l.a = read_file(name, "a", a, sizeof a);
+    l.b = read_file(name, "b", b, sizeof b);
+    l.c = read_file(name, "c", c, sizeof c);
+    r = read_file(name, "bgpls", exported, sizeof exported);
+    CHECK(r.len > 0 && r.len < OUT);
+    CHECK(is(export_to(l, r.len), NAKHSHIRUL_EXPORTED, r.len, 0));
+    CHECK(memcmp(out + 1, r.bytes, r.len) == 0 && out_untouched_from(r.len));
+    CHECK(refused(export_to(l, r.len - 1), NAKHSHIRUL_NO_ROOM, NAKHSHIRUL_RUN_A, 0) && out_untouched_from(0));
+    x = named(l);
+    y = run_named(r);
+    CHECK(x.status == NAKHSHIRUL_NAMED && is(y, x.status, x.first, x.second));
+    for (i = 0; i < sizeof codes / sizeof codes[0]; i++) {
+        CHECK(alike(l, r, GENERAL, 0, codes[i]));
+        for (n = 0; n < 64; n++) {
+            CHECK(alike(l, r, STANDARD, n, codes[i]));
+            CHECK(alike(l, r, USER, n, codes[i]));
+        }
+    }
+}
+
+static void bench_small(void)
+{
+    bench_link("small");
+}
+
+static void bench_medium(void)
+{
+    bench_link("medium");
+}
+
+static void bench_large(void)
+{
+    bench_link("large");
+}
+
+int main(int count, char **words)
+{
+    if (count != 2) {
+        fprintf(stderr, "usage: %s FOLDER-OF-LINKS\n", words[0]);
+        return 2;
+    }
+    folder = words[1];
+    group("worked links", worked_links);
+    group("readings", readings);
+    group("values", values);
+    group("named applications", names);
+    group("export", exports);
+    group("refusals", refusals);
+    group("BGP-LS runs", runs);
+    group("small link and its export", bench_small);
+    group("medium link and its export", bench_medium);
+    group("large link and its export", bench_large);
+    printf("%u passed, %u failed\n", passed, failed);
+    return failed == 0 && passed > 0 ? 0 : 1;
+}

@@ -1,0 +1,321 @@
+//! What a run of the test has reached.
+
+use std::collections::BTreeMap;
+
+use crate::calls::{function, Request, Subject, FUNCTIONS};
+use crate::expected::Outcome;
+use crate::reference::application::{rule, Advertisement, Application, Ignored, Rule, RSVP_TE};
+use crate::reference::bgp_ls::read_run;
+use crate::reference::export::groups;
+use crate::reference::kinds::CODES;
+use crate::reference::link::{named_on, read_link, Sides};
+use crate::reference::meaning;
+use crate::reference::reply::{Fault, Run};
+
+/// Counts of calls and of what the links and runs had in them.
+#[derive(Default)]
+pub struct Coverage {
+    pub calls: u64,
+    pub links: u64,
+    pub accepted_links: u64,
+    pub runs: u64,
+    pub accepted_runs: u64,
+    pub exported_runs: u64,
+    pub most_groups: usize,
+    pub longest_export: usize,
+    pub groups: u64,
+    statuses: BTreeMap<(usize, u64), u64>,
+    faults: BTreeMap<(&'static str, Fault), u64>,
+    kinds: BTreeMap<(usize, u16), u64>,
+    rules: BTreeMap<(&'static str, Rule), u64>,
+    ignored: BTreeMap<(&'static str, Ignored), u64>,
+    things: BTreeMap<&'static str, u64>,
+}
+
+/// The statuses that each function can give.
+const STATUSES: [&[u64]; 7] = [
+    &[0, 1, 2, 3, 4, 5, 129, 130, 131, 132, 133, 134, 135],
+    &[0, 4],
+    &[6, 129, 130, 131, 132],
+    &[7, 129, 130, 131, 132, 133],
+    &[0, 1, 2, 3, 4, 5, 129, 131, 132, 133, 134, 135],
+    &[0, 4],
+    &[6, 129, 131, 132],
+];
+
+/// The faults that each run can have.
+const FAULTS: [(&str, &[Fault]); 3] = [
+    (
+        "A",
+        &[
+            Fault::HeaderCut,
+            Fault::ValueCut,
+            Fault::FixedFieldsCut,
+            Fault::MasksCut,
+            Fault::KindLength,
+        ],
+    ),
+    (
+        "B",
+        &[
+            Fault::HeaderCut,
+            Fault::ValueCut,
+            Fault::FixedFieldsCut,
+            Fault::MasksCut,
+            Fault::ListLengthCut,
+            Fault::ListCut,
+            Fault::IdentifierLength,
+            Fault::SrlgsUneven,
+        ],
+    ),
+    (
+        "BGP-LS",
+        &[
+            Fault::HeaderCut,
+            Fault::ValueCut,
+            Fault::FixedFieldsCut,
+            Fault::MasksCut,
+            Fault::KindLength,
+        ],
+    ),
+];
+
+const RULES: [(&str, Rule); 6] = [
+    ("A", Rule::Legacy),
+    ("A", Rule::Naming),
+    ("A", Rule::General),
+    ("B", Rule::Legacy),
+    ("B", Rule::Naming),
+    ("B", Rule::General),
+];
+
+const IGNORED: [(&str, Ignored); 7] = [
+    ("A", Ignored::MaskLength),
+    ("A", Ignored::LegacyFlagForNobody),
+    ("B", Ignored::MaskLength),
+    ("B", Ignored::LegacyFlagForNobody),
+    ("B", Ignored::IdentifierRepeated),
+    ("B", Ignored::IdentifiersMissing),
+    ("BGP-LS", Ignored::MaskLength),
+];
+
+const THINGS: [&str; 22] = [
+    "A general",
+    "A naming",
+    "A neither",
+    "A with L",
+    "B general",
+    "B naming",
+    "B neither",
+    "B with L",
+    "BGP-LS general",
+    "BGP-LS naming",
+    "BGP-LS neither",
+    "RSVP-TE with L on A",
+    "RSVP-TE with L on B",
+    "a group of standard and user applications",
+    "A of 2048 bytes accepted",
+    "A of 2049 bytes",
+    "B of 2048 bytes accepted",
+    "B of 2049 bytes",
+    "C of 1024 bytes accepted",
+    "C of 1028 bytes",
+    "BGP-LS run of 524288 bytes accepted",
+    "BGP-LS run of 524289 bytes",
+];
+
+impl Coverage {
+    /// Counts one call.
+    pub fn call(&mut self, subject: &Subject, request: &Request, outcome: &Outcome) {
+        self.calls += 1;
+        let function = function(subject, request);
+        *self.statuses.entry((function, outcome.status)).or_default() += 1;
+        if let Some(refusal) = outcome.refusal {
+            let run = match refusal.run {
+                Run::A => "A",
+                Run::B => "B",
+                Run::BgpLs => "BGP-LS",
+            };
+            *self.faults.entry((run, refusal.fault)).or_default() += 1;
+        }
+        let code = match request {
+            Request::Ask { code, .. } | Request::Value { code, .. } => *code,
+            Request::Named | Request::Export { .. } => return,
+        };
+        if (1..=5).contains(&outcome.status) {
+            *self.kinds.entry((function, code)).or_default() += 1;
+        }
+    }
+
+    /// Counts what a link or a run has in it, once for all its calls.
+    pub fn subject(&mut self, subject: &Subject) {
+        match subject {
+            Subject::Link(link) => {
+                self.links += 1;
+                self.thing_if(link.a.len() == 2049, "A of 2049 bytes");
+                self.thing_if(link.b.len() == 2049, "B of 2049 bytes");
+                self.thing_if(link.c.len() == 1028, "C of 1028 bytes");
+                let Ok(sides) = read_link(link) else { return };
+                self.accepted_links += 1;
+                self.thing_if(link.a.len() == 2048, "A of 2048 bytes accepted");
+                self.thing_if(link.b.len() == 2048, "B of 2048 bytes accepted");
+                self.thing_if(link.c.len() == 1024, "C of 1024 bytes accepted");
+                self.sides(&sides);
+                let meaning = meaning::of_sides(link, &sides);
+                let groups = groups(&meaning.named);
+                self.groups += groups.len() as u64;
+                self.most_groups = self.most_groups.max(groups.len());
+                for (members, _) in groups {
+                    let user = |one: &Application| matches!(one, Application::User(_));
+                    if members.iter().any(user) && !members.iter().all(user) {
+                        self.thing("a group of standard and user applications");
+                    }
+                }
+            }
+            Subject::Run(run) => {
+                self.runs += 1;
+                self.thing_if(run.len() == 524_289, "BGP-LS run of 524289 bytes");
+                let Ok(reader) = read_run(run) else { return };
+                self.accepted_runs += 1;
+                self.thing_if(run.len() == 524_288, "BGP-LS run of 524288 bytes accepted");
+                for why in reader.ignored {
+                    *self.ignored.entry(("BGP-LS", why)).or_default() += 1;
+                }
+                for asla in reader.aslas {
+                    self.thing(pick(&asla, ["BGP-LS general", "BGP-LS naming", "BGP-LS neither"]));
+                }
+            }
+        }
+    }
+
+    fn sides(&mut self, sides: &Sides) {
+        for application in named_on(sides) {
+            *self.rules.entry(("A", rule(&sides.a.live, application))).or_default() += 1;
+            *self.rules.entry(("B", rule(&sides.b.live, application))).or_default() += 1;
+        }
+        for why in &sides.a.ignored {
+            *self.ignored.entry(("A", *why)).or_default() += 1;
+        }
+        for why in &sides.b.ignored {
+            *self.ignored.entry(("B", *why)).or_default() += 1;
+        }
+        for asla in &sides.a.live {
+            self.thing(pick(asla, ["A general", "A naming", "A neither"]));
+            if asla.legacy_flag {
+                self.thing("A with L");
+            }
+        }
+        for tlv in &sides.b.live {
+            self.thing(pick(tlv, ["B general", "B naming", "B neither"]));
+            if tlv.legacy_flag {
+                self.thing("B with L");
+            }
+        }
+        if rule(&sides.a.live, RSVP_TE) == Rule::Legacy {
+            self.thing("RSVP-TE with L on A");
+        }
+        if rule(&sides.b.live, RSVP_TE) == Rule::Legacy {
+            self.thing("RSVP-TE with L on B");
+        }
+    }
+
+    fn thing_if(&mut self, met: bool, thing: &'static str) {
+        if met {
+            self.thing(thing);
+        }
+    }
+
+    fn thing(&mut self, thing: &'static str) {
+        *self.things.entry(thing).or_default() += 1;
+    }
+
+    /// What was never reached.
+    pub fn missing(&self) -> Vec<String> {
+        let mut missing = Vec::new();
+        for (function, statuses) in STATUSES.iter().enumerate() {
+            for status in *statuses {
+                if !self.statuses.contains_key(&(function, *status)) {
+                    missing.push(format!("{} status {status}", FUNCTIONS[function]));
+                }
+            }
+        }
+        for (run, faults) in FAULTS {
+            for fault in faults {
+                if !self.faults.contains_key(&(run, *fault)) {
+                    missing.push(format!("{run} {fault:?}"));
+                }
+            }
+        }
+        // The value functions have no SRLGs.
+        for (function, codes) in [(0, 14), (1, 13), (4, 14), (5, 13)] {
+            let found = self.kinds.keys().filter(|(one, _)| *one == function).count();
+            if found < codes {
+                missing.push(format!("{} found {found} kinds of {codes}", FUNCTIONS[function]));
+            }
+        }
+        for one in RULES {
+            if !self.rules.contains_key(&one) {
+                missing.push(format!("{one:?}"));
+            }
+        }
+        for one in IGNORED {
+            if !self.ignored.contains_key(&one) {
+                missing.push(format!("{one:?}"));
+            }
+        }
+        for one in THINGS {
+            if !self.things.contains_key(one) {
+                missing.push(one.to_string());
+            }
+        }
+        missing
+    }
+
+    /// The counts, for a reader.
+    pub fn print(&self) {
+        println!(
+            "links {} (accepted {}), runs {} (accepted {}, of exports {})",
+            self.links, self.accepted_links, self.runs, self.accepted_runs, self.exported_runs
+        );
+        println!(
+            "exports: groups {}, most in one {}, longest {} bytes",
+            self.groups, self.most_groups, self.longest_export
+        );
+        for (function, name) in FUNCTIONS.iter().enumerate() {
+            let counts = self.statuses.iter().filter(|((one, _), _)| *one == function);
+            line(name, counts.map(|((_, status), n)| format!("{status}: {n}")));
+        }
+        for number in 1..=7 {
+            let counts = self.faults.iter().filter(|((_, fault), _)| fault.number() == number);
+            let texts = counts.map(|((run, fault), n)| match number {
+                3 | 4 => format!("{run} {fault:?}: {n}"),
+                _ => format!("{n}"),
+            });
+            line(&format!("refused by {number}"), texts);
+        }
+        for function in [0, 1, 4, 5] {
+            let counts = CODES.iter().filter_map(|code| {
+                Some(format!("{code}: {}", self.kinds.get(&(function, *code))?))
+            });
+            line(&format!("{} found", FUNCTIONS[function]), counts);
+        }
+        line("rules", self.rules.iter().map(|((side, rule), n)| format!("{side} {rule:?}: {n}")));
+        line("ignored", self.ignored.iter().map(|((side, why), n)| format!("{side} {why:?}: {n}")));
+        line("met", self.things.iter().map(|(thing, n)| format!("{thing}: {n}")));
+    }
+}
+
+/// Which of three an advertisement is: general, naming, neither.
+fn pick<T>(one: &Advertisement<T>, names: [&'static str; 3]) -> &'static str {
+    if one.masks.both_empty() {
+        names[0]
+    } else if one.masks.bits_set() > 0 {
+        names[1]
+    } else {
+        names[2]
+    }
+}
+
+fn line(name: &str, counts: impl Iterator<Item = String>) {
+    println!("{name}: {}", counts.collect::<Vec<String>>().join(", "));
+}

@@ -1,0 +1,20 @@
+//! A differential test of the library: a second implementation of the paper (document 01), written
+//! without regard to the first, a generator of links and runs, and a comparison of every answer.
+
+pub mod calls;
+pub mod compare;
+pub mod coverage;
+pub mod dense;
+pub mod expected;
+pub mod generator;
+pub mod limits;
+pub mod mutate;
+pub mod random;
+pub mod reference;
+pub mod runs;
+pub mod session;
+pub mod shrink;
+pub mod twins;
+
+#[cfg(test)]
+mod tests;

@@ -1,0 +1,14 @@
+//! The reference: the paper, document 01, as plain functions over vectors, one for each rule.
+//!
+//! It was written from the paper and the RFC texts alone, without a look at the library.
+
+pub mod application;
+pub mod bgp_ls;
+pub mod export;
+pub mod isis;
+pub mod kinds;
+pub mod link;
+pub mod meaning;
+pub mod reply;
+pub mod side_a;
+pub mod side_b;
