@@ -112,22 +112,25 @@ fn add_loss(line: &mut [u8], at: usize, x: u32) -> usize {
     add_text(line, d, b" %")
 }
 
-// A number of bits a second, in the unit that people use.
+// A number of thousandths, with three digits behind the point.
+fn add_thousandths(line: &mut [u8], at: usize, n: u64) -> usize {
+    let a = add_decimal(line, at, n / 1000);
+    let b = add_text(line, a, b".");
+    add_three(line, b, n)
+}
+
+// A number of bits a second, in the unit that people use, to the nearest thousandth.
 fn add_rate(line: &mut [u8], at: usize, n: u64) -> usize {
     if n < 1000000 {
         let a = add_decimal(line, at, n);
         return add_text(line, a, b" bit/s");
     }
-    if n < 1000000000 {
-        let a = add_decimal(line, at, n / 1000000);
-        let b = add_text(line, a, b".");
-        let c = add_three(line, b, n / 1000);
-        return add_text(line, c, b" Mbit/s");
+    if n < 999999500 {
+        let a = add_thousandths(line, at, n / 1000 + n % 1000 / 500);
+        return add_text(line, a, b" Mbit/s");
     }
-    let a = add_decimal(line, at, n / 1000000000);
-    let b = add_text(line, a, b".");
-    let c = add_three(line, b, n / 1000000);
-    add_text(line, c, b" Gbit/s")
+    let a = add_thousandths(line, at, n / 1000000 + n % 1000000 / 500000);
+    add_text(line, a, b" Gbit/s")
 }
 
 // The whole part of s times 2 to the e - 150; 0 where it has more than 64 bits.

@@ -32,6 +32,9 @@ fn in_group(leads: &[u32; 128], n: u32, m: u32) -> u32
     if m == n {
         return 0;
     }
+    if 127 < n {
+        return 0;
+    }
     if link_groups::lead_of(leads, m) == n {
         return 1;
     }
@@ -79,8 +82,11 @@ fn add_count(line: &mut [u8], at: usize, n: usize) -> usize {
     if n == 0 {
         return add_text(line, at, b"-");
     }
+    if n == 1 {
+        return add_text(line, at, b"1 SRLG:");
+    }
     let a = add_decimal(line, at, n as u64);
-    add_text(line, a, b" of them:")
+    add_text(line, a, b" SRLGs:")
 }
 
 // The bandwidth of one priority.
@@ -156,38 +162,38 @@ fn say_rest(line: &mut [u8], code: usize, v: &[u8]) {
 
 // ---- where from
 
-fn add_run(line: &mut [u8], at: usize, link: bool, code: usize) -> usize {
+// An offset in the run that a value of the code comes from.
+fn add_offset(line: &mut [u8], at: usize, link: bool, code: usize, offset: usize) -> usize {
     if !link {
-        return add_text(line, at, b"at ");
+        let a = add_text(line, at, b"at ");
+        return add_decimal(line, a, offset as u64);
     }
     if code == 1096 {
-        return add_text(line, at, b"at B ");
+        let a = add_text(line, at, b"B ");
+        return add_decimal(line, a, offset as u64);
     }
-    add_text(line, at, b"at A ")
+    let a = add_text(line, at, b"A ");
+    add_decimal(line, a, offset as u64)
 }
 
 // What an advertisement is called.
 fn add_kind_of(line: &mut [u8], at: usize, link: bool, code: usize) -> usize {
-    if !link {
-        return add_text(line, at, b"ASLA ");
+    if link {
+        if code == 1096 {
+            return add_text(line, at, b"TLV 238");
+        }
     }
-    if code == 1096 {
-        return add_text(line, at, b"TLV 238 ");
-    }
-    add_text(line, at, b"ASLA ")
+    add_text(line, at, b"ASLA")
 }
 
 // An advertisement by its place.
 fn add_holder(line: &mut [u8], at: usize, link: bool, code: usize, holder: Spot) -> usize {
+    let a = add_kind_of(line, at, link, code);
     match holder {
-        Spot::Nowhere => {
-            let a = add_text(line, at, b"no ");
-            add_kind_of(line, a, link, code)
-        }
+        Spot::Nowhere => a,
         Spot::At(offset) => {
-            let a = add_kind_of(line, at, link, code);
-            let b = add_run(line, a, link, code);
-            add_decimal(line, b, offset as u64)
+            let b = add_text(line, a, b" ");
+            add_offset(line, b, link, code, offset)
         }
     }
 }
@@ -198,8 +204,7 @@ fn add_place(line: &mut [u8], at: usize, link: bool, code: usize, place: usize) 
         return at;
     }
     let a = add_text(line, at, b"; value ");
-    let b = add_run(line, a, link, code);
-    add_decimal(line, b, place as u64)
+    add_offset(line, a, link, code, place)
 }
 
 // Legacy values: elements of A, or C.
@@ -210,10 +215,28 @@ fn add_legacy(line: &mut [u8], at: usize, code: usize) -> usize {
     add_text(line, at, b"legacy")
 }
 
+// The byte with the L-flag of an advertisement: behind type and length, and in a TLV 238 behind the neighbour too.
+fn l_flag_at(code: usize, holder: Spot) -> usize {
+    match holder {
+        Spot::Nowhere => 0,
+        Spot::At(offset) => {
+            if 2048 < offset {
+                return 0;
+            }
+            if code == 1096 {
+                return offset + 9;
+            }
+            offset + 2
+        }
+    }
+}
+
 fn add_l_flag(line: &mut [u8], at: usize, code: usize, holder: Spot) -> usize {
     let a = add_legacy(line, at, code);
-    let b = add_text(line, a, b", by the L-flag of ");
-    add_holder(line, b, true, code, holder)
+    let b = add_text(line, a, b" by the L-flag ");
+    let c = add_offset(line, b, true, code, l_flag_at(code, holder));
+    let d = add_text(line, c, b" of ");
+    add_holder(line, d, true, code, holder)
 }
 
 fn add_named(line: &mut [u8], at: usize, link: bool, code: usize, holder: Spot) -> usize {
@@ -221,33 +244,86 @@ fn add_named(line: &mut [u8], at: usize, link: bool, code: usize, holder: Spot) 
     add_text(line, a, b" names it")
 }
 
-fn add_general(line: &mut [u8], at: usize, link: bool, code: usize, holder: Spot) -> usize {
-    let a = add_text(line, at, b"general ");
+fn add_general(
+    line: &mut [u8],
+    at: usize,
+    front: &[u8],
+    link: bool,
+    code: usize,
+    holder: Spot,
+) -> usize {
+    let a = add_text(line, at, front);
     add_holder(line, a, link, code, holder)
 }
 
-fn add_fallback(line: &mut [u8], at: usize, link: bool, code: usize, holder: Spot) -> usize {
-    let a = add_text(line, at, b"not named: ");
-    add_general(line, a, link, code, holder)
-}
-
+// Where a value that is there comes from.
 fn add_how(line: &mut [u8], at: usize, link: bool, code: usize, how: How, holder: Spot) -> usize {
     match how {
         How::ByL => add_l_flag(line, at, code, holder),
         How::Named => add_named(line, at, link, code, holder),
-        How::General => add_general(line, at, link, code, holder),
-        How::Fallback => add_fallback(line, at, link, code, holder),
+        How::General => add_general(line, at, b"general ", link, code, holder),
+        How::Fallback => add_general(line, at, b"not named: general ", link, code, holder),
         How::Legacy => add_legacy(line, at, code),
         How::Carried => add_holder(line, at, link, code, holder),
         How::Top => add_text(line, at, b"top level"),
     }
 }
 
-fn add_source(line: &mut [u8], at: usize, link: bool, code: usize, source: Source) -> usize {
+// Why there is none.
+fn add_why_not(
+    line: &mut [u8],
+    at: usize,
+    link: bool,
+    code: usize,
+    how: How,
+    holder: Spot,
+) -> usize {
+    match how {
+        How::ByL => {
+            let a = add_l_flag(line, at, code, holder);
+            add_text(line, a, b": none")
+        }
+        How::Named => {
+            let a = add_named(line, at, link, code, holder);
+            add_text(line, a, b" and has none")
+        }
+        How::General => add_general(line, at, b"none in a general ", link, code, Spot::Nowhere),
+        How::Fallback => add_general(
+            line,
+            at,
+            b"not named; none in a general ",
+            link,
+            code,
+            Spot::Nowhere,
+        ),
+        How::Legacy => add_general(
+            line,
+            at,
+            b"no legacy value, and none in its ",
+            link,
+            code,
+            Spot::Nowhere,
+        ),
+        How::Carried => add_text(line, at, b"none"),
+        How::Top => add_text(line, at, b"none at the top level"),
+    }
+}
+
+fn add_source(
+    line: &mut [u8],
+    at: usize,
+    link: bool,
+    code: usize,
+    source: Source,
+    found: bool,
+) -> usize {
     let how = source.how;
     let holder = source.holder;
-    let a = add_how(line, at, link, code, how, holder);
-    add_place(line, a, link, code, source.place)
+    if found {
+        let a = add_how(line, at, link, code, how, holder);
+        return add_place(line, a, link, code, source.place);
+    }
+    add_why_not(line, at, link, code, how, holder)
 }
 
 fn source_of(link: bool, a: &[u8], b: &[u8], n: u32, code: usize) -> Source {
@@ -260,14 +336,22 @@ fn source_of(link: bool, a: &[u8], b: &[u8], n: u32, code: usize) -> Source {
 // ---- cells
 
 // A member of a group whose value comes from elsewhere than the first one's.
-fn say_member(line: &mut [u8], link: bool, code: usize, n: u32, first: Source, source: Source) {
+fn say_member(
+    line: &mut [u8],
+    link: bool,
+    code: usize,
+    n: u32,
+    first: Source,
+    source: Source,
+    found: bool,
+) {
     if link_sources::same_source(first, source) {
         return;
     }
-    let a = pad_to(line, 0, 62);
+    let a = pad_to(line, 0, 52);
     let b = link_words::add_application(line, a, n);
     let c = add_text(line, b, b": ");
-    let d = add_source(line, c, link, code, source);
+    let d = add_source(line, c, link, code, source, found);
     say_line(line, d);
 }
 
@@ -281,9 +365,18 @@ fn say_if_member(
     m: u32,
     code: usize,
     first: Source,
+    found: bool,
 ) {
     if in_group(leads, n, m) == 1 {
-        say_member(line, link, code, m, first, source_of(link, a, b, m, code));
+        say_member(
+            line,
+            link,
+            code,
+            m,
+            first,
+            source_of(link, a, b, m, code),
+            found,
+        );
     }
 }
 
@@ -296,10 +389,11 @@ fn say_members(
     n: u32,
     code: usize,
     first: Source,
+    found: bool,
 ) {
     let mut m: u32 = 0;
     while m < 128 {
-        say_if_member(line, link, a, b, leads, n, m, code, first);
+        say_if_member(line, link, a, b, leads, n, m, code, first, found);
         m += 1;
     }
 }
@@ -314,12 +408,13 @@ fn end_cell(
     leads: &[u32; 128],
     n: u32,
     code: usize,
+    found: bool,
 ) {
     let source = source_of(link, a, b, n, code);
     let s = pad_to(line, at, 62);
-    let e = add_source(line, s, link, code, source);
+    let e = add_source(line, s, link, code, source, found);
     say_line(line, e);
-    say_members(line, link, a, b, leads, n, code, source);
+    say_members(line, link, a, b, leads, n, code, source, found);
 }
 
 fn begin_cell(line: &mut [u8], leads: &[u32; 128], n: u32) -> usize {
@@ -341,7 +436,7 @@ fn say_srlg_cell(
     let k = srlgs_of(link, a, b, c, n, xs);
     let s = begin_cell(line, leads, n);
     let e = add_count(line, s, k);
-    end_cell(line, e, link, a, b, leads, n, 1096);
+    end_cell(line, e, link, a, b, leads, n, 1096, k != 0);
     if 0 < k {
         say_srlgs(line, &xs[0..k]);
     }
@@ -360,7 +455,7 @@ fn say_value_cell(
     let v = value_of(link, a, b, c, n, code);
     let s = begin_cell(line, leads, n);
     let e = add_value(line, s, code, v);
-    end_cell(line, e, link, a, b, leads, n, code);
+    end_cell(line, e, link, a, b, leads, n, code, v.len() != 0);
     say_rest(line, code, v);
 }
 
@@ -527,7 +622,7 @@ fn say_everyone(line: &mut [u8], link: bool, code: usize, v: &[u8], source: Sour
     let s = pad_to(line, w, 24);
     let e = add_value(line, s, code, v);
     let f = pad_to(line, e, 62);
-    let g = add_source(line, f, link, code, source);
+    let g = add_source(line, f, link, code, source, true);
     say_line(line, g);
 }
 
@@ -551,10 +646,15 @@ pub fn say_table(
     xs: &mut [u32],
 ) {
     say_heading(line);
+    say_kinds(line, link, a, b, c, leads, xs);
+    say_bandwidths(line, link, a, b, c);
+}
+
+// The rows of the link's three bandwidths.
+fn say_bandwidths(line: &mut [u8], link: bool, a: &[u8], b: &[u8], c: &[u8]) {
     say_bandwidth(line, link, a, b, c, 1089);
     say_bandwidth(line, link, a, b, c, 1090);
     say_bandwidth(line, link, a, b, c, 1091);
-    say_kinds(line, link, a, b, c, leads, xs);
 }
 
 // The rows of the applications' kinds.

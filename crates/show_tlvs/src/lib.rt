@@ -57,7 +57,7 @@ fn say_plain(line: &mut [u8], offset: usize, code: usize, v: &[u8], inner: bool)
 fn say_unknown(line: &mut [u8], offset: usize, code: usize, v: &[u8], inner: bool) {
     let a = add_head(line, offset, code, v.len(), inner);
     let b = pad_to(line, a, 56);
-    let c = add_text(line, b, b"passed over: no kind here");
+    let c = add_text(line, b, b"unknown: passed over");
     say_line(line, c);
     say_bytes(line, 0, 55, v);
 }

@@ -11,10 +11,10 @@ use Rattle.show_table.proofs.say_members.Lts as lts
 use Rattle.show_table.proofs.say_if_member.Reads as say-if-member-reads
 
 abbrev Inv-loop : tie.InvT-loop
-Inv-loop line₀ link a b leads n code first m₀ line m = (m ≤ 128) × (length line ≡ length line₀)
+Inv-loop line₀ link a b leads n code first found m₀ line m = (m ≤ 128) × (length line ≡ length line₀)
 
 abbrev μ-loop : tie.MeasureT-loop
-μ-loop line₀ link a b leads n code first m₀ line m = 128 - m
+μ-loop line₀ link a b leads n code first found m₀ line m = 128 - m
 
 loop-holds : tie.Need-loop-holds Inv-loop μ-loop
 loop-holds c = search needs
