@@ -178,12 +178,12 @@ pub fn first_such(s: &[u8], run: Run, test: Test) -> Spot {
     Spot::Nowhere
 }
 
-// The element that a place lies in.
+// The element whose value begins at a place, or has it inside. A value of no bytes begins at its element's end.
 pub fn holder_of(s: &[u8], run: Run, place: usize) -> Spot {
     let mut at = 0;
     while at < s.len() {
         let next = end_of(s, run, at);
-        if place < next {
+        if place <= next {
             return Spot::At(at);
         }
         at = next;

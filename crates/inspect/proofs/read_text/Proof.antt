@@ -1,4 +1,4 @@
--- Safe, and ends.
+-- `inspect::read_text` is safe and ends.
 -- Assumes nothing.
 use borrow.Author.Needs.{needs}
 use Prim.Native.Nat.{_*_, _-_, _≤_}
@@ -6,10 +6,6 @@ use mathlib.Core.Path.{_≡_}
 use lib.ListN.{length}
 use Rattle.inspect.proofs.read_text.Statement.{statement}
 use Rattle.inspect.proofs.read_text.Tie as tie
-use Rattle.inspect.proofs.read_text.Reads as reads
-use Rattle.inspect.proofs.read_text.Lts as lts
-use Rattle.inspect.proofs.read_block.Reads as read-block-reads
-use Rattle.inspect.proofs.read_more.Reads as read-more-reads
 
 abbrev Inv-loop : tie.InvT-loop
 Inv-loop fd text₀ n₀ k₀ text n k = (k ≤ 512) × (n ≤ 4096 * k) × (length text ≡ length text₀)

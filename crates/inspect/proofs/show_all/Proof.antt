@@ -1,4 +1,4 @@
--- Safe, and ends.
+-- `inspect::show_all` is safe and ends.
 -- Assumes nothing.
 use borrow.Author.Needs.{needs}
 use Prim.Native.Nat.{_-_}

@@ -6,13 +6,6 @@ use mathlib.Core.Path.{_≡_}
 use lib.ListN.{length}
 use Rattle.link_file.proofs.add_name.Statement.{statement}
 use Rattle.link_file.proofs.add_name.Tie as tie
-use Rattle.link_file.proofs.add_name.Reads as reads
-use Rattle.link_file.proofs.add_name.Lts as lts
-use Rattle.link_file.proofs.at_most.Reads as at-most-reads
-use Rattle.link_file.proofs.char_at.Reads as char-at-reads
-use Rattle.link_file.proofs.ends_name.Reads as ends-name-reads
-use Rattle.link_file.proofs.shown.Reads as shown-reads
-use Rattle.link_text.proofs.add_text.Reads as add-text-reads
 
 abbrev Inv-loop : tie.InvT-loop
 Inv-loop text n from line₀ at end₀ k₀ first line end k = (length line ≡ length line₀) × (first ≤ 2097153) × (k ≤ 80)

@@ -4,13 +4,6 @@ use borrow.Author.Needs.{needs}
 use Prim.Native.Nat.{_+_, _-_, _≤_}
 use Rattle.link_file.proofs.check_text.Statement.{statement}
 use Rattle.link_file.proofs.check_text.Tie as tie
-use Rattle.link_file.proofs.check_text.Reads as reads
-use Rattle.link_file.proofs.check_text.Lts as lts
-use Rattle.link_file.proofs.at_most.Reads as at-most-reads
-use Rattle.link_file.proofs.begins.Reads as begins-reads
-use Rattle.link_file.proofs.char_at.Reads as char-at-reads
-use Rattle.link_file.proofs.is_end.Reads as is-end-reads
-use Rattle.link_file.proofs.read_char.Reads as read-char-reads
 
 abbrev Inv-loop : tie.InvT-loop
 Inv-loop text n mode₀ line₀ begun₀ i₀ end mode line begun i = (end ≤ 2097153) × (line ≤ i + 1) × (begun ≤ i)

@@ -6,13 +6,6 @@ use mathlib.Core.Path.{_≡_}
 use lib.ListN.{length}
 use Rattle.link_file.proofs.decode.Statement.{statement}
 use Rattle.link_file.proofs.decode.Tie as tie
-use Rattle.link_file.proofs.decode.Reads as reads
-use Rattle.link_file.proofs.decode.Lts as lts
-use Rattle.link_file.proofs.at_most.Reads as at-most-reads
-use Rattle.link_file.proofs.char_at.Reads as char-at-reads
-use Rattle.link_file.proofs.first_mode.Reads as first-mode-reads
-use Rattle.link_file.proofs.keep_byte.Reads as keep-byte-reads
-use Rattle.link_file.proofs.read_char.Reads as read-char-reads
 
 abbrev Inv-loop : tie.InvT-loop
 Inv-loop text n from to run out₀ mode₀ k₀ i₀ end out mode k i = (length out ≡ length out₀) × (end ≤ 2097152) × (k ≤ i)

@@ -4,14 +4,6 @@ use borrow.Author.Needs.{needs}
 use Prim.Native.Nat.{_-_, _≤_}
 use Rattle.link_file.proofs.section_at.Statement.{statement}
 use Rattle.link_file.proofs.section_at.Tie as tie
-use Rattle.link_file.proofs.section_at.Reads as reads
-use Rattle.link_file.proofs.section_at.Lts as lts
-use Rattle.link_file.proofs.at_most.Reads as at-most-reads
-use Rattle.link_file.proofs.begins_link.Reads as begins-link-reads
-use Rattle.link_file.proofs.begins_run.Reads as begins-run-reads
-use Rattle.link_file.proofs.char_at.Reads as char-at-reads
-use Rattle.link_file.proofs.first_mode.Reads as first-mode-reads
-use Rattle.link_file.proofs.read_char.Reads as read-char-reads
 
 abbrev Inv-loop : tie.InvT-loop
 Inv-loop text n from mode₀ link₀ run₀ i₀ end mode link run i = end ≤ 2097153

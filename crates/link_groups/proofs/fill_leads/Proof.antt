@@ -6,10 +6,6 @@ use mathlib.Core.Path.{_≡_}
 use lib.ListN.{length}
 use Rattle.link_groups.proofs.fill_leads.Statement.{statement}
 use Rattle.link_groups.proofs.fill_leads.Tie as tie
-use Rattle.link_groups.proofs.fill_leads.Reads as reads
-use Rattle.link_groups.proofs.fill_leads.Lts as lts
-use Rattle.link_groups.proofs.lead_if_named.Reads as lead-if-named-reads
-use Rattle.show_lines.proofs.is_in.Reads as is-in-reads
 
 abbrev Inv-loop : tie.InvT-loop
 Inv-loop link a b c standard user leads₀ xs₀ ys₀ n₀ leads xs ys n = (n ≤ 128) × (length xs ≡ length xs₀) × (length ys ≡ length ys₀)

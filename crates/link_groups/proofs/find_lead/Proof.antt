@@ -6,9 +6,6 @@ use mathlib.Core.Path.{_≡_}
 use lib.ListN.{length}
 use Rattle.link_groups.proofs.find_lead.Statement.{statement}
 use Rattle.link_groups.proofs.find_lead.Tie as tie
-use Rattle.link_groups.proofs.find_lead.Reads as reads
-use Rattle.link_groups.proofs.find_lead.Lts as lts
-use Rattle.link_groups.proofs.leads_to.Reads as leads-to-reads
 
 abbrev Inv-loop : tie.InvT-loop
 Inv-loop link a b c n leads xs₀ ys₀ m₀ xs ys m = (length xs ≡ length xs₀) × (length ys ≡ length ys₀)

@@ -4,10 +4,6 @@ use borrow.Author.Needs.{needs}
 use Prim.Native.Nat.{_-_, _≤_}
 use Rattle.link_groups.proofs.same_values.Statement.{statement}
 use Rattle.link_groups.proofs.same_values.Tie as tie
-use Rattle.link_groups.proofs.same_values.Reads as reads
-use Rattle.link_groups.proofs.same_values.Lts as lts
-use Rattle.link_groups.proofs.code_of.Reads as code-of-reads
-use Rattle.link_groups.proofs.same_value.Reads as same-value-reads
 
 abbrev Inv-loop : tie.InvT-loop
 Inv-loop link a b c m n k₀ k = k ≤ 11

@@ -5,8 +5,6 @@ use Prim.Native.Nat.{_-_, _≤_}
 use lib.ListN.{length}
 use Rattle.link_groups.proofs.same_words.Statement.{statement}
 use Rattle.link_groups.proofs.same_words.Tie as tie
-use Rattle.link_groups.proofs.same_words.Reads as reads
-use Rattle.link_groups.proofs.same_words.Lts as lts
 
 abbrev Inv-loop : tie.InvT-loop
 Inv-loop x y i₀ i = i ≤ length x

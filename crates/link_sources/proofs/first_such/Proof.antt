@@ -5,10 +5,6 @@ use Prim.Native.Nat.{_-_, _≤_}
 use lib.ListN.{length}
 use Rattle.link_sources.proofs.first_such.Statement.{statement}
 use Rattle.link_sources.proofs.first_such.Tie as tie
-use Rattle.link_sources.proofs.first_such.Reads as reads
-use Rattle.link_sources.proofs.first_such.Lts as lts
-use Rattle.link_sources.proofs.end_of.Reads as end-of-reads
-use Rattle.link_sources.proofs.is_such.Reads as is-such-reads
 
 abbrev Inv-loop : tie.InvT-loop
 Inv-loop s run test at₀ at = at ≤ length s

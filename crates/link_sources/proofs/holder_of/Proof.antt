@@ -5,9 +5,6 @@ use Prim.Native.Nat.{_-_, _≤_}
 use lib.ListN.{length}
 use Rattle.link_sources.proofs.holder_of.Statement.{statement}
 use Rattle.link_sources.proofs.holder_of.Tie as tie
-use Rattle.link_sources.proofs.holder_of.Reads as reads
-use Rattle.link_sources.proofs.holder_of.Lts as lts
-use Rattle.link_sources.proofs.end_of.Reads as end-of-reads
 
 abbrev Inv-loop : tie.InvT-loop
 Inv-loop s run place at₀ at = at ≤ length s

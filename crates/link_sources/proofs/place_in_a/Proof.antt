@@ -9,11 +9,6 @@ use Rattle.replies.specs.Told.{subjectOf, toldChecked}
 use borrow.Author.Needs.{needs}
 use Rattle.link_sources.proofs.place_in_a.Statement.{statement}
 use Rattle.link_sources.proofs.place_in_a.Tie as tie
-use Rattle.link_sources.proofs.place_in_a.Reads as reads
-use Rattle.link_sources.proofs.place_in_a.Lts as lts
-use Rattle.answering.proofs.check_question.Reads as check-question-reads
-use Rattle.isis_check_a.proofs.check_a.Reads as check-a-reads
-use Rattle.isis_values.proofs.find_row.Reads as find-row-reads
 
 check-question-requires : tie.Need-check-question-requires
 check-question-requires c κs = search needs

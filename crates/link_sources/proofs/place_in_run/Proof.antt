@@ -5,11 +5,6 @@ use Rattle.replies.specs.Told.{toldChecked}
 use borrow.Author.Needs.{needs}
 use Rattle.link_sources.proofs.place_in_run.Statement.{statement}
 use Rattle.link_sources.proofs.place_in_run.Tie as tie
-use Rattle.link_sources.proofs.place_in_run.Reads as reads
-use Rattle.link_sources.proofs.place_in_run.Lts as lts
-use Rattle.bgpls_check.proofs.check_run.Reads as check-run-reads
-use Rattle.bgpls_values.proofs.find_value.Reads as find-value-reads
-use Rattle.replies.proofs.number_too_high.Reads as number-too-high-reads
 
 number-too-high-requires : tie.Need-number-too-high-requires
 number-too-high-requires c κs = search needs

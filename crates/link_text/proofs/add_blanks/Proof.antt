@@ -6,9 +6,6 @@ use Rattle.link_text.specs.Text.{blanks}
 use borrow.Author.Needs.{needs}
 use Rattle.link_text.proofs.add_blanks.Statement.{statement}
 use Rattle.link_text.proofs.add_blanks.Tie as tie
-use Rattle.link_text.proofs.add_blanks.Reads as reads
-use Rattle.link_text.proofs.add_blanks.Lts as lts
-use Rattle.link_text.proofs.add_text.Reads as add-text-reads
 
 array-share-prefix-text : tie.Need-array-share-prefix-text
 array-share-prefix-text c = search needs

@@ -3,10 +3,6 @@
 use borrow.Author.Needs.{needs}
 use Rattle.link_text.proofs.add_decimal.Statement.{statement}
 use Rattle.link_text.proofs.add_decimal.Tie as tie
-use Rattle.link_text.proofs.add_decimal.Reads as reads
-use Rattle.link_text.proofs.add_decimal.Lts as lts
-use Rattle.io.proofs.decimal.Reads as decimal-reads
-use Rattle.link_text.proofs.add_text.Reads as add-text-reads
 
 decimal-requires : tie.Need-decimal-requires
 decimal-requires c κs = search needs

@@ -4,10 +4,6 @@ use Rattle.link_text.specs.Text.{hexPair}
 use borrow.Author.Needs.{needs}
 use Rattle.link_text.proofs.add_hex.Statement.{statement}
 use Rattle.link_text.proofs.add_hex.Tie as tie
-use Rattle.link_text.proofs.add_hex.Reads as reads
-use Rattle.link_text.proofs.add_hex.Lts as lts
-use Rattle.link_text.proofs.add_text.Reads as add-text-reads
-use Rattle.link_text.proofs.hex_glyph.Reads as hex-glyph-reads
 
 hex-glyph-requires : tie.Need-hex-glyph-requires
 hex-glyph-requires c κs = search needs

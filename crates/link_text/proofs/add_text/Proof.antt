@@ -6,9 +6,6 @@ use Rattle.link_text.proofs.Laws.{past, no-room, room}
 use borrow.Author.Needs.{needs}
 use Rattle.link_text.proofs.add_text.Statement.{statement}
 use Rattle.link_text.proofs.add_text.Tie as tie
-use Rattle.link_text.proofs.add_text.Reads as reads
-use Rattle.link_text.proofs.add_text.Lts as lts
-use Rattle.octets.proofs.copy_all.Reads as copy-all-reads
 
 returns : tie.Need-returns
 returns c = let a = c .before .before .before .args in past (now (a .line)) (a .at) (now (a .s)) (c .if1 .taken)

@@ -5,8 +5,6 @@ use Rattle.link_text.proofs.Laws.{is-decimal, is-upper, is-lower, befor
 use borrow.Author.Needs.{needs}
 use Rattle.link_text.proofs.digit_of.Statement.{statement}
 use Rattle.link_text.proofs.digit_of.Tie as tie
-use Rattle.link_text.proofs.digit_of.Reads as reads
-use Rattle.link_text.proofs.digit_of.Lts as lts
 
 sub-result : tie.Need-sub-result
 sub-result c = search needs

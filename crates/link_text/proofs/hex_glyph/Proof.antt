@@ -4,8 +4,6 @@ use Rattle.link_text.proofs.Laws.{glyph-decimal, glyph-letter}
 use borrow.Author.Needs.{needs}
 use Rattle.link_text.proofs.hex_glyph.Statement.{statement}
 use Rattle.link_text.proofs.hex_glyph.Tie as tie
-use Rattle.link_text.proofs.hex_glyph.Reads as reads
-use Rattle.link_text.proofs.hex_glyph.Lts as lts
 
 add-result : tie.Need-add-result
 add-result c = search needs

@@ -5,9 +5,6 @@ use borrow.Author.Tests.{lt-ltb, le-ltb}
 use borrow.Author.Needs.{needs}
 use Rattle.link_text.proofs.pad_to.Statement.{statement}
 use Rattle.link_text.proofs.pad_to.Tie as tie
-use Rattle.link_text.proofs.pad_to.Reads as reads
-use Rattle.link_text.proofs.pad_to.Lts as lts
-use Rattle.link_text.proofs.add_blanks.Reads as add-blanks-reads
 
 sub-add-blanks : tie.Need-sub-add-blanks
 sub-add-blanks c = search needs

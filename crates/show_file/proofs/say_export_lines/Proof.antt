@@ -1,4 +1,4 @@
--- Safe, and ends.
+-- `show_file::say_export_lines` is safe and ends.
 -- Assumes nothing.
 use borrow.Author.Needs.{needs}
 use Prim.Native.Nat.{_-_, _≤_}
@@ -6,12 +6,6 @@ use mathlib.Core.Path.{_≡_}
 use lib.ListN.{length}
 use Rattle.show_file.proofs.say_export_lines.Statement.{statement}
 use Rattle.show_file.proofs.say_export_lines.Tie as tie
-use Rattle.show_file.proofs.say_export_lines.Reads as reads
-use Rattle.show_file.proofs.say_export_lines.Lts as lts
-use Rattle.link_text.proofs.add_text.Reads as add-text-reads
-use Rattle.show_file.proofs.share.Reads as share-reads
-use Rattle.show_lines.proofs.add_bytes.Reads as add-bytes-reads
-use Rattle.show_lines.proofs.say_line.Reads as say-line-reads
 
 abbrev Inv-loop : tie.InvT-loop
 Inv-loop line₀ s i₀ t7 line i = (i ≤ length s) × (length line ≡ length line₀)

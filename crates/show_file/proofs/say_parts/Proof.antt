@@ -1,4 +1,4 @@
--- Safe, and ends.
+-- `show_file::say_parts` is safe and ends.
 -- Assumes nothing.
 use borrow.Author.Needs.{needs}
 use Prim.Native.Nat.{_+_, _-_}
@@ -6,11 +6,6 @@ use mathlib.Core.Path.{_≡_}
 use lib.ListN.{length}
 use Rattle.show_file.proofs.say_parts.Statement.{statement}
 use Rattle.show_file.proofs.say_parts.Tie as tie
-use Rattle.show_file.proofs.say_parts.Reads as reads
-use Rattle.show_file.proofs.say_parts.Lts as lts
-use Rattle.link_file.proofs.section_at.Reads as section-at-reads
-use Rattle.show_file.proofs.part_after.Reads as part-after-reads
-use Rattle.show_file.proofs.say_if_part.Reads as say-if-part-reads
 
 abbrev Inv-loop : tie.InvT-loop
 Inv-loop text n write line₀ from₀ line from = length line ≡ length line₀

@@ -6,10 +6,6 @@ use mathlib.Core.Path.{_≡_}
 use lib.ListN.{length}
 use Rattle.show_lines.proofs.add_bytes.Statement.{statement}
 use Rattle.show_lines.proofs.add_bytes.Tie as tie
-use Rattle.show_lines.proofs.add_bytes.Reads as reads
-use Rattle.show_lines.proofs.add_bytes.Lts as lts
-use Rattle.link_text.proofs.add_hex.Reads as add-hex-reads
-use Rattle.link_text.proofs.add_text.Reads as add-text-reads
 
 abbrev Inv-loop : tie.InvT-loop
 Inv-loop line₀ at s end₀ i₀ t7 line end i = (i ≤ length s) × (length line ≡ length line₀)

@@ -6,11 +6,6 @@ use mathlib.Core.Path.{_≡_}
 use lib.ListN.{length}
 use Rattle.show_lines.proofs.say_applications.Statement.{statement}
 use Rattle.show_lines.proofs.say_applications.Tie as tie
-use Rattle.show_lines.proofs.say_applications.Reads as reads
-use Rattle.show_lines.proofs.say_applications.Lts as lts
-use Rattle.show_lines.proofs.add_if_member.Reads as add-if-member-reads
-use Rattle.show_lines.proofs.end_list.Reads as end-list-reads
-use Rattle.show_lines.proofs.is_in.Reads as is-in-reads
 
 abbrev Inv-loop : tie.InvT-loop
 Inv-loop line₀ at column standard user end₀ first₀ n₀ line end first n = (n ≤ 128) × (length line ≡ length line₀)

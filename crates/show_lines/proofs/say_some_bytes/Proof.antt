@@ -6,12 +6,6 @@ use mathlib.Core.Path.{_≡_}
 use lib.ListN.{length}
 use Rattle.show_lines.proofs.say_some_bytes.Statement.{statement}
 use Rattle.show_lines.proofs.say_some_bytes.Tie as tie
-use Rattle.show_lines.proofs.say_some_bytes.Reads as reads
-use Rattle.show_lines.proofs.say_some_bytes.Lts as lts
-use Rattle.link_text.proofs.pad_to.Reads as pad-to-reads
-use Rattle.show_lines.proofs.add_bytes.Reads as add-bytes-reads
-use Rattle.show_lines.proofs.say_line.Reads as say-line-reads
-use Rattle.show_lines.proofs.share.Reads as share-reads
 
 abbrev Inv-loop : tie.InvT-loop
 Inv-loop line₀ at column s end₀ i₀ line end i = (i ≤ length s) × (length line ≡ length line₀)

@@ -1,4 +1,4 @@
--- Safe, and ends.
+-- `show_table::add_others` is safe and ends.
 -- Assumes nothing.
 use borrow.Author.Needs.{needs}
 use Prim.Native.Nat.{_-_, _≤_}
@@ -6,9 +6,6 @@ use mathlib.Core.Path.{_≡_}
 use lib.ListN.{length}
 use Rattle.show_table.proofs.add_others.Statement.{statement}
 use Rattle.show_table.proofs.add_others.Tie as tie
-use Rattle.show_table.proofs.add_others.Reads as reads
-use Rattle.show_table.proofs.add_others.Lts as lts
-use Rattle.show_table.proofs.add_if_in.Reads as add-if-in-reads
 
 abbrev Inv-loop : tie.InvT-loop
 Inv-loop line₀ at leads n end₀ m₀ line end m = (m ≤ 128) × (length line ≡ length line₀)

@@ -1,4 +1,4 @@
--- Safe, and ends.
+-- `show_table::is_present` is safe and ends.
 -- Assumes nothing.
 use borrow.Author.Needs.{needs}
 use Prim.Native.Nat.{_-_, _≤_}
@@ -6,9 +6,6 @@ use mathlib.Core.Path.{_≡_}
 use lib.ListN.{length}
 use Rattle.show_table.proofs.is_present.Statement.{statement}
 use Rattle.show_table.proofs.is_present.Tie as tie
-use Rattle.show_table.proofs.is_present.Reads as reads
-use Rattle.show_table.proofs.is_present.Lts as lts
-use Rattle.show_table.proofs.column_has.Reads as column-has-reads
 
 abbrev Inv-loop : tie.InvT-loop
 Inv-loop link a b c leads code xs₀ n₀ xs n = (n ≤ 129) × (length xs ≡ length xs₀)

@@ -1,4 +1,4 @@
--- Safe, and ends.
+-- `show_table::more_in` is safe and ends.
 -- Assumes nothing.
 use borrow.Author.Needs.{needs}
 use Prim.Native.Nat.{_-_, _≤_}
@@ -6,9 +6,6 @@ use mathlib.Core.Path.{_≡_}
 use lib.ListN.{length}
 use Rattle.show_table.proofs.more_in.Statement.{statement}
 use Rattle.show_table.proofs.more_in.Tie as tie
-use Rattle.show_table.proofs.more_in.Reads as reads
-use Rattle.show_table.proofs.more_in.Lts as lts
-use Rattle.show_table.proofs.in_group.Reads as in-group-reads
 
 abbrev Inv-loop : tie.InvT-loop
 Inv-loop leads n k₀ m₀ k m = (m ≤ 128) × (k ≤ m)

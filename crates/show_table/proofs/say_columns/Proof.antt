@@ -1,4 +1,4 @@
--- Safe, and ends.
+-- `show_table::say_columns` is safe and ends.
 -- Assumes nothing.
 use borrow.Author.Needs.{needs}
 use Prim.Native.Nat.{_-_, _≤_}
@@ -6,10 +6,6 @@ use mathlib.Core.Path.{_≡_}
 use lib.ListN.{length}
 use Rattle.show_table.proofs.say_columns.Statement.{statement}
 use Rattle.show_table.proofs.say_columns.Tie as tie
-use Rattle.show_table.proofs.say_columns.Reads as reads
-use Rattle.show_table.proofs.say_columns.Lts as lts
-use Rattle.show_table.proofs.column_at.Reads as column-at-reads
-use Rattle.show_table.proofs.say_if_column.Reads as say-if-column-reads
 
 abbrev Inv-loop : tie.InvT-loop
 Inv-loop line₀ link a b c leads code xs₀ i₀ line xs i = (i ≤ 129) × (length line ≡ length line₀) × (length xs ≡ length xs₀)

@@ -1,4 +1,4 @@
--- Safe, and ends.
+-- `show_table::say_groups` is safe and ends.
 -- Assumes nothing.
 use borrow.Author.Needs.{needs}
 use Prim.Native.Nat.{_-_, _≤_}
@@ -6,9 +6,6 @@ use mathlib.Core.Path.{_≡_}
 use lib.ListN.{length}
 use Rattle.show_table.proofs.say_groups.Statement.{statement}
 use Rattle.show_table.proofs.say_groups.Tie as tie
-use Rattle.show_table.proofs.say_groups.Reads as reads
-use Rattle.show_table.proofs.say_groups.Lts as lts
-use Rattle.show_table.proofs.say_if_group.Reads as say-if-group-reads
 
 abbrev Inv-loop : tie.InvT-loop
 Inv-loop line₀ leads n₀ line n = (n ≤ 128) × (length line ≡ length line₀)

@@ -1,4 +1,4 @@
--- Safe, and ends.
+-- `show_table::say_kinds` is safe and ends.
 -- Assumes nothing.
 use borrow.Author.Needs.{needs}
 use Prim.Native.Nat.{_-_, _≤_}
@@ -6,10 +6,6 @@ use mathlib.Core.Path.{_≡_}
 use lib.ListN.{length}
 use Rattle.show_table.proofs.say_kinds.Statement.{statement}
 use Rattle.show_table.proofs.say_kinds.Tie as tie
-use Rattle.show_table.proofs.say_kinds.Reads as reads
-use Rattle.show_table.proofs.say_kinds.Lts as lts
-use Rattle.link_groups.proofs.code_of.Reads as code-of-reads
-use Rattle.show_table.proofs.say_kind.Reads as say-kind-reads
 
 abbrev Inv-loop : tie.InvT-loop
 Inv-loop line₀ link a b c leads xs₀ k₀ line xs k = (k ≤ 11) × (length line ≡ length line₀) × (length xs ≡ length xs₀)

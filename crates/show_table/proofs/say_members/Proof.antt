@@ -1,4 +1,4 @@
--- Safe, and ends.
+-- `show_table::say_members` is safe and ends.
 -- Assumes nothing.
 use borrow.Author.Needs.{needs}
 use Prim.Native.Nat.{_-_, _≤_}
@@ -6,9 +6,6 @@ use mathlib.Core.Path.{_≡_}
 use lib.ListN.{length}
 use Rattle.show_table.proofs.say_members.Statement.{statement}
 use Rattle.show_table.proofs.say_members.Tie as tie
-use Rattle.show_table.proofs.say_members.Reads as reads
-use Rattle.show_table.proofs.say_members.Lts as lts
-use Rattle.show_table.proofs.say_if_member.Reads as say-if-member-reads
 
 abbrev Inv-loop : tie.InvT-loop
 Inv-loop line₀ link a b leads n code first found m₀ line m = (m ≤ 128) × (length line ≡ length line₀)

@@ -1,4 +1,4 @@
--- Safe, and ends.
+-- `show_table::say_priorities` is safe and ends.
 -- Assumes nothing.
 use borrow.Author.Needs.{needs}
 use Prim.Native.Nat.{_-_, _≤_}
@@ -6,9 +6,6 @@ use mathlib.Core.Path.{_≡_}
 use lib.ListN.{length}
 use Rattle.show_table.proofs.say_priorities.Statement.{statement}
 use Rattle.show_table.proofs.say_priorities.Tie as tie
-use Rattle.show_table.proofs.say_priorities.Reads as reads
-use Rattle.show_table.proofs.say_priorities.Lts as lts
-use Rattle.show_table.proofs.say_priority.Reads as say-priority-reads
 
 abbrev Inv-loop : tie.InvT-loop
 Inv-loop line₀ v i₀ line i = (i ≤ 8) × (length line ≡ length line₀)

@@ -1,4 +1,4 @@
--- Safe, and ends.
+-- `show_table::say_srlgs` is safe and ends.
 -- Assumes nothing.
 use borrow.Author.Needs.{needs}
 use Prim.Native.Nat.{_-_, _≤_}
@@ -6,10 +6,6 @@ use mathlib.Core.Path.{_≡_}
 use lib.ListN.{length}
 use Rattle.show_table.proofs.say_srlgs.Statement.{statement}
 use Rattle.show_table.proofs.say_srlgs.Tie as tie
-use Rattle.show_table.proofs.say_srlgs.Reads as reads
-use Rattle.show_table.proofs.say_srlgs.Lts as lts
-use Rattle.show_lines.proofs.say_line.Reads as say-line-reads
-use Rattle.show_table.proofs.add_listed.Reads as add-listed-reads
 
 abbrev Inv-loop : tie.InvT-loop
 Inv-loop line₀ xs end₀ i₀ line end i = (i ≤ length xs) × (length line ≡ length line₀)

@@ -6,11 +6,6 @@ use mathlib.Core.Path.{_≡_}
 use lib.ListN.{length}
 use Rattle.show_tlvs.proofs.say_tlvs.Statement.{statement}
 use Rattle.show_tlvs.proofs.say_tlvs.Tie as tie
-use Rattle.show_tlvs.proofs.say_tlvs.Reads as reads
-use Rattle.show_tlvs.proofs.say_tlvs.Lts as lts
-use Rattle.link_sources.proofs.end_of.Reads as end-of-reads
-use Rattle.octets.proofs.read16.Reads as read16-reads
-use Rattle.show_tlvs.proofs.say_top.Reads as say-top-reads
 
 abbrev Inv-loop : tie.InvT-loop
 Inv-loop line₀ s at₀ line at = (at ≤ length s) × (length line ≡ length line₀)
