@@ -1,0 +1,256 @@
+// What a link or a BGP-LS run gives each subject, asked through the proved entries, and the groups of named applications with equal sets.
+// `link` says which of the two is lent: a link as its runs A, B and C, or a BGP-LS run in the place of A.
+// A subject is a number: an application's, standard 0 to 63 and user from 64 on, or 128 for the general set.
+ghost use Prim.Native.Nat.{_<_, _≤_};
+ghost use lib.ListN.{length};
+use replies::Answer;
+use replies::Named;
+use replies::Reading;
+use replies::Subject;
+
+pub fn subject_of(n: u32) -> Subject {
+    if n < 64 {
+        return Subject::Standard(n);
+    }
+    if n < 128 {
+        return Subject::User(n - 64);
+    }
+    Subject::General
+}
+
+// The value's bytes; none where it is absent, and for SRLG.
+pub fn value_of<'a, 'b, 'c>(
+    link: bool,
+    a: &'a [u8],
+    b: &'b [u8],
+    c: &'c [u8],
+    n: u32,
+    code: usize,
+) -> &'a [u8] {
+    if link {
+        return isis_link::value(a, b, c, subject_of(n), code);
+    }
+    bgpls_reader::value(a, subject_of(n), code)
+}
+
+fn count_in(reading: Reading) -> usize {
+    match reading {
+        Reading::Number(_) => 0,
+        Reading::Pair(_, _) => 0,
+        Reading::Bandwidth(_) => 0,
+        Reading::Part {
+            place: _,
+            length: _,
+        } => 0,
+        Reading::Count(n) => n,
+    }
+}
+
+fn count_of(answer: Answer) -> usize {
+    match answer {
+        Answer::Absent => 0,
+        Answer::Found(reading) => count_in(reading),
+        Answer::Refused(_) => 0,
+    }
+}
+
+// How many SRLGs a subject has; they stand at the front of the list.
+pub fn srlgs_of(link: bool, a: &[u8], b: &[u8], c: &[u8], n: u32, list: &mut [u32]) -> usize
+    ensures { λ r. ⌜ r ≤ length (now (list .entry)) ⌝ }
+{
+    let k = ask_srlgs(link, a, b, c, n, list);
+    if list.len() < k {
+        return 0;
+    }
+    k
+}
+
+fn ask_srlgs(link: bool, a: &[u8], b: &[u8], c: &[u8], n: u32, list: &mut [u32]) -> usize {
+    if link {
+        return count_of(isis_link::ask(a, b, c, subject_of(n), 1096, list));
+    }
+    count_of(bgpls_reader::ask(a, subject_of(n), 1096, list))
+}
+
+// The applications that are named.
+pub fn named_in(link: bool, a: &[u8], b: &[u8], c: &[u8]) -> Named {
+    if link {
+        return isis_link::named(a, b, c);
+    }
+    bgpls_reader::named(a)
+}
+
+// The kinds of applications, in the order of their codes.
+pub fn code_of(k: usize) -> usize {
+    match k {
+        0 => 1088,
+        1 => 1092,
+        2 => 1096,
+        3 => 1114,
+        4 => 1115,
+        5 => 1116,
+        6 => 1117,
+        7 => 1118,
+        8 => 1119,
+        9 => 1120,
+        _ => 1173,
+    }
+}
+
+fn same_value(link: bool, a: &[u8], b: &[u8], c: &[u8], m: u32, n: u32, code: usize) -> bool {
+    octets::same(
+        value_of(link, a, b, c, m, code),
+        value_of(link, a, b, c, n, code),
+    )
+}
+
+// Whether two subjects have equal values of every kind but SRLG.
+fn same_values(link: bool, a: &[u8], b: &[u8], c: &[u8], m: u32, n: u32) -> bool {
+    let mut k: usize = 0;
+    while k < 11 {
+        if !same_value(link, a, b, c, m, n, code_of(k)) {
+            return false;
+        }
+        k += 1;
+    }
+    true
+}
+
+fn same_words(x: &[u32], y: &[u32]) -> bool {
+    if x.len() != y.len() {
+        return false;
+    }
+    let mut i = 0;
+    while i < x.len() {
+        if x[i] != y[i] {
+            return false;
+        }
+        i += 1;
+    }
+    true
+}
+
+fn same_srlgs(
+    link: bool,
+    a: &[u8],
+    b: &[u8],
+    c: &[u8],
+    m: u32,
+    n: u32,
+    xs: &mut [u32],
+    ys: &mut [u32],
+) -> bool {
+    let k = srlgs_of(link, a, b, c, m, xs);
+    let l = srlgs_of(link, a, b, c, n, ys);
+    same_words(&xs[0..k], &ys[0..l])
+}
+
+// Whether two subjects have equal sets.
+fn same_set(
+    link: bool,
+    a: &[u8],
+    b: &[u8],
+    c: &[u8],
+    m: u32,
+    n: u32,
+    xs: &mut [u32],
+    ys: &mut [u32],
+) -> bool {
+    if !same_values(link, a, b, c, m, n) {
+        return false;
+    }
+    same_srlgs(link, a, b, c, m, n, xs, ys)
+}
+
+// The first application of the group that n is in, from a table of such; 128 where it is not named.
+pub fn lead_of(leads: &[u32; 128], n: u32) -> u32 {
+    if n < 128 {
+        return leads[n as usize];
+    }
+    128
+}
+
+// Whether n is the first of its group.
+pub fn is_lead(leads: &[u32; 128], n: u32) -> bool {
+    if n < 128 {
+        return leads[n as usize] == n;
+    }
+    false
+}
+
+// Whether m is the first of a group, and n has the same set.
+fn leads_to(
+    link: bool,
+    a: &[u8],
+    b: &[u8],
+    c: &[u8],
+    m: u32,
+    n: u32,
+    leads: &[u32; 128],
+    xs: &mut [u32],
+    ys: &mut [u32],
+) -> bool {
+    if !is_lead(leads, m) {
+        return false;
+    }
+    same_set(link, a, b, c, m, n, xs, ys)
+}
+
+// The first application below n with the set of n, else n.
+fn find_lead(
+    link: bool,
+    a: &[u8],
+    b: &[u8],
+    c: &[u8],
+    n: u32,
+    leads: &[u32; 128],
+    xs: &mut [u32],
+    ys: &mut [u32],
+) -> u32 {
+    let mut m: u32 = 1;
+    while m < n {
+        if leads_to(link, a, b, c, m, n, leads, xs, ys) {
+            return m;
+        }
+        m += 1;
+    }
+    n
+}
+
+fn lead_if_named(
+    link: bool,
+    a: &[u8],
+    b: &[u8],
+    c: &[u8],
+    n: u32,
+    named: bool,
+    leads: &[u32; 128],
+    xs: &mut [u32],
+    ys: &mut [u32],
+) -> u32 {
+    if named {
+        return find_lead(link, a, b, c, n, leads, xs, ys);
+    }
+    128
+}
+
+// The table of groups: for each named application the first of its group, 128 for the others.
+pub fn fill_leads(
+    link: bool,
+    a: &[u8],
+    b: &[u8],
+    c: &[u8],
+    standard: u64,
+    user: u64,
+    leads: &mut [u32; 128],
+    xs: &mut [u32],
+    ys: &mut [u32],
+) {
+    let mut n: u32 = 0;
+    while n < 128 {
+        let named = show_lines::is_in(standard, user, n);
+        let lead = lead_if_named(link, a, b, c, n, named, leads, xs, ys);
+        leads[n as usize] = lead;
+        n += 1;
+    }
+}
