@@ -57,6 +57,14 @@ pub fn add_who(line: &mut [u8], at: usize, leads: &[u32; 128], n: u32) -> usize 
 
 // ---- values
 
+// Two delays, the least and the greatest; the flag of the first is told behind both.
+fn add_range(line: &mut [u8], at: usize, least: u32, most: u32) -> usize {
+    let a = add_decimal(line, at, (least % 16777216) as u64);
+    let b = add_text(line, a, b" to ");
+    let flag = least / 2147483648 * 2147483648;
+    link_words::add_number(line, b, 1114, most % 16777216 + flag)
+}
+
 // What stands in the value's column.
 fn add_value(line: &mut [u8], at: usize, code: usize, v: &[u8]) -> usize {
     if v.len() == 0 {
@@ -64,7 +72,7 @@ fn add_value(line: &mut [u8], at: usize, code: usize, v: &[u8]) -> usize {
     }
     match code {
         1091 => add_text(line, at, b"for each priority:"),
-        1115 => link_words::add_delays(
+        1115 => add_range(
             line,
             at,
             link_words::word_at(v, 0),
