@@ -7,7 +7,6 @@ use native.Mathlib.Numerals.{add-one}
 use native.Mathlib.Omega.{arith}
 use lib.ListN.{length, getD, take, drop, length-append, length-take}
 use Rattle.linkstate.specs.Lists.{numbers, each, put}
-use Rattle.linkstate.specs.Meaning.{row}
 use Rattle.linkstate.specs.Export.{tlv, bytesOf, aslaValue}
 use Rattle.octets.proofs.Laws.{put-then}
 use Rattle.rivals.proofs.ListLaws.{each-append, map-append}
