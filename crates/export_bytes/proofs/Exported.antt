@@ -1,17 +1,16 @@
 -- The bytes that are written from the sets of a meaning are its export. Assumes nothing.
 use mathlib.Core.Path.{_≡_, refl, sym, _∙_, ap, ap₂}
-use mathlib.Core.Bool.{Bool, true, false, cond, _&&_}
+use mathlib.Core.Bool.{Bool, true, false, cond}
 use mathlib.Core.List.{List, [], _∷_, _++_, map, append-nil, append-assoc}
-use Prim.Native.Nat.{ℕ, zero, suc, _+_, _-_, _/_, _%_, _^_, _≤_, _<_}
-use native.Mathlib.Omega.{arith}
+use Prim.Native.Nat.{ℕ, _+_, _-_, _/_, _%_, _^_}
 use native.Mathlib.Nat.{zero-div}
 use lib.Dec.{eqb, ltb}
 use lib.ListN.{take, drop}
-use Rattle.linkstate.specs.Lists.{numbers, keep, lookup, all, each, empty, sameRows}
-use Rattle.linkstate.specs.Kinds.{codes, applicationCodes}
-use Rattle.linkstate.specs.Masks.{user, others, inNumber, maskSize, mask}
+use Rattle.linkstate.specs.Lists.{all, each, empty}
+use Rattle.linkstate.specs.Kinds.{codes}
+use Rattle.linkstate.specs.Masks.{inNumber}
 use Rattle.linkstate.specs.Meaning.{Meaning, row}
-use Rattle.linkstate.specs.Export.{Tlv, tlv, bytesOf, present, topValue, aslaValue, generalValues, leader, inGroup, leaders, groupValue, aslaValues, tlvs, export}
+use Rattle.linkstate.specs.Export.{tlv, bytesOf, present, topValue, aslaValue, generalValues, leaders, groupValue, aslaValues, tlvs, export}
 use Rattle.linkstate.proofs.ListLaws.{each-append, map-append}
 use Rattle.linkstate.proofs.Computing.{computing}
 use Rattle.set_bytes.specs.Sets.{setOf, topOf, inTlvs, lowCodes, highCodes}

@@ -8,7 +8,6 @@ use native.Mathlib.Omega.{arith}
 use lib.ListN.{length, getD, take, drop, length-append, length-take}
 use Rattle.linkstate.proofs.ListLaws.{each-append, map-append}
 use Rattle.linkstate.specs.Lists.{numbers, each, put}
-use Rattle.linkstate.specs.Meaning.{row}
 use Rattle.linkstate.specs.Export.{tlv, bytesOf, aslaValue}
 use Rattle.octets.proofs.Laws.{put-then}
 use Rattle.srlg_ranks.specs.Ranks.{picked}

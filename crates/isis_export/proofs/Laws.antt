@@ -8,16 +8,16 @@ use native.Mathlib.Nat.{pow-suc, div-eq-of-lt}
 use borrow.Author.Tests.{ltb-true, ltb-false, leb-true, eqb-true, eqb-false, ne-eqb}
 use lib.Dec.{eqb, ltb, leb}
 use lib.Pow.{pow-pos}
-use lib.ListN.{length, getD, take, drop, length-take}
+use lib.ListN.{length, take, drop, length-take}
 use Rattle.linkstate.specs.Lists.{member, numbers, keep}
 use Rattle.linkstate.specs.Kinds.{linkCodes}
 use Rattle.linkstate.specs.Masks.{user, others, inNumber}
 use Rattle.linkstate.specs.Replies as R
 use Rattle.linkstate.specs.Replies.{accepted, refused, _then_, unless}
 use Rattle.linkstate.specs.Attributes.{srlgs}
-use Rattle.linkstate.specs.Sides.{named, generalSet, applicationSet, rsvpTeKind, bandwidthKind}
+use Rattle.linkstate.specs.Sides.{named, generalSet, rsvpTeKind, bandwidthKind}
 use Rattle.linkstate.specs.Questions.{standardNo, generally, setOf, numberTooHigh, write}
-use Rattle.linkstate.specs.Meaning.{meaning, row}
+use Rattle.linkstate.specs.Meaning.{meaning}
 use Rattle.linkstate.specs.Export.{export}
 use Rattle.kinds.specs.Rules.{gridCodes}
 use Rattle.kinds.proofs.Computing.{computing}
@@ -29,7 +29,6 @@ use Rattle.linkstate.proofs.WalkLaws.{then-first, then-second, unrefused}
 use Rattle.set_bytes.specs.Sets as S
 use Rattle.set_bytes.specs.Sets.{Fits}
 use Rattle.asla_bytes.specs.Applications.{inNumbers}
-use Rattle.srlg_ranks.specs.Ranks.{picked}
 use Rattle.group_bytes.specs.Groups.{Readable}
 use Rattle.export_bytes.specs.Whole.{wholeBytes}
 use Rattle.export_bytes.specs.Describes.{Describes}

@@ -1,16 +1,15 @@
 -- Laws of the table of a link's groups: the next named application, its set, and the table before and after it has joined. Assumes nothing.
-use mathlib.Core.Path.{_≡_, refl, sym, _∙_, ap, ap₂, subst}
-use mathlib.Core.Bool.{Bool, true, false, cond, _&&_, _||_}
-use mathlib.Core.List.{List, [], _∷_, map}
+use mathlib.Core.Path.{_≡_, refl, sym, _∙_, ap}
+use mathlib.Core.Bool.{Bool, true, false, _&&_, _||_}
+use mathlib.Core.List.{List, []}
 use Prim.Native.Nat.{ℕ, suc, _+_, _-_, _≤_, _<_}
 use native.Mathlib.Omega.{arith}
 use borrow.Author.Tests.{lt-ltb, le-ltb, ltb-true, ltb-false}
 use lib.Dec.{ltb}
-use lib.ListN.{length, getD}
+use lib.ListN.{length}
 use Rattle.linkstate.proofs.ListLaws.{and-l, member-mem, numbers-mem}
 use Rattle.linkstate.specs.Lists.{numbers, keep, member}
 use Rattle.linkstate.specs.Masks.{others, inNumber}
-use Rattle.linkstate.specs.Attributes.{srlgs}
 use Rattle.linkstate.specs.Sides.{named, applicationSet}
 use Rattle.linkstate.specs.Meaning.{Meaning, meaning, row}
 use Rattle.isis.specs.RunA.{sideA}
@@ -22,8 +21,8 @@ use Rattle.masks.proofs.Laws.{walk-next, walk-member}
 use Rattle.srlg_ranks.specs.Ranks.{picked}
 use Rattle.set_bytes.specs.Sets.{setOf, Fits}
 use Rattle.asla_bytes.specs.Applications.{inNumbers}
-use Rattle.set_groups.specs.Groups.{Group, join, groupsBelow}
-use Rattle.set_groups.specs.Table.{Sound, tableGroups, Joined}
+use Rattle.set_groups.specs.Groups.{join, groupsBelow}
+use Rattle.set_groups.specs.Table.{tableGroups, Joined}
 use Rattle.set_groups.proofs.Joined.{NamesOthers, joins, skips}
 use Rattle.set_groups.proofs.Tlvs.{groups-start}
 use Rattle.isis_grids.specs.Grid.{gridOf}

@@ -56,16 +56,16 @@ fn row_at(l: &[[usize; 2]; 3], g: &[[usize; 2]; 10], i: usize) -> Row
     requires { ⌜ (i < 14) × (i ≡ 5 → ⊥) ⌝ }
     ensures { λ r. ⌜ r ≡ rowRead (rowFor (now (l .entry)) (now (g .entry)) (getD codes i 0)) ⌝ }
 {
+    if 5 < i {
+        return read_row(g[i - 4]);
+    }
     if i == 0 {
         return read_row(g[0]);
     }
     if i < 4 {
         return read_row(l[i - 1]);
     }
-    if i == 4 {
-        return read_row(g[1]);
-    }
-    read_row(g[i - 4])
+    read_row(g[1])
 }
 
 // How many zero bytes stand in front of a value of run A.

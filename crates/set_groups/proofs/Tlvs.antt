@@ -6,7 +6,7 @@ use Prim.Native.Nat.{ℕ, _+_, _-_, _<_}
 use native.Mathlib.Omega.{arith}
 use borrow.Author.Tests.{lt-ltb, ltb-true, ltb-false}
 use lib.Dec.{ltb}
-use Rattle.linkstate.specs.Lists.{keep, each}
+use Rattle.linkstate.specs.Lists.{each}
 use Rattle.linkstate.specs.Kinds.{applicationCodes}
 use Rattle.linkstate.specs.Masks.{user, others, asNumber, inNumber, maskSize, mask}
 use Rattle.linkstate.specs.Meaning.{Meaning, row}
@@ -14,7 +14,7 @@ use Rattle.linkstate.specs.Export.{Tlv, tlv, bytesOf, present, aslaValue, inGro
 use Rattle.masks.proofs.Laws.{in-number, size-same, mask-same}
 use Rattle.kinds.proofs.Computing.{computing}
 use Rattle.asla_bytes.specs.Applications.{inNumbers}
-use Rattle.set_groups.specs.Groups.{Group, group, valueIn, groupTlv, groupBelow, groupsBelow}
+use Rattle.set_groups.specs.Groups.{group, valueIn, groupTlv, groupBelow, groupsBelow}
 
 -- ---- an ASLA depends on the 128 applications and the eleven kinds only
 

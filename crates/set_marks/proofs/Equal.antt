@@ -1,11 +1,11 @@
 -- Equal sets have one mark. Assumes nothing.
 use mathlib.Core.Path.{_≡_, refl, sym, _∙_, ap, ap₂}
-use mathlib.Core.Bool.{Bool, true, false, cond, _&&_}
+use mathlib.Core.Bool.{Bool, true, false, cond}
 use mathlib.Core.List.{List, [], _∷_, _++_, map}
 use Prim.Native.Nat.{ℕ, zero, suc, _+_, _*_, _/_, _%_, _≤_, _<_}
 use native.Mathlib.Nat.{zero-add}
 use native.Mathlib.Omega.{arith}
-use borrow.Author.Tests.{eqb-true, ltb-true, ltb-false}
+use borrow.Author.Tests.{ltb-true, ltb-false}
 use lib.Dec.{eqb, ltb}
 use lib.ListN.{length, getD, drop, drop-of-length-le}
 use lib.Seq.{drop-at}
@@ -18,7 +18,7 @@ use Rattle.linkstate.specs.Meaning.{row}
 use Rattle.octets.proofs.Laws.{same-sound}
 use Rattle.kinds.specs.Rules.{gridCodes}
 use Rattle.srlg.specs.Ascending.{ascending}
-use Rattle.srlg_ranks.specs.Ranks.{keepFrom, inWords, picked, Within}
+use Rattle.srlg_ranks.specs.Ranks.{inWords, picked, Within}
 use Rattle.srlg_ranks.proofs.Laws.{keep-member}
 use Rattle.set_bytes.specs.Sets.{front, rowValue, setOf}
 use Rattle.set_equal.specs.Grids.{gridValue}

@@ -2,7 +2,7 @@
 use Rattle.set_groups.specs.Table.{withMember}
 use lib.ListN.{getD}
 use Prim.Native.Nat.{ℕ}
-use mathlib.Core.List.{List, [], _∷_}
+use mathlib.Core.List.{[], _∷_}
 use mathlib.Core.Path.{ap₂}
 use borrow.Author.Needs.{needs}
 use Rattle.set_groups.proofs.with_member.Statement.{statement}

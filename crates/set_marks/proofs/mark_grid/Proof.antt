@@ -2,7 +2,7 @@
 use Rattle.set_marks.specs.Marks.{gridMark}
 use Rattle.set_marks.proofs.Laws.{grid-next}
 use native.Mathlib.Omega.{arith}
-use Prim.Native.Nat.{ℕ, _-_, _≤_}
+use Prim.Native.Nat.{_-_, _≤_}
 use mathlib.Core.Path.{_≡_, refl, _∙_, ap}
 use Rattle.set_marks.proofs.mark_grid.Statement.{statement}
 use Rattle.set_marks.proofs.mark_grid.Tie as tie

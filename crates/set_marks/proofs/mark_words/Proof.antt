@@ -1,8 +1,8 @@
 -- `set_marks::mark_words` meets its contract.
-use Rattle.set_marks.specs.Marks.{mixed, wordsMark}
+use Rattle.set_marks.specs.Marks.{wordsMark}
 use Rattle.set_marks.proofs.Laws.{words-next}
 use native.Mathlib.Omega.{arith}
-use Prim.Native.Nat.{ℕ, _-_, _≤_}
+use Prim.Native.Nat.{_-_, _≤_}
 use mathlib.Core.Path.{_≡_, refl, _∙_, ap}
 use Rattle.set_marks.proofs.mark_words.Statement.{statement}
 use Rattle.set_marks.proofs.mark_words.Tie as tie

@@ -3,7 +3,7 @@ use Rattle.set_marks.specs.Marks.{mixed}
 use Rattle.set_marks.proofs.Laws.{mixed-none, mixed-few, mixed-three, mixed-four}
 use native.Mathlib.Omega.{arith}
 use lib.ListN.{getD}
-use mathlib.Core.Path.{sym, _∙_, ap, ap₂}
+use mathlib.Core.Path.{_∙_, ap, ap₂}
 use borrow.Author.Needs.{needs}
 use Rattle.set_marks.proofs.mix_row.Statement.{statement}
 use Rattle.set_marks.proofs.mix_row.Tie as tie
