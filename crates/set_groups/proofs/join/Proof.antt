@@ -1,6 +1,7 @@
 -- `set_groups::join` meets its contract.
 use Rattle.set_groups.proofs.Laws.{joined-there, joined-new}
 use denote.Ref.{now}
+use native.Mathlib.Omega.{arith}
 use borrow.Author.Needs.{needs}
 use Rattle.set_groups.proofs.join.Statement.{statement}
 use Rattle.set_groups.proofs.join.Tie as tie
