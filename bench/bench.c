@@ -212,8 +212,9 @@ int main(int argc, char **argv) {
     }
     if (argc == 5) {
         struct link k = read_link(argv[1], atoi(argv[3]));
+        enum entry e = (enum entry)atoi(argv[2]);
         for (long i = atol(argv[4]); i > 0; i--) {
-            call((enum entry)atoi(argv[2]), &k);
+            call(e, &k);
         }
         return 0;
     }
