@@ -1,20 +1,22 @@
 -- What a walk learns from a frame, and one law for each way in which a check of a BGP-LS run can go.
 use mathlib.Core.Path.{_≡_, refl, sym, ap, ap₂, _∙_}
-use mathlib.Core.Bool.{Bool, true, false, cond, _&&_, not}
+use mathlib.Core.Bool.{Bool, true, false, cond, _&&_, _||_, not, and-true, and-false, or-false}
 use mathlib.Core.List.{List, [], _∷_}
-use Prim.Native.Nat.{ℕ, _+_, _-_, _≤_, _<_}
+use Prim.Native.Nat.{ℕ, zero, suc, _+_, _-_, _%_, _≤_, _<_}
 use native.Mathlib.Omega.{arith}
 use mathlib.Core.Logic.{⊎-elim}
 use types.Run.{OneOf}
 use denote.Enum.Declared.{tagOf}
-use borrow.Author.Tests.{lt-ltb, le-ltb, ltb-true, ltb-false, eq-eqb, ne-eqb}
-use lib.Dec.{ltb}
+use borrow.Author.Tests.{lt-ltb, le-ltb, le-leb, lt-leb, ltb-true, ltb-false, eq-eqb, ne-eqb}
+use lib.Dec.{ltb, leb, eqb}
 use lib.ListN.{length, take, drop, length-drop}
 use lib.Seq.{take-length}
 use Rattle.linkstate.specs.Bytes.{number, bytesAt}
 use Rattle.linkstate.specs.Replies.{Verdict, accepted, refused, Refusal, fault, faultOfCall, refusedIf, _then_, runBgpLs}
 use Rattle.linkstate.specs.Elements.{elements, faults, typeOf}
-use Rattle.linkstate.specs.Kinds.{wrongInside, wrongAtTop}
+use Rattle.linkstate.specs.Lists.{any, keep}
+use Rattle.linkstate.specs.Kinds.{kinds, fits, hasCode, isApplications, wrongInside, wrongAtTop}
+use Rattle.linkstate.proofs.Computing.{computing}
 use Rattle.linkstate.specs.BgpLs.{sabmLength, udabmLength, aslaHeader, isMaskLength, notIgnored, innerElements, checkInner, checkAsla, checkTop, runVerdict}
 use Rattle.linkstate.proofs.WalkLaws.{left, typeAt, lengthAt, length-two, faults-cut, faults-pass, faults-stop}
 use Rattle.octets.proofs.Laws.{length-bytesAt, part-is}
@@ -104,6 +106,40 @@ module _ (check : ℕ → ℕ → List ℕ → Verdict) (base : ℕ) (s : List �
     pub element-refused : (r : Refusal) → verdict ≡ refused r → refused r ≡ Faults at
     element-refused r p = faults-stop runBgpLs check 2 (omega arith) base s at n r (f .size) (f .within) (same-check ∙ p)
 
+-- ---- lengths
+
+-- What p finds among those with g.
+any-kept : {A : Type 0} (p g : A → Bool) (qs : List A) → any (λ q. p q && g q) qs ≡ any p (keep g qs)
+unfolding any keep
+any-kept p g [] = refl
+any-kept p g (q ∷ qs) = go (p q) (g q) refl (any-kept p g qs)
+  where
+    go : (y x : Bool) → p q ≡ y → any (λ q. p q && g q) qs ≡ any p (keep g qs) → (y && x) || any (λ q. p q && g q) qs ≡ any p (cond x (q ∷ keep g qs) (keep g qs))
+    go true true i e = ap₂ (λ (b c : Bool). b || c) (sym i) e
+    go false true i e = ap₂ (λ (b c : Bool). b || c) (sym i) e
+    go true false i e = e
+    go false false i e = e
+
+-- Four bytes are wrong for few codes.
+pub inside-four : (c n : ℕ) → n ≡ 4 → eqb c 1115 ≡ wrongInside c n
+unfolding computing
+inside-four c n e = sym (ap (wrongInside c) e ∙ any-kept (hasCode c) (λ q. not (fits (q .bgplsSize) 4)) (keep isApplications kinds) ∙ or-false (eqb c 1115))
+
+-- Of two codes the length is told at once.
+pub inside-srlg : (c n : ℕ) → c ≡ 1096 → not (eqb (n % 4) 0) ≡ wrongInside c n
+unfolding computing
+inside-srlg c n e =
+    sym (ap (λ (x : ℕ). wrongInside x n) e ∙ or-false (not (eqb (n % 4) 0 && leb 0 n)) ∙ ap (λ (b : Bool). not (eqb (n % 4) 0 && b)) (le-leb 0 n (omega arith)) ∙ ap not (and-true (eqb (n % 4) 0)))
+
+pub inside-delays : (c n : ℕ) → c ≡ 1115 → not (eqb n 8) ≡ wrongInside c n
+unfolding computing
+inside-delays c n e = sym (ap (λ (x : ℕ). wrongInside x n) e ∙ or-false (not (eqb n 8)))
+
+pub top-four : (c n : ℕ) → n ≡ 4 → eqb c 1091 || eqb c 1115 ≡ wrongAtTop c n
+unfolding computing
+top-four c n e =
+    sym (ap (wrongAtTop c) e ∙ any-kept (hasCode c) (λ q. not (fits (q .bgplsSize) 4)) kinds ∙ ap (λ (b : Bool). eqb c 1091 || b) (or-false (eqb c 1115)))
+
 -- ---- an inner element
 
 -- By the rule of its code, whose kind is k.
@@ -130,6 +166,23 @@ module _ (o t : ℕ) (v : List ℕ) where
   inner-wrong h = rw h
 
 -- ---- a 1122
+
+-- A mask has a multiple of four bytes, at most eight.
+pub mask-length : (n : ℕ) → eqb (n % 4) 0 && leb n 8 ≡ isMaskLength n
+unfolding isMaskLength
+mask-length zero = refl
+mask-length (suc zero) = refl
+mask-length (suc (suc zero)) = refl
+mask-length (suc (suc (suc zero))) = refl
+mask-length (suc (suc (suc (suc zero)))) = refl
+mask-length (suc (suc (suc (suc (suc zero))))) = refl
+mask-length (suc (suc (suc (suc (suc (suc zero)))))) = refl
+mask-length (suc (suc (suc (suc (suc (suc (suc zero))))))) = refl
+mask-length (suc (suc (suc (suc (suc (suc (suc (suc zero)))))))) = refl
+mask-length (suc (suc (suc (suc (suc (suc (suc (suc (suc k))))))))) = above (suc (suc (suc (suc (suc (suc (suc (suc (suc k))))))))) (omega arith)
+  where
+    above : (m : ℕ) → 8 < m → eqb (m % 4) 0 && leb m 8 ≡ eqb m 0 || eqb m 4 || eqb m 8
+    above m h = rw (lt-leb m 8 h, ne-eqb m 0 (λ e. omega arith), ne-eqb m 4 (λ e. omega arith), ne-eqb m 8 (λ e. omega arith)) (and-false (eqb (m % 4) 0))
 
 -- By the mask lengths s and u that stand in its first two bytes.
 module _ (v : List ℕ) (s u : ℕ) (e : s ≡ sabmLength v) (f : u ≡ udabmLength v) where

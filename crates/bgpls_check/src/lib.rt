@@ -5,7 +5,7 @@ ghost use Prim.Native.Nat.{_+_, _≤_, _<_};
 ghost use lib.ListN.{length};
 ghost use Rattle.linkstate.specs.Replies.{fault, runBgpLs};
 ghost use Rattle.linkstate.specs.Elements.{elements, faults};
-ghost use Rattle.linkstate.specs.Kinds.{wrongInside};
+ghost use Rattle.linkstate.specs.Kinds.{wrongInside, wrongAtTop};
 ghost use Rattle.linkstate.specs.BgpLs.{sabmLength, udabmLength, isMaskLength, checkInner, checkAsla, checkTop, runVerdict};
 ghost use Rattle.replies.specs.Told.{toldChecked};
 ghost use Rattle.bgpls_check.specs.Framing.{frameAt};
@@ -47,10 +47,19 @@ fn refuse(number: u8, offset: usize) -> Checked
     Checked::Refused(refuse_at(number, Run::BgpLs, offset))
 }
 
-// Whether a value of n bytes is wrong for its code inside a 1122, where the link's kinds are unknown.
+// Whether a value of n bytes is wrong for its code inside a 1122, where the link's kinds are unknown. The rule is looked up where none of the commonest tests tells.
 fn wrong_inside(code: usize, n: usize) -> bool
     ensures { λ r. ⌜ r ≡ wrongInside code n ⌝ }
 {
+    if n == 4 {
+        return code == 1115;
+    }
+    if code == 1096 {
+        return n % 4 != 0;
+    }
+    if code == 1115 {
+        return n != 8;
+    }
     let rule = classify_code(code);
     let kind = rule.kind;
     let size = rule.size;
@@ -58,6 +67,17 @@ fn wrong_inside(code: usize, n: usize) -> bool
         Kind::Link(_) => false,
         _ => !fits(size, n),
     }
+}
+
+// The same at the top of a run.
+fn wrong_at_top(code: usize, n: usize) -> bool
+    ensures { λ r. ⌜ r ≡ wrongAtTop code n ⌝ }
+{
+    if n == 4 {
+        return (code == 1091) | (code == 1115);
+    }
+    let size = classify_code(code).size;
+    !fits(size, n)
 }
 
 // The inner elements of a 1122, the first of which is at the offset `base` of the run.
@@ -94,10 +114,11 @@ pub fn read_asla_header(v: &[u8]) -> AslaHeader
     AslaHeader { standard, user }
 }
 
+// 0, 4 or 8.
 fn is_mask_length(n: usize) -> bool
     ensures { λ r. ⌜ r ≡ isMaskLength n ⌝ }
 {
-    (n == 0) | (n == 4) | (n == 8)
+    (n % 4 == 0) & (n <= 8)
 }
 
 // Whether a 1122 with these mask lengths is not ignored.
@@ -134,11 +155,10 @@ fn check_top(v: &[u8], code: usize, at: usize) -> Checked
     if code == 1122 {
         return check_asla(v, at);
     }
-    let size = classify_code(code).size;
-    if fits(size, v.len()) {
-        return Checked::Accepted;
+    if wrong_at_top(code, v.len()) {
+        return refuse(4, at);
     }
-    refuse(4, at)
+    Checked::Accepted
 }
 
 // A whole run.

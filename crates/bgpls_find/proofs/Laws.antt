@@ -1,35 +1,34 @@
 -- What one turn of a walk over a run does: to the 1122s of a set that are left, to the attributes, and to what is found.
 use mathlib.Core.Path.{_≡_, refl, sym, ap, ap₂, _∙_, subst}
-use mathlib.Core.Bool.{Bool, true, false, cond, _&&_, not}
+use mathlib.Core.Bool.{Bool, true, false, cond, _&&_, not, and-false}
 use mathlib.Core.List.{List, [], _∷_, _++_}
-use Prim.Native.Nat.{ℕ, _+_, _-_, _≤_, _<_}
+use Prim.Native.Nat.{ℕ, _+_, _-_, _/_, _≤_, _<_}
 use native.Mathlib.Omega.{arith}
 use native.Mathlib.Nat.{add-sub-cancel-left}
-use borrow.Author.Tests.{ltb-false, eq-eqb, ne-eqb, eqb-true}
-use lib.Dec.{eqb, ltb}
-use lib.ListN.{length, take, drop, length-drop}
+use borrow.Author.Tests.{lt-ltb, le-ltb, ltb-false, leb-true, eq-eqb, ne-eqb, eqb-true}
+use lib.Dec.{eqb, ltb, leb}
+use lib.ListN.{length, take, drop, length-take, length-drop}
 use lib.Seq.{length-take-le}
 use Rattle.linkstate.specs.Lists.{keep, each}
-use Rattle.linkstate.specs.Bytes.{bytesAt}
-use Rattle.linkstate.specs.Masks.{inMasks}
-use Rattle.linkstate.specs.Replies.{accepted, fault, runBgpLs, _then_}
-use Rattle.linkstate.specs.Elements.{Element, element, cut, elements, faults}
+use Rattle.linkstate.specs.Bytes.{number, bytesAt}
+use Rattle.linkstate.specs.Masks.{bit, inMasks}
+use Rattle.linkstate.specs.Replies.{Verdict, accepted, fault, runBgpLs, _then_}
+use Rattle.linkstate.specs.Elements.{Element, element, cut, lengthOf, elements, faults}
 use Rattle.linkstate.specs.Attributes.{Attribute, attribute, ofKind}
 use Rattle.linkstate.specs.Sides.{Advertisement}
 use Rattle.linkstate.specs.BgpLs.{sabmLength, udabmLength, aslaHeader, notIgnored, checkAsla, checkTop, attributesOf, advertisement, advertisementsOf, innerElements}
-use Rattle.linkstate.proofs.WalkLaws.{left, left-end, left-cut, left-whole, then-first, then-second, not-accepted}
+use Rattle.linkstate.proofs.WalkLaws.{left, left-end, left-whole, type-two, length-two, faults-whole, faults-passed, then-first, then-second, not-accepted}
 use Rattle.octets.proofs.Laws.{length-bytesAt, part-is}
-use Rattle.bgpls_check.specs.declared.Frame.the-variants.{Cut}
-use Rattle.bgpls_check.specs.Framing.{frameAt}
-use Rattle.bgpls_check.proofs.Laws.{IsWhole, is-cut, top-asla}
+use Rattle.masks.proofs.Laws.{bit-beyond}
+use Rattle.bgpls_check.proofs.Laws.{IsWhole, top-asla}
 use Rattle.rivals.proofs.RunLaws.{asla-checked}
 use Rattle.linkstate.proofs.ListLaws.{and-l, and-r}
 use Rattle.bgpls_find.specs.declared.Set.{Set}
-use Rattle.bgpls_find.specs.declared.Set.the-variants.{General, Naming}
+use Rattle.bgpls_find.specs.declared.Set.the-variants.{Top, Every, General, Naming}
 use Rattle.bgpls_find.specs.declared.Found.{Found}
 use Rattle.bgpls_find.specs.declared.Found.the-variants.{At, Absent}
-use Rattle.bgpls_find.specs.Sets.{chosenBy, chosen, foundIn}
-use Rattle.bgpls_find.specs.Walks.{rest, Passes, aslasFrom, standardMask, userMask, Sound, IsAsla}
+use Rattle.bgpls_find.specs.Sets.{chosenBy, endsBefore, chosen, foundIn}
+use Rattle.bgpls_find.specs.Walks.{rest, Passes, anyElement, Uncut, aslasFrom, standardMask, userMask, Sound, IsAsla}
 
 -- ---- the elements that are left
 
@@ -40,11 +39,6 @@ module _ (r : List ℕ) (at : ℕ) where
   pub rest-end : length r ≤ at → rest r at ≡ []
   rest-end h = sym rest-left ∙ left-end 2 (omega arith) 0 r at h
 
-  pub rest-cut : at < length r → frameAt r at ≡ Cut → rest r at ≡ cut at ∷ []
-  rest-cut h f =
-      let z : 0 + at ≡ at = omega arith in
-      sym rest-left ∙ left-cut 2 (omega arith) 0 r at h (is-cut r at f) ∙ ap (λ (i : ℕ). cut i ∷ []) z
-
   pub rest-whole : (t n : ℕ) → IsWhole r at t n → rest r at ≡ element at t (bytesAt r (at + 4) n) ∷ rest r (at + 4 + n)
   rest-whole t n f =
       let z : 0 + at ≡ at = omega arith in
@@ -54,6 +48,33 @@ module _ (r : List ℕ) (at : ℕ) where
       ∙ ap₂ (λ (e : Element) (es : List Element). e ∷ es)
       (ap₂ (λ (i k : ℕ). element i k (bytesAt r (at + 4) n)) z (f .type))
       (ap (λ (i : ℕ). elements 2 i (drop (at + 4 + n) r)) y)
+
+-- Where no element is refused, the one that begins is whole: its type and its length are what the code reads there.
+module _ (check : ℕ → ℕ → List ℕ → Verdict) (base : ℕ) (s : List ℕ) (at : ℕ) (h : at < length s) (p : faults runBgpLs check (left 2 base s at) ≡ accepted) where
+  fits-in : at + 4 + lengthOf 2 (drop at s) ≤ length s
+  fits-in = faults-whole runBgpLs check 2 (omega arith) base s at h p
+
+  pub head-fits : at + 4 ≤ length s
+  head-fits = omega (arith, fits-in)
+
+  pub whole-here : (t n : ℕ) → t ≡ number (bytesAt s at 2) → n ≡ number (bytesAt s (at + 2) 2) → IsWhole s at t n
+  whole-here t n d e =
+      let z = length-two s at ∙ sym e in
+      record { type = type-two s at ∙ sym d; size = z; within = omega (arith, fits-in, z) }
+
+  -- and the others are not refused
+  pub others-pass : (t n : ℕ) → IsWhole s at t n → faults runBgpLs check (left 2 base s (at + 4 + n)) ≡ accepted
+  others-pass t n f = faults-passed runBgpLs check 2 (omega arith) base s at n (f .size) h p .2
+
+pub left-passes : (r : List ℕ) (at : ℕ) → Passes r at → faults runBgpLs checkTop (left 2 0 r at) ≡ accepted
+left-passes r at p = ap (faults runBgpLs checkTop) (rest-left r at) ∙ p
+
+-- What passes any check is not cut off.
+pub uncut : (check : ℕ → ℕ → List ℕ → Verdict) (es : List Element) → faults runBgpLs check es ≡ accepted → faults runBgpLs anyElement es ≡ accepted
+unfolding faults anyElement _then_
+uncut check [] h = refl
+uncut check (cut at ∷ es) h = h
+uncut check (element at t v ∷ es) h = uncut check es (then-second (check at t v) (faults runBgpLs check es) h)
 
 pub passes-end : (r : List ℕ) (at : ℕ) → length r ≤ at → Passes r at
 unfolding faults
@@ -98,6 +119,28 @@ module _ (v : List ℕ) (s u : ℕ) (e : s ≡ sabmLength v) (f : u ≡ udabmLen
       (e ∙ sym (length-take-le (sabmLength v) (drop 4 v) (omega (arith, length-drop 4 v))))
       (f ∙ sym (length-take-le (udabmLength v) (drop (4 + sabmLength v) v) (omega (arith, length-drop (4 + sabmLength v) v))))
 
+-- Whether a mask ends before the bit of an application, standard or user.
+module _ (set : Set) (a s u : ℕ) (e : set ≡ Naming a) where
+  pub ends-standard : a < 64 → leb s (a / 8) ≡ endsBefore set s u
+  unfolding endsBefore
+  ends-standard h = rw (e, lt-ltb a 64 h)
+
+  pub ends-user : 64 ≤ a → leb u ((a - 64) / 8) ≡ endsBefore set s u
+  unfolding endsBefore
+  ends-user h = rw (e, le-ltb a 64 h)
+
+-- Where the mask ends before the application's bit, the bit is not set.
+pub ends-unnamed : (set : Set) (v : List ℕ) (s u : ℕ) → s ≡ sabmLength v → u ≡ udabmLength v → endsBefore set s u ≡ true → chosenBy set (standardMask v) (userMask v) ≡ false
+unfolding endsBefore chosenBy inMasks standardMask userMask
+ends-unnamed Top v s u e f h = refl
+ends-unnamed Every v s u e f h = absurd (let z : _≡_ {A = ℕ} 0 1 = cc in omega arith)
+ends-unnamed General v s u e f h = absurd (let z : _≡_ {A = ℕ} 0 1 = cc in omega arith)
+ends-unnamed (Naming a) v s u e f h = go (ltb a 64) h
+  where
+    go : (b : Bool) → cond b (leb s (a / 8)) (leb u ((a - 64) / 8)) ≡ true → cond b (bit (standardMask v) a) (bit (userMask v) (a - 64)) ≡ false
+    go true k = bit-beyond (standardMask v) a (omega (arith, leb-true s (a / 8) k, length-take (sabmLength v) (drop 4 v)))
+    go false k = bit-beyond (userMask v) (a - 64) (omega (arith, leb-true u ((a - 64) / 8) k, length-take (udabmLength v) (drop (4 + sabmLength v) v)))
+
 -- ---- whether an element is taken, test by test
 
 module _ (set : Set) (t : ℕ) (v : List ℕ) where
@@ -106,6 +149,9 @@ module _ (set : Set) (t : ℕ) (v : List ℕ) where
 
   pub not-asla : (t ≡ 1122 → ⊥) → false ≡ Taken
   not-asla h = rw (ne-eqb t 1122 h)
+
+  pub not-chosen : chosenBy set (standardMask v) (userMask v) ≡ false → false ≡ Taken
+  not-chosen h = sym (ap (λ (b : Bool). eqb t 1122 && notIgnored v && b) h ∙ and-false (eqb t 1122 && notIgnored v))
 
   pub not-live : t ≡ 1122 → notIgnored v ≡ false → false ≡ Taken
   not-live h p = rw (eq-eqb t 1122 h, p)
@@ -119,10 +165,6 @@ module _ (set : Set) (r : List ℕ) (at : ℕ) where
   pub aslas-end : length r ≤ at → aslasFrom set r at ≡ []
   unfolding aslasFrom each keep
   aslas-end h = ap (λ (es : List Element). keep (chosen set) (each advertisementsOf es)) (rest-end r at h)
-
-  pub aslas-cut : at < length r → frameAt r at ≡ Cut → aslasFrom set r at ≡ []
-  unfolding aslasFrom each keep advertisementsOf
-  aslas-cut h f = ap (λ (es : List Element). keep (chosen set) (each advertisementsOf es)) (rest-cut r at h f)
 
   module _ (t n : ℕ) (f : IsWhole r at t n) where
     abbrev value : List ℕ
@@ -166,12 +208,13 @@ module _ (set : Set) (r : List ℕ) (at : ℕ) where
       pub is-asla : (from : ℕ) → from ≤ at → aslasFrom set r at ≡ aslasFrom set r from → taken value ≡ true → IsAsla set r from at n
       is-asla from h e k =
           let both = and-l (eqb t 1122 && notIgnored value) (chosenBy set (standardMask value) (userMask value)) k in
-          let v = sound at t value element-passes (eqb-true t 1122 (and-l (eqb t 1122) (notIgnored value) both)) in
+          let i = eqb-true t 1122 (and-l (eqb t 1122) (notIgnored value) both) in
+          let v = sound at t value element-passes i in
           let l = and-r (eqb t 1122) (notIgnored value) both in
           let m = v .masks l in
           let z = length-bytesAt r (at + 4) n (f .within) in
           let g = v .fixed in
-          record { behind = h; here = p; skipped = e; within = f .within; fixed = omega arith; live = l; masks = omega arith; passes = rest-passes; left = sym e ∙ aslas-turn ∙ rw k }
+          record { behind = h; within = f .within; fixed = omega arith; live = l; masks = omega arith; inner = asla-checked at value l (top-asla at t value i ∙ element-passes) .1; passes = rest-passes; left = sym e ∙ aslas-turn ∙ rw k }
 
 -- ---- the attributes of a list of elements, whose first byte is at an offset of the run
 
@@ -182,10 +225,6 @@ module _ (base : ℕ) (s : List ℕ) (at : ℕ) where
   pub attributes-end : length s ≤ at → attributesLeft ≡ []
   unfolding each
   attributes-end h = ap (each attributesOf) (left-end 2 (omega arith) base s at h)
-
-  pub attributes-cut : at < length s → frameAt s at ≡ Cut → attributesLeft ≡ []
-  unfolding each attributesOf
-  attributes-cut h f = ap (each attributesOf) (left-cut 2 (omega arith) base s at h (is-cut s at f))
 
   pub attributes-turn : (t n : ℕ) → IsWhole s at t n
       → attributesLeft ≡ attribute 2 (base + at) (bytesAt s (at + 4) n) t (bytesAt s (at + 4) n) ∷ each attributesOf (left 2 base s (at + 4 + n))
@@ -203,10 +242,6 @@ module _ (base : ℕ) (s : List ℕ) (at k : ℕ) where
   pub first-end : length s ≤ at → Absent ≡ found at
   unfolding foundIn ofKind keep
   first-end h = sym (ap (λ (ts : List Attribute). foundIn (ofKind k ts)) (attributes-end base s at h))
-
-  pub first-cut : at < length s → frameAt s at ≡ Cut → Absent ≡ found at
-  unfolding foundIn ofKind keep
-  first-cut h f = sym (ap (λ (ts : List Attribute). foundIn (ofKind k ts)) (attributes-cut base s at h f))
 
   module _ (t n : ℕ) (f : IsWhole s at t n) where
     turn : found at ≡ foundIn (ofKind k (attribute 2 (base + at) (bytesAt s (at + 4) n) t (bytesAt s (at + 4) n) ∷ attributesLeft base s (at + 4 + n)))

@@ -1,24 +1,21 @@
 -- The attributes of a set, list by list, and what a run that passed its checks has.
 use mathlib.Core.Path.{_≡_, refl, sym, ap, ap₂, _∙_}
-use mathlib.Core.Logic.{⊎-elim}
 use mathlib.Core.Bool.{Bool, true, false, cond, not}
 use mathlib.Core.List.{List, [], _∷_, _++_, append-nil}
 use Prim.Native.Nat.{ℕ, _+_, _-_, _≤_, _<_}
 use native.Mathlib.Omega.{arith}
 use borrow.Author.Tests.{ltb-false}
-use types.Run.{OneOf}
-use denote.Enum.Declared.{tagOf}
 use lib.Dec.{ltb, eqb}
-use lib.ListN.{length, take, drop, length-drop}
-use lib.Seq.{take-length, length-take-le}
+use lib.ListN.{length, take, drop, length-drop, drop-of-length-le}
+use lib.Seq.{take-length, take-nil, length-take-le}
 use Rattle.linkstate.specs.Lists.{keep, each, empty}
 use Rattle.linkstate.specs.Bytes.{bytesAt}
 use Rattle.linkstate.specs.Replies.{accepted, refusedIf, faultOfCall, fault, runA, runBgpLs, _then_}
 use Rattle.linkstate.specs.Elements.{Element, elements, faults}
 use Rattle.linkstate.specs.Attributes.{Attribute, ofKind}
 use Rattle.linkstate.specs.Sides.{Advertisement, general, names, named, ofLive, generalSet, applicationSet}
-use Rattle.linkstate.specs.BgpLs.{aslaHeader, checkTop, runVerdict, attributesOf, advertisement, advertisementsOf, innerElements, aslas, topLevel, runSide}
-use Rattle.linkstate.proofs.ElementLaws.{rest-place}
+use Rattle.linkstate.specs.BgpLs.{aslaHeader, checkInner, checkTop, runVerdict, attributesOf, advertisement, advertisementsOf, innerElements, aslas, topLevel, runSide}
+use Rattle.linkstate.proofs.ElementLaws.{rest-place, none-left}
 use Rattle.linkstate.proofs.WalkLaws.{then-second, not-accepted}
 use Rattle.octets.proofs.Laws.{length-bytesAt}
 use Rattle.linkstate.proofs.ListLaws.{any-keep, keep-append}
@@ -27,9 +24,8 @@ use Rattle.bgpls_find.specs.declared.Set.{Set}
 use Rattle.bgpls_find.specs.declared.Set.the-variants.{Top, Every, General, Naming}
 use Rattle.bgpls_find.specs.declared.Found.the-variants.{At, Absent}
 use Rattle.bgpls_find.specs.Sets.{isTop, chosenBy, chosen, attributesIn, foundIn}
-use Rattle.bgpls_find.specs.Walks.{rest, Passes, aslasFrom, attributesFrom, IsAsla, IsPart, Starts}
-use Rattle.bgpls_find.proofs.Set.{the-type}
-use Rattle.bgpls_find.proofs.Laws.{rest-end, passes-end, aslas-end}
+use Rattle.bgpls_find.specs.Walks.{rest, Passes, anyElement, aslasFrom, attributesFrom, bytesUpTo, IsAsla, IsPart, AtList, Starts}
+use Rattle.bgpls_find.proofs.Laws.{rest-end, passes-end, aslas-end, uncut}
 
 -- ---- a run that passed
 
@@ -46,21 +42,13 @@ run-within r = go (ltb 524288 (length r)) refl
     go false e h = ltb-false 524288 (length r) e
 
 -- A part of it, by the code's slice.
-pub part-size : (r : List ℕ) (first next : ℕ) → first ≤ next → next ≤ length r → length (take (next - first) (drop first r)) ≡ next - first
+pub part-size : (r : List ℕ) (first next : ℕ) → first ≤ next → next ≤ length r → length (bytesUpTo r first next) ≡ next - first
 part-size r first next h g = length-take-le (next - first) (drop first r) (omega (arith, length-drop first r))
 
 pub part-within : (r : List ℕ) (first next : ℕ) → first ≤ next → next ≤ length r → runVerdict r ≡ accepted → first + length (take (next - first) (drop first r)) ≤ 524288
 part-within r first next h g p = omega (arith, run-within r p, part-size r first next h g)
 
 -- ---- the lists of elements of a set
-
--- All sets but the first have their attributes inside 1122s.
-pub not-top : (set : Set) → OneOf (1 ∷ 2 ∷ 3 ∷ []) (tagOf the-type set) → isTop set ≡ false
-unfolding isTop
-not-top Top h = absurd (⊎-elim (λ e. omega arith) (λ g. ⊎-elim (λ e. omega arith) (λ e. omega arith) g) h)
-not-top Every h = refl
-not-top General h = refl
-not-top (Naming a) h = refl
 
 pub from-run : (set : Set) (r : List ℕ) → attributesFrom set r 0 ≡ attributesIn set r
 unfolding attributesFrom attributesIn isTop aslasFrom chosen chosenBy topLevel runSide aslas ofLive generalSet general names
@@ -80,29 +68,13 @@ attributes-end set r from h =
     go false = refl
 
 module _ (set : Set) (r : List ℕ) (from : ℕ) where
-  pub top-part : from < length r → set ≡ Top → IsPart set r from from (length r)
-  unfolding attributesFrom isTop
-  top-part h e =
-      let all : take (length r - from) (drop from r) ≡ drop from r = ap (λ (k : ℕ). take k (drop from r)) (sym (length-drop from r)) ∙ take-length (drop from r) in
-      let none = attributes-end set r (length r) (omega arith) in
-      record {
-        on = h;
-        start = omega arith;
-        order = omega arith;
-        within = omega arith;
-        passes = passes-end r (length r) (omega arith);
-        left =
-            ap (λ (x : Set). cond (isTop x) (each attributesOf (rest r from)) (each (λ d. d .attributes) (aslasFrom set r from))) e
-            ∙ sym (ap₂ (λ (l : List ℕ) (ts : List Attribute). each attributesOf (elements 2 from l) ++ ts) all none ∙ append-nil (each attributesOf (rest r from)));
-      }
-
   module _ (inside : isTop set ≡ false) where
-    pub no-part : aslasFrom set r from ≡ [] → attributesFrom set r from ≡ []
+    pub no-part : aslasFrom set r from ≡ [] → (aslasFrom set r from ≡ []) × (attributesFrom set r from ≡ [])
     unfolding attributesFrom each
-    no-part e = rw (inside, e)
+    no-part e = (e, rw (inside, e))
 
     pub asla-part : (at n first : ℕ) → IsAsla set r from at n → first ≡ at + 4 + aslaHeader (bytesAt r (at + 4) n) → IsPart set r from first (at + 4 + n)
-    unfolding attributesFrom each advertisement innerElements bytesAt
+    unfolding attributesFrom each empty advertisement innerElements bytesAt
     asla-part at n first a e =
         let m = a .masks in
         let w = a .within in
@@ -111,16 +83,18 @@ module _ (set : Set) (r : List ℕ) (from : ℕ) where
         let h = aslaHeader v in
         let s : length v ≡ n = length-bytesAt r (at + 4) n w in
         let k : at + 4 + n - first ≡ length (drop h v) = omega (arith, length-drop h v) in
+        let l = list first (at + 4 + n - first) (at + 4 + h) (length (drop h v)) e k ∙ rest-place r (at + 4) h v (ap (bytesAt r (at + 4)) s) (omega arith) in
         record {
           on = omega arith;
           start = omega arith;
           order = omega arith;
           within = w;
+          uncut = ap₂ (λ (i : ℕ) (l : List ℕ). faults runBgpLs anyElement (elements 2 i l)) e l ∙ uncut checkInner (elements 2 (at + 4 + h) (drop h v)) (a .inner);
           passes = a .passes;
+          some = rw (a .left);
           left =
               rw (inside, a .left)
-              (ap₂ (λ (i : ℕ) (l : List ℕ). each attributesOf (elements 2 i l) ++ each (λ d. d .attributes) (aslasFrom set r (at + 4 + n))) (sym e)
-              (sym (list first (at + 4 + n - first) (at + 4 + h) (length (drop h v)) e k ∙ rest-place r (at + 4) h v (ap (bytesAt r (at + 4)) s) (omega arith))));
+              (ap₂ (λ (i : ℕ) (l : List ℕ). each attributesOf (elements 2 i l) ++ each (λ d. d .attributes) (aslasFrom set r (at + 4 + n))) (sym e) (sym l));
         }
       where
         list : (i j x y : ℕ) → i ≡ x → j ≡ y → take j (drop i r) ≡ bytesAt r x y
@@ -128,15 +102,74 @@ module _ (set : Set) (r : List ℕ) (from : ℕ) where
 
 -- ---- where a set starts
 
-pub starts-run : (set : Set) (r : List ℕ) → runVerdict r ≡ accepted → Starts set r 0
-starts-run set r ok = record { within = omega arith; passes = run-passes r ok; all = from-run set r }
+-- With the whole run, for its top.
+pub starts-top : (r : List ℕ) → runVerdict r ≡ accepted → Starts Top r 0 (length r)
+unfolding attributesIn topLevel
+starts-top r ok =
+    let none = attributes-end Top r (length r) (omega arith) in
+    let z : length r - 0 ≡ length r = omega arith in
+    let whole : take (length r - 0) r ≡ r = ap (λ (k : ℕ). take k r) z ∙ take-length r in
+    record {
+      list =
+          record {
+            order = omega arith;
+            within = omega arith;
+            uncut = ap (λ (l : List ℕ). faults runBgpLs anyElement (elements 2 0 l)) whole ∙ uncut checkTop (elements 2 0 r) (run-passes r ok);
+            passes = passes-end r (length r) (omega arith);
+            top = λ e. omega arith;
+          };
+      all = ap₂ (λ (l : List ℕ) (ts : List Attribute). each attributesOf (elements 2 0 l) ++ ts) whole none ∙ append-nil (each attributesOf (elements 2 0 r));
+    }
 
--- At the first 1122 that names an application.
-pub starts-naming : (r : List ℕ) (a at n : ℕ) → IsAsla (Naming a) r 0 at n → Starts (Naming a) r at
-unfolding attributesFrom isTop
-starts-naming r a at n d =
-    let w = d .within in
-    record { within = omega arith; passes = d .here; all = ap (each (λ d. d .attributes)) (d .skipped) ∙ from-run (Naming a) r }
+-- With its first list, or at the end where it has none.
+module _ (set : Set) (r : List ℕ) (inside : isTop set ≡ false) where
+  not-true : isTop set ≡ true → (n : ℕ) → length r ≤ n
+  not-true e n = absurd (let z : _≡_ {A = ℕ} 0 1 = cc in omega arith)
+
+  pub starts-part : (first next : ℕ) → IsPart set r 0 first next → Starts set r first next
+  starts-part first next p =
+      record { list = record { order = p .order; within = p .within; uncut = p .uncut; passes = p .passes; top = λ e. not-true e next }; all = sym (p .left) ∙ from-run set r }
+
+  pub starts-none : attributesFrom set r 0 ≡ [] → Starts set r (length r) (length r)
+  unfolding each faults
+  starts-none e =
+      let none = attributes-end set r (length r) (omega arith) in
+      let nothing : drop (length r) r ≡ [] = drop-of-length-le r {i = length r} (omega arith) in
+      let nowhere = ap (λ (l : List ℕ). elements 2 (length r) l) (list-of-none (length r - length r) (drop (length r) r) nothing) ∙ none-left 2 (length r) in
+      record {
+        list =
+            record {
+              order = omega arith;
+              within = omega arith;
+              uncut = ap (faults runBgpLs anyElement) nowhere;
+              passes = passes-end r (length r) (omega arith);
+              top = λ e. not-true e (length r);
+            };
+        all =
+            ap₂ (λ (es : List Element) (ts : List Attribute). each attributesOf es ++ ts) nowhere none
+            ∙ sym e
+            ∙ from-run set r;
+      }
+    where
+      list-of-none : (k : ℕ) (l : List ℕ) → l ≡ [] → take k l ≡ []
+      list-of-none k l e = ap (take k) e ∙ take-nil k
+
+-- ---- a walk that stands at a list
+
+module _ (set : Set) (r : List ℕ) (first next : ℕ) (a : AtList set r first next) where
+  -- One that has not come to the end is not over the top, and may look for the next list.
+  pub go-on : next < length r → (next ≤ length r) × (isTop set ≡ false) × Passes r next
+  go-on h = (a .within, inside (isTop set) (a .top), a .passes)
+    where
+      inside : (b : Bool) → (b ≡ true → length r ≤ next) → b ≡ false
+      inside true g = absurd (omega (arith, g refl))
+      inside false g = refl
+
+  pub next-list : (f n : ℕ) → IsPart set r next f n → AtList set r f n
+  next-list f n p =
+      let l = p .on in
+      let w = p .within in
+      record { order = p .order; within = w; uncut = p .uncut; passes = p .passes; top = λ e. let h = a .top e in omega arith }
 
 -- ---- what is found in a set
 
@@ -166,6 +199,10 @@ module _ (k : ℕ) where
   unfolding foundIn ofKind keep
   found-none ts e = rw e
 
+  -- nowhere
+  pub found-nowhere : (xs ys : List Attribute) → ys ≡ [] → Absent ≡ foundIn (ofKind k xs) → Absent ≡ foundIn (ofKind k (xs ++ ys))
+  found-nowhere xs ys e f = found-none ys e ∙ found-later (xs ++ ys) xs ys refl f
+
 -- ---- the set of an application
 
 module _ (r : List ℕ) (a : ℕ) where
@@ -173,9 +210,9 @@ module _ (r : List ℕ) (a : ℕ) where
   unfolding named runSide aslasFrom aslas chosen chosenBy names
   naming = any-keep (names a) (each advertisementsOf (elements 2 0 r))
 
-  pub some-name : (d : Advertisement) (ds : List Advertisement) → aslasFrom (Naming a) r 0 ≡ d ∷ ds → attributesIn (Naming a) r ≡ applicationSet a (runSide r)
-  unfolding attributesIn empty
-  some-name d ds e = sym (named-set r a (naming ∙ rw e))
+  pub some-name : empty (aslasFrom (Naming a) r 0) ≡ false → attributesIn (Naming a) r ≡ applicationSet a (runSide r)
+  unfolding attributesIn
+  some-name e = sym (named-set r a (naming ∙ rw e))
 
   pub none-name : aslasFrom (Naming a) r 0 ≡ [] → attributesIn General r ≡ applicationSet a (runSide r)
   unfolding attributesIn empty applicationSet

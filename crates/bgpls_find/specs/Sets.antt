@@ -1,8 +1,8 @@
 -- The sets of attributes that a look-up in a BGP-LS run can be about, and what it finds.
-use mathlib.Core.Bool.{Bool, true, false, _&&_}
+use mathlib.Core.Bool.{Bool, true, false, cond, _&&_}
 use mathlib.Core.List.{List, [], _∷_}
-use Prim.Native.Nat.{ℕ}
-use lib.Dec.{eqb}
+use Prim.Native.Nat.{ℕ, _-_, _/_}
+use lib.Dec.{eqb, ltb, leb}
 use lib.ListN.{length}
 use Rattle.linkstate.specs.Masks.{inMasks}
 use Rattle.linkstate.specs.Attributes.{Attribute}
@@ -25,6 +25,13 @@ chosenBy Top s u = false
 chosenBy Every s u = true
 chosenBy General s u = eqb (length s) 0 && eqb (length u) 0
 chosenBy (Naming a) s u = inMasks s u a
+
+-- Whether the bit of the application that a set is about lies behind the end of its mask, by the lengths of the masks.
+unfoldable pub endsBefore : Set → ℕ → ℕ → Bool
+endsBefore Top s u = false
+endsBefore Every s u = false
+endsBefore General s u = false
+endsBefore (Naming a) s u = cond (ltb a 64) (leb s (a / 8)) (leb u ((a - 64) / 8))
 
 unfoldable pub chosen : Set → Advertisement → Bool
 chosen set d = chosenBy set (d .standardMask) (d .userMask)

@@ -1,6 +1,6 @@
 // Look-ups in a BGP-LS run that passed its checks.
 ghost use mathlib.Core.Path.{_≡_};
-ghost use mathlib.Core.Bool.{_&&_};
+ghost use mathlib.Core.Bool.{false, _&&_};
 ghost use Prim.Native.Nat.{_+_, _≤_, _<_};
 ghost use lib.Dec.{eqb};
 ghost use lib.ListN.{length};
@@ -8,15 +8,15 @@ ghost use Rattle.linkstate.specs.Lists.{each};
 ghost use Rattle.linkstate.specs.Replies.{accepted};
 ghost use Rattle.linkstate.specs.Elements.{elements};
 ghost use Rattle.linkstate.specs.Attributes.{ofKind};
-ghost use Rattle.linkstate.specs.Sides.{applicationSet};
+ghost use Rattle.linkstate.specs.Sides.{generalSet, applicationSet};
 ghost use Rattle.linkstate.specs.BgpLs.{notIgnored, attributesOf, runVerdict, runSide};
-ghost use Rattle.bgpls_find.specs.Sets.{chosenBy, attributesIn, foundIn};
-ghost use Rattle.bgpls_find.specs.Walks.{Passes, Sound, standardMask, userMask, NextAsla, NextPart, Starts};
-use bgpls_check::Frame;
+ghost use Rattle.bgpls_find.specs.Sets.{isTop, chosenBy, endsBefore, attributesIn, foundIn};
+ghost use Rattle.bgpls_find.specs.Walks.{Passes, Uncut, Sound, standardMask, userMask, NextPart, Starts};
+use bgpls_check::AslaHeader;
 use bgpls_check::not_ignored;
 use bgpls_check::read_asla_header;
-use bgpls_check::read_frame;
 use masks::names;
+use octets::read16;
 
 // A set of attributes: the TLVs at the top of the run, or those inside its 1122s: all that are not ignored, the general ones, or those that name an application.
 pub enum Set {
@@ -32,19 +32,30 @@ pub enum Found {
     Absent,
 }
 
-// A 1122: the offset of its first byte, and the length of its value.
-pub enum Asla {
-    At { at: usize, len: usize },
-    Absent,
-}
-
 // A list of elements: its first byte, and the byte after it.
 pub enum Part {
     At { first: usize, next: usize },
     Absent,
 }
 
-// Whether an element is a 1122 that is not ignored and that the set takes.
+// Whether the mask that an application's bit is in ends before that bit, by the lengths of the masks.
+fn ends_before(h: AslaHeader, set: Set) -> bool
+    ensures { λ r. ⌜ r ≡ endsBefore set (h .standard) (h .user) ⌝ }
+{
+    match set {
+        Set::Top => false,
+        Set::Every => false,
+        Set::General => false,
+        Set::Naming(a) => {
+            if a < 64 {
+                return h.standard <= (a / 8) as usize;
+            }
+            h.user <= ((a - 64) / 8) as usize
+        }
+    }
+}
+
+// Whether an element is a 1122 that is not ignored and that the set takes. The quickest test comes first.
 pub fn is_chosen(v: &[u8], code: usize, set: Set) -> bool
     requires { ⌜ (code ≡ 1122 → Sound (now v)) ⌝ }
     ensures { λ r. ⌜ r ≡ eqb code 1122 && notIgnored (now (v .entry)) && chosenBy set (standardMask (now (v .entry))) (userMask (now (v .entry))) ⌝ }
@@ -53,6 +64,9 @@ pub fn is_chosen(v: &[u8], code: usize, set: Set) -> bool
         return false;
     }
     let h = read_asla_header(v);
+    if ends_before(h, set) {
+        return false;
+    }
     if !not_ignored(h) {
         return false;
     }
@@ -67,57 +81,36 @@ pub fn is_chosen(v: &[u8], code: usize, set: Set) -> bool
     }
 }
 
-// The next 1122 that the set takes.
-pub fn next_asla(r: &[u8], from: usize, set: Set) -> Asla
-    requires { ⌜ (from ≤ length (now r)) × Passes (now r) from ⌝ }
-    ensures { λ a. ⌜ NextAsla set (now (r .entry)) from a ⌝ }
+// The next list of elements that a set has attributes in, inside a 1122.
+pub fn next_part(r: &[u8], from: usize, set: Set) -> Part
+    requires { ⌜ (from ≤ length (now r)) × (isTop set ≡ false) × Passes (now r) from ⌝ }
+    ensures { λ p. ⌜ NextPart set (now (r .entry)) from p ⌝ }
 {
     let mut at = from;
     while at < r.len() {
-        let Frame::Whole { code, len } = read_frame(r, at) else {
-            return Asla::Absent;
-        };
+        let code = read16(r, at);
+        let len = read16(r, at + 2);
         let value = at + 4;
         let next = value + len;
         if is_chosen(&r[value..next], code, set) {
-            return Asla::At { at, len };
+            let h = read_asla_header(&r[value..next]);
+            let first = value + 4 + h.standard + h.user;
+            return Part::At { first, next };
         }
         at = next;
     }
-    Asla::Absent
-}
-
-// The next list of elements that the set has attributes in: the whole run for its top, else what is inside a 1122.
-pub fn next_part(r: &[u8], from: usize, set: Set) -> Part
-    requires { ⌜ (from < length (now r)) × Passes (now r) from ⌝ }
-    ensures { λ p. ⌜ NextPart set (now (r .entry)) from p ⌝ }
-{
-    if let Set::Top = set {
-        return Part::At {
-            first: from,
-            next: r.len(),
-        };
-    }
-    let Asla::At { at, len } = next_asla(r, from, set) else {
-        return Part::Absent;
-    };
-    let value = at + 4;
-    let next = value + len;
-    let h = read_asla_header(&r[value..next]);
-    let first = value + 4 + h.standard + h.user;
-    Part::At { first, next }
+    Part::Absent
 }
 
 // The first element of a code in a list whose first byte is at the offset `base` of the run.
 fn first_element(s: &[u8], base: usize, code: usize) -> Found
-    requires { ⌜ base + length (now s) ≤ 524288 ⌝ }
+    requires { ⌜ (base + length (now s) ≤ 524288) × Uncut base (now s) ⌝ }
     ensures { λ f. ⌜ f ≡ foundIn (ofKind code (each attributesOf (elements 2 base (now (s .entry))))) ⌝ }
 {
     let mut at = 0;
     while at < s.len() {
-        let Frame::Whole { code: t, len } = read_frame(s, at) else {
-            return Found::Absent;
-        };
+        let t = read16(s, at);
+        let len = read16(s, at + 2);
         let value = at + 4;
         if t == code {
             return Found::At {
@@ -130,44 +123,67 @@ fn first_element(s: &[u8], base: usize, code: usize) -> Found
     Found::Absent
 }
 
-// A set, and a position of the run before which it has nothing.
+// A set, and the first list of elements that it has attributes in.
 pub struct Start {
     pub set: Set,
-    pub from: usize,
+    pub first: usize,
+    pub next: usize,
 }
 
 // The first attribute of a kind in a set.
 pub fn first_in(r: &[u8], start: Start, code: usize) -> Found
-    requires { ⌜ (runVerdict (now r) ≡ accepted) × Starts (start .set) (now r) (start .from) ⌝ }
+    requires { ⌜ (runVerdict (now r) ≡ accepted) × Starts (start .set) (now r) (start .first) (start .next) ⌝ }
     ensures { λ f. ⌜ f ≡ foundIn (ofKind code (attributesIn (start .set) (now (r .entry)))) ⌝ }
 {
     let set = start.set;
-    let mut from = start.from;
-    while from < r.len() {
-        let Part::At { first, next } = next_part(r, from, set) else {
-            return Found::Absent;
-        };
+    let mut first = start.first;
+    let mut next = start.next;
+    loop {
         match first_element(&r[first..next], first, code) {
             Found::At { place, len } => return Found::At { place, len },
-            Found::Absent => from = next,
+            Found::Absent => {}
         }
+        if r.len() <= next {
+            return Found::Absent;
+        }
+        let Part::At { first: f, next: n } = next_part(r, next, set) else {
+            return Found::Absent;
+        };
+        first = f;
+        next = n;
     }
-    Found::Absent
+}
+
+// The general set.
+pub fn general_start(r: &[u8]) -> Start
+    requires { ⌜ runVerdict (now r) ≡ accepted ⌝ }
+    ensures { λ s. ⌜ Starts (s .set) (now (r .entry)) (s .first) (s .next) × (attributesIn (s .set) (now (r .entry)) ≡ generalSet (runSide (now (r .entry)))) ⌝ }
+{
+    match next_part(r, 0, Set::General) {
+        Part::At { first, next } => Start {
+            set: Set::General,
+            first,
+            next,
+        },
+        Part::Absent => Start {
+            set: Set::General,
+            first: r.len(),
+            next: r.len(),
+        },
+    }
 }
 
 // The set that an application other than RSVP-TE gets: of those that name it, else the general one.
 pub fn set_of(r: &[u8], application: u32) -> Start
     requires { ⌜ runVerdict (now r) ≡ accepted ⌝ }
-    ensures { λ s. ⌜ Starts (s .set) (now (r .entry)) (s .from) × (attributesIn (s .set) (now (r .entry)) ≡ applicationSet application (runSide (now (r .entry)))) ⌝ }
+    ensures { λ s. ⌜ Starts (s .set) (now (r .entry)) (s .first) (s .next) × (attributesIn (s .set) (now (r .entry)) ≡ applicationSet application (runSide (now (r .entry)))) ⌝ }
 {
-    match next_asla(r, 0, Set::Naming(application)) {
-        Asla::At { at, len: _ } => Start {
+    match next_part(r, 0, Set::Naming(application)) {
+        Part::At { first, next } => Start {
             set: Set::Naming(application),
-            from: at,
+            first,
+            next,
         },
-        Asla::Absent => Start {
-            set: Set::General,
-            from: 0,
-        },
+        Part::Absent => general_start(r),
     }
 }

@@ -7,15 +7,14 @@ ghost use Rattle.linkstate.specs.Masks.{user, asNumber};
 ghost use Rattle.linkstate.specs.Replies.{accepted};
 ghost use Rattle.linkstate.specs.BgpLs.{notIgnored, aslaHeader, aslas, runVerdict, runSource};
 ghost use Rattle.bgpls_named.specs.Joined.{HoldSent, HoldBoth};
-use bgpls_check::Frame;
 use bgpls_check::read_asla_header;
-use bgpls_check::read_frame;
 use bgpls_find::Set;
 use bgpls_find::is_chosen;
 use masks::joined;
 use masks::sent_number;
 use masks::turned;
 use masks::without;
+use octets::read16;
 
 // Standard and user applications as two numbers: application n as 2 to the n, or, while masks are joined, at its place in a mask's bytes.
 pub struct NamedMasks {
@@ -47,9 +46,8 @@ fn all_masks(r: &[u8]) -> NamedMasks
     };
     let mut at = 0;
     while at < r.len() {
-        let Frame::Whole { code, len } = read_frame(r, at) else {
-            return m;
-        };
+        let code = read16(r, at);
+        let len = read16(r, at + 2);
         let value = at + 4;
         let next = value + len;
         if is_chosen(&r[value..next], code, Set::Every) {

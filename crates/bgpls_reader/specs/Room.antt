@@ -9,5 +9,5 @@ use Rattle.bgpls_find.specs.Walks.{Starts}
 use Rattle.bgpls_srlg.specs.Words.{srlgWords}
 
 pub record Counted (r : List ℕ) (start : Start) (n : ℕ) : Type 0 where
-  pub starts : Starts (start .set) r (start .from)
+  pub starts : Starts (start .set) r (start .first) (start .next)
   pub count : n ≡ length (srlgWords (attributesIn (start .set) r))

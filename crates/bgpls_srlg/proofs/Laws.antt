@@ -1,5 +1,5 @@
 -- SRLG numbers, element by element and list by list, counted and written.
-use mathlib.Core.Path.{_≡_, refl, sym, ap, _∙_}
+use mathlib.Core.Path.{_≡_, refl, sym, ap, _∙_, subst}
 use mathlib.Core.Bool.{Bool, true, false, cond}
 use mathlib.Core.List.{List, [], _∷_, _++_, map}
 use Prim.Native.Nat.{ℕ, _+_, _-_, _≤_, _<_}
@@ -16,12 +16,10 @@ use Rattle.linkstate.proofs.ElementLaws.{moved, elements-moved}
 use Rattle.linkstate.proofs.WalkLaws.{left}
 use Rattle.octets.proofs.Laws.{part-is, put-nil, put-then, length-put}
 use Rattle.linkstate.proofs.ListLaws.{keep-append, each-append}
-use Rattle.bgpls_check.specs.declared.Frame.the-variants.{Cut}
-use Rattle.bgpls_check.specs.Framing.{frameAt}
 use Rattle.bgpls_check.proofs.Laws.{IsWhole}
 use Rattle.bgpls_find.specs.declared.Set.{Set}
-use Rattle.bgpls_find.specs.Walks.{attributesFrom, IsPart}
-use Rattle.bgpls_find.proofs.Laws.{attributes-end, attributes-cut, attributes-turn}
+use Rattle.bgpls_find.specs.Walks.{attributesFrom, bytesUpTo, listAt}
+use Rattle.bgpls_find.proofs.Laws.{attributes-end, attributes-turn}
 use Rattle.bgpls_find.proofs.SetLaws as Set
 use Rattle.bgpls_srlg.specs.Words.{srlgWords, listWords, elementWords}
 
@@ -79,10 +77,6 @@ module _ (s : List ℕ) (at : ℕ) where
   unfolding srlgWords ofKind keep each
   words-end h = ap srlgWords (attributes-end 0 s at h)
 
-  pub words-cut : at < length s → frameAt s at ≡ Cut → wordsLeft ≡ []
-  unfolding srlgWords ofKind keep each
-  words-cut h f = ap srlgWords (attributes-cut 0 s at h f)
-
   -- the element there has the code's slice as its value
   pub words-turn : (t n : ℕ) → IsWhole s at t n
       → wordsLeft ≡ elementWords t (take (at + 4 + n - (at + 4)) (drop (at + 4) s)) ++ srlgWords (each attributesOf (left 2 0 s (at + 4 + n)))
@@ -105,12 +99,10 @@ module _ (set : Set) (r : List ℕ) (from : ℕ) where
   unfolding srlgWords ofKind keep each
   set-none e = ap srlgWords e
 
-  pub set-turn : (first next : ℕ) → IsPart set r from first next
-      → srlgWords (attributesFrom set r from) ≡ listWords (take (next - first) (drop first r)) ++ srlgWords (attributesFrom set r next)
-  set-turn first next p =
-      ap srlgWords (p .left)
-      ∙ srlg-append (each attributesOf (elements 2 first (take (next - first) (drop first r)))) (attributesFrom set r next)
-      ∙ ap (λ (l : List ℕ). l ++ srlgWords (attributesFrom set r next)) (list-words first (take (next - first) (drop first r)))
+  -- with a list before them
+  pub set-turn : (first next : ℕ) → srlgWords (listAt r first next ++ attributesFrom set r from) ≡ listWords (bytesUpTo r first next) ++ srlgWords (attributesFrom set r from)
+  set-turn first next =
+      srlg-append (listAt r first next) (attributesFrom set r from) ∙ ap (λ (l : List ℕ). l ++ srlgWords (attributesFrom set r from)) (list-words first (bytesUpTo r first next))
 
 -- Where numbers are left, the run has not ended.
 pub set-more : (set : Set) (r : List ℕ) (from : ℕ) → 0 < length (srlgWords (attributesFrom set r from)) → from < length r
@@ -135,6 +127,9 @@ count-start all l e = record { sum = omega (arith, ap length e) }
 
 pub count-next : (all l ws rest : List ℕ) (n m : ℕ) → Counted all n l → l ≡ ws ++ rest → m ≡ length ws → Counted all (n + m) rest
 count-next all l ws rest n m c e f = record { sum = omega (arith, c .sum, ap length e, length-append ws rest) }
+
+pub count-as : (all l m : List ℕ) (n : ℕ) → l ≡ m → Counted all n l → Counted all n m
+count-as all l m n e c = subst (Counted all n) e c
 
 pub count-end : (all l : List ℕ) (n : ℕ) → Counted all n l → l ≡ [] → n ≡ length all
 count-end all l n c e = omega (arith, c .sum, ap length e)
@@ -166,6 +161,9 @@ module _ (d : List ℕ) (start : ℕ) (all : List ℕ) where
         at = omega arith;
         rest = put-then out after (put after m others) k ws m others g refl f (omega arith) ∙ sym (ap (put out k) e) ∙ w .rest;
       }
+
+  pub written-as : (out : List ℕ) (k : ℕ) (l m : List ℕ) → l ≡ m → Written d start all out k l → Written d start all out k m
+  written-as out k l m e w = subst (Written d start all out k) e w
 
   pub written-end : (out : List ℕ) (k : ℕ) (l : List ℕ) → Written d start all out k l → l ≡ [] → (k ≡ start + length all) × (out ≡ put d start all)
   written-end out k l w e = let at = w .at in (omega (arith, ap length e), put-nil out k ∙ sym (ap (put out k) e) ∙ w .rest)

@@ -12,7 +12,7 @@ use Rattle.linkstate.specs.Bytes.{bytesAt}
 use Rattle.linkstate.specs.Kinds.{isCode, isLinkCode, formOf, wrongAtTop, wrongInside}
 use Rattle.linkstate.specs.Replies.{runBgpLs, accepted}
 use Rattle.linkstate.specs.Attributes.{Attribute, ofKind, readingAs}
-use Rattle.linkstate.specs.Sides.{applicationSet}
+use Rattle.linkstate.specs.Sides.{generalSet, applicationSet}
 use Rattle.linkstate.specs.Meaning.{Accepted}
 use Rattle.linkstate.specs.Questions.{Subject, numberTooHigh, setOf, given, firstOf, bytesOfFirst}
 use Rattle.linkstate.specs.BgpLs.{runVerdict, topLevel, runSide, runSource}
@@ -48,9 +48,9 @@ module _ (r : List ℕ) (k : ℕ) (whom : Whom) where
   asks-top e = rw e
 
   module _ (e : isLinkCode k ≡ false) where
-    pub asks-general : whom ≡ General → attributesIn Sets.General r ≡ given (runSource r) (subjectOf whom) k
-    unfolding attributesIn given runSource setOf
-    asks-general w = rw (e, w)
+    pub asks-general : (s : Set) → whom ≡ General → attributesIn s r ≡ generalSet (runSide r) → attributesIn s r ≡ given (runSource r) (subjectOf whom) k
+    unfolding given runSource setOf
+    asks-general s w h = rw (e, w) h
 
     pub asks-rsvp-te : (n : ℕ) → whom ≡ Standard n → n ≡ 0 → attributesIn Sets.Top r ≡ given (runSource r) (subjectOf whom) k
     unfolding attributesIn given runSource setOf
@@ -149,6 +149,9 @@ module _ (r : List ℕ) (ok : runVerdict r ≡ accepted) (whom : Whom) (low : nu
       go : (v : List ℕ) → f .first .value ≡ v → 0 < n
       go [] e = absurd (let z : _≡_ {A = ℕ} 0 1 = cc (sym (ap empty e) ∙ facts .2, nothing-empty) in omega arith)
       go (b ∷ bs) e = omega (arith, ap length e, facts .0 .len, f .len)
+
+  pub placed : p ≡ 0 → ⊥
+  placed z = omega (arith, facts .0 .placed, f .place)
 
   pub lies-within : p + n ≤ length r
   unfolding bytesAt

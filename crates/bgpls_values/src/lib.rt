@@ -22,24 +22,23 @@ use replies::Subject;
 // The set of attributes that a question is about.
 pub fn set_asked(r: &[u8], whom: Subject, code: usize) -> Start
     requires { ⌜ (runVerdict (now r) ≡ accepted) × (numberTooHigh (subjectOf whom) ≡ false) ⌝ }
-    ensures { λ s. ⌜ Starts (s .set) (now (r .entry)) (s .from) × (attributesIn (s .set) (now (r .entry)) ≡ given (runSource (now (r .entry))) (subjectOf whom) code) ⌝ }
+    ensures { λ s. ⌜ Starts (s .set) (now (r .entry)) (s .first) (s .next) × (attributesIn (s .set) (now (r .entry)) ≡ given (runSource (now (r .entry))) (subjectOf whom) code) ⌝ }
 {
     if answering::is_link_code(code) {
         return Start {
             set: Set::Top,
-            from: 0,
+            first: 0,
+            next: r.len(),
         };
     }
     match whom {
-        Subject::General => Start {
-            set: Set::General,
-            from: 0,
-        },
+        Subject::General => bgpls_find::general_start(r),
         Subject::Standard(n) => {
             if n == 0 {
                 return Start {
                     set: Set::Top,
-                    from: 0,
+                    first: 0,
+                    next: r.len(),
                 };
             }
             bgpls_find::set_of(r, n)

@@ -1,39 +1,99 @@
 // Questions answered by a status and two numbers: ask and value, of a link and of a BGP-LS run.
 ghost use mathlib.Core.Path.{_≡_};
+ghost use mathlib.Core.Bool.{false};
+ghost use mathlib.Core.List.{List};
+ghost use Prim.Native.Nat.{ℕ, _+_, _≤_};
+ghost use lib.Dec.{eqb};
+ghost use lib.ListN.{length};
+ghost use Rattle.linkstate.specs.Bytes.{number, bytesAt};
+ghost use Rattle.linkstate.specs.Kinds.{formOf};
+ghost use Rattle.linkstate.specs.Attributes.{readingAs};
 ghost use Rattle.linkstate.specs.Questions.{ask};
 ghost use Rattle.linkstate.specs.BgpLs.{runSource};
 ghost use Rattle.isis.specs.Link.{linkSource};
-ghost use Rattle.replies.specs.Told.{subjectOf};
-ghost use Rattle.statuses.specs.Words.{words, askWords, valueWords};
+ghost use Rattle.replies.specs.Told.{subjectOf, toldRun};
+ghost use Rattle.readings.specs.Standing.{Readable, standing};
+ghost use Rattle.statuses.specs.Words.{words, readingWords, askWords, valueWords};
+ghost use Rattle.status_entries.specs.Answered.{Answers};
 use bgpls_find::Found;
+use kinds::Form;
 use replies::Checked;
+use replies::Run;
 use replies::Subject;
 use statuses::Words;
 
-// One kind of one subject of a link. The bits of a bandwidth are read from the value's own bytes.
+// What the value of a code that stands at a place of a run reads as; the bits of a bandwidth are its own bytes.
+fn standing_words(s: &[u8], run: Run, code: usize, place: usize, len: usize) -> Words
+    requires { ⌜ (place + len ≤ length (now s)) × Readable (formOf code) len ⌝ }
+    ensures { λ r. ⌜ words r ≡ readingWords (number (bytesAt (now (s .entry)) place len)) (readingAs (formOf code) (toldRun run) (standing (now (s .entry)) place len)) ⌝ }
+{
+    let form = kinds::form_of(code);
+    if let Form::Float = form {
+        return statuses::bits_words(&s[place..place + len]);
+    }
+    statuses::reading_words(readings::read_value(s, run, form, place, len))
+}
+
+// Every kind but SRLG, of a link.
+fn ask_link_value(a: &[u8], b: &[u8], c: &[u8], whom: Subject, code: usize) -> Words
+    requires { ⌜ eqb code 1096 ≡ false ⌝ }
+    ensures { λ r. ⌜ ((list : List ℕ) → Answers (linkSource (now (a .entry)) (now (b .entry)) (now (c .entry))) (subjectOf whom) code list (words r) list) ⌝ }
+{
+    match answering::check_question(whom, code) {
+        Checked::Refused(x) => return statuses::refusal_words(x),
+        Checked::Accepted => {}
+    }
+    match isis_check::check_link(a, b, c) {
+        Checked::Refused(x) => return statuses::refusal_words(x),
+        Checked::Accepted => {}
+    }
+    let row = isis_values::find_row(a, whom, code);
+    let at = row[0];
+    let size = row[1];
+    if at == 0 {
+        return statuses::no_words();
+    }
+    standing_words(a, Run::A, code, at, size)
+}
+
+// One kind of one subject of a link.
 pub fn ask_link(a: &[u8], b: &[u8], c: &[u8], whom: Subject, code: usize, list: &mut [u32]) -> Words
     ensures { λ r. ⌜ (words r ≡ askWords (linkSource (now (a .entry)) (now (b .entry)) (now (c .entry))) (subjectOf whom) code (now (list .entry))) × (now (list .exit) ≡ (ask (linkSource (now (a .entry)) (now (b .entry)) (now (c .entry))) (subjectOf whom) code (now (list .entry))) .list) ⌝ }
 {
-    let x = isis_link::ask(a, b, c, whom, code, list);
-    let w = statuses::answer_words(x);
-    if w.status == 3 {
-        let v = isis_link::value(a, b, c, whom, code);
-        return statuses::bits_words(v);
+    if code == 1096 {
+        let x = isis_link::ask(a, b, c, whom, code, list);
+        return statuses::answer_words(x);
     }
-    w
+    ask_link_value(a, b, c, whom, code)
 }
 
 // The same of a run.
+fn ask_run_value(r: &[u8], whom: Subject, code: usize) -> Words
+    requires { ⌜ eqb code 1096 ≡ false ⌝ }
+    ensures { λ x. ⌜ ((list : List ℕ) → Answers (runSource (now (r .entry))) (subjectOf whom) code list (words x) list) ⌝ }
+{
+    match answering::check_question(whom, code) {
+        Checked::Refused(x) => return statuses::refusal_words(x),
+        Checked::Accepted => {}
+    }
+    match bgpls_check::check_run(r) {
+        Checked::Refused(x) => return statuses::refusal_words(x),
+        Checked::Accepted => {}
+    }
+    let Found::At { place, len } = bgpls_values::find_value(r, whom, code) else {
+        return statuses::no_words();
+    };
+    standing_words(r, Run::BgpLs, code, place, len)
+}
+
 pub fn ask_run(r: &[u8], whom: Subject, code: usize, list: &mut [u32]) -> Words
     ensures { λ x. ⌜ (words x ≡ askWords (runSource (now (r .entry))) (subjectOf whom) code (now (list .entry))) × (now (list .exit) ≡ (ask (runSource (now (r .entry))) (subjectOf whom) code (now (list .entry))) .list) ⌝ }
 {
-    let x = bgpls_reader::ask(r, whom, code, list);
-    let w = statuses::answer_words(x);
-    if w.status == 3 {
-        let v = bgpls_reader::value(r, whom, code);
-        return statuses::bits_words(v);
+    if code == 1096 {
+        let x = bgpls_reader::ask(r, whom, code, list);
+        return statuses::answer_words(x);
     }
-    w
+    ask_run_value(r, whom, code)
 }
 
 // Where the value of a question to a link stands in run A.

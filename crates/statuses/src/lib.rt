@@ -73,7 +73,7 @@ fn refusal_status(number: u8) -> u64
     128 + number as u64
 }
 
-fn refusal_words(x: Refusal) -> Words
+pub fn refusal_words(x: Refusal) -> Words
     ensures { λ r. ⌜ words r ≡ refusalWords (toldRefusal x) ⌝ }
 {
     let status = refusal_status(x.number);
@@ -89,7 +89,7 @@ fn refusal_words(x: Refusal) -> Words
 }
 
 // A reading; a bandwidth without its bits.
-fn reading_words(x: Reading) -> Words
+pub fn reading_words(x: Reading) -> Words
     ensures { λ r. ⌜ words r ≡ readingWords 0 (toldReading x) ⌝ }
 {
     match x {

@@ -1,13 +1,13 @@
 -- `bgpls_named::all_masks` meets its contract: with what the 1122s that are left name, the numbers hold all that are named.
 use Rattle.bgpls_named.proofs.Laws.{Held, held-start, held-end, held-skip, held-next}
 use Rattle.bgpls_find.proofs.SetLaws.{run-passes}
-use Rattle.bgpls_find.proofs.Laws.{Taken, aslas-end, aslas-cut, aslas-passed, part-taken, part-sound, rest-passes, is-asla}
+use Rattle.bgpls_find.proofs.Laws.{Taken, head-fits, whole-here, left-passes, aslas-end, aslas-passed, part-taken, part-sound, rest-passes, is-asla}
 use Rattle.bgpls_find.specs.Walks.{Passes, IsAsla}
 use Rattle.bgpls_find.specs.declared.Set.the-variants.{Every}
-use Rattle.bgpls_check.proofs.Laws.{IsWhole, is-whole, part-length}
+use Rattle.bgpls_check.proofs.Laws.{IsWhole, part-length}
 use Rattle.octets.proofs.Laws.{part-is}
 use Rattle.linkstate.specs.Bytes.{bytesAt}
-use Rattle.linkstate.specs.BgpLs.{notIgnored, aslaHeader}
+use Rattle.linkstate.specs.BgpLs.{notIgnored, aslaHeader, checkTop}
 use lib.ListN.{length}
 use borrow.Author.Needs.{needs}
 use native.Mathlib.Omega.{arith}
@@ -19,7 +19,7 @@ use Rattle.bgpls_named.proofs.all_masks.Statement.{statement}
 use Rattle.bgpls_named.proofs.all_masks.Tie as tie
 use Rattle.bgpls_named.proofs.all_masks.Reads as reads
 use Rattle.bgpls_named.proofs.all_masks.Lts as lts
-use Rattle.bgpls_check.proofs.read_frame.Reads as read-frame-reads
+use Rattle.octets.proofs.read16.Reads as read16-reads
 use Rattle.bgpls_find.proofs.is_chosen.Reads as is-chosen-reads
 use Rattle.bgpls_named.proofs.join_masks.Reads as join-masks-reads
 
@@ -30,26 +30,27 @@ abbrev μ-loop : tie.MeasureT-loop
 μ-loop r m₀ at₀ m at = length r - at
 
 abbrev Known : Type 0
-Known = lts.After-known-told (read-frame-reads.Asked, read-frame-reads.Learnt, is-chosen-reads.Asked, is-chosen-reads.Learnt, join-masks-reads.Asked, join-masks-reads.Learnt) reads.Pre reads.Post Inv-loop μ-loop
+Known = lts.After-read162 (read16-reads.Asked, read16-reads.Learnt, is-chosen-reads.Asked, is-chosen-reads.Learnt, join-masks-reads.Asked, join-masks-reads.Learnt) reads.Pre reads.Post Inv-loop μ-loop
 
--- The run, the position, and the type and the length that its frame says.
+-- The run, the position, and the type and the length that were read.
 abbrev run : Known → List ℕ
-run k = k .before .before .before .before .before .before .before .args .r .now
+run k = k .before .before .before .before .before .args .r .now
 
 abbrev place : Known → ℕ
-place k = k .before .before .before .before .before .loop .at
+place k = k .before .before .before .loop .at
 
 abbrev type : Known → ℕ
-type k = k .before .code .given .0 .0
+type k = k .before .read16 .result
 
 abbrev size : Known → ℕ
-size k = k .before .code .given .0 .1 .0
+size k = k .read162 .result
 
 whole : (k : Known) → IsWhole (run k) (place k) (type k) (size k)
-whole k = is-whole _ _ _ _ (sym (k .before .before .before .read-frame .ensures) ∙ k .before .code .given .1)
+whole k =
+    whole-here checkTop 0 (run k) (place k) (k .before .before .loop-test .taken) (left-passes (run k) (place k) (k .before .before .before .loop .inv .1)) (type k) (size k) (k .before .read16 .ensures .0) (k .read162 .ensures .0)
 
 passes : (k : Known) → Passes (run k) (place k)
-passes k = k .before .before .before .before .before .loop .inv .1
+passes k = k .before .before .before .loop .inv .1
 
 -- A 1122 that is not ignored.
 asla : (k : Known) → Taken Every (type k) (bytesAt (run k) (place k + 4) (size k)) ≡ true → IsAsla Every (run k) (place k) (place k) (size k)
@@ -58,21 +59,14 @@ asla k e = is-asla Every (run k) (place k) (type k) (size k) (whole k) (passes k
 loop-holds : tie.Need-loop-holds Inv-loop μ-loop
 loop-holds c = let r = c .before .args .r .now in (omega arith, run-passes r (c .before .pre), held-start r _ refl refl)
 
-read-frame-requires : tie.Need-read-frame-requires Inv-loop μ-loop
-read-frame-requires c κs = search needs
+read16-requires : tie.Need-read16-requires Inv-loop μ-loop
+read16-requires c κs = omega (arith, head-fits checkTop 0 _ _ (c .loop-test .taken) (left-passes _ _ (c .before .loop .inv .1)))
 
-enum-known-code : tie.Need-enum-known-code Inv-loop μ-loop
-enum-known-code c = search needs
+add-read16 : tie.Need-add-read16 Inv-loop μ-loop
+add-read16 c = omega (arith, head-fits checkTop 0 _ _ (c .before .loop-test .taken) (left-passes _ _ (c .before .before .loop .inv .1)))
 
-enum-told : tie.Need-enum-told Inv-loop μ-loop
-enum-told c = search needs
-
-returns : tie.Need-returns Inv-loop μ-loop
-returns c =
-    let m = c .before .before in
-    let l = m .before .before .loop in
-    let r = m .before .before .before .before .args .r .now in
-    held-end r (l .m) (l .at) (l .inv .2) (aslas-cut Every r (l .at) (m .before .loop-test .taken) (sym (m .read-frame .ensures) ∙ c .enum-told .given .1))
+read16-requires-2 : tie.Need-read16-requires-2 Inv-loop μ-loop
+read16-requires-2 c κs = omega (arith, head-fits checkTop 0 _ _ (c .before .loop-test .taken) (left-passes _ _ (c .before .before .loop .inv .1)))
 
 add-value : tie.Need-add-value Inv-loop μ-loop
 add-value c = let f = whole c in omega arith
@@ -116,7 +110,7 @@ loop-less c = let f = whole (c .before .before .before .before .before) in omega
 loop-again : tie.Need-loop-again Inv-loop μ-loop
 loop-again c =
     let k = c .before .before .before .before .before in
-    let l = k .before .before .before .before .before .loop in
+    let l = k .before .before .before .loop in
     let a = asla k (part-taken Every (run k) (place k) (type k) (size k) (whole k) _ (c .before .before .before .is-chosen .ensures) ∙ c .before .before .if1 .taken) in
     (a .within, a .passes, held-next (run k) (l .m) (c .join-masks .result) (place k) (place k) (size k) (l .inv .2) a (c .join-masks .ensures))
 
@@ -126,15 +120,15 @@ loop-less-2 c = let f = whole (c .before .before .before) in omega arith
 loop-again-2 : tie.Need-loop-again-2 Inv-loop μ-loop
 loop-again-2 c =
     let k = c .before .before .before in
-    let l = k .before .before .before .before .before .loop in
+    let l = k .before .before .before .loop in
     let f = whole k in (
       f .within,
       rest-passes Every (run k) (place k) (type k) (size k) f (passes k),
       held-skip (run k) (l .m) (place k) (place k + 4 + size k) (l .inv .2) (aslas-passed Every (run k) (place k) (type k) (size k) f (part-taken Every (run k) (place k) (type k) (size k) f _ (c .before .is-chosen .ensures) ∙ c .if1 .left)),
     )
 
-returns-2 : tie.Need-returns-2 Inv-loop μ-loop
-returns-2 c =
+returns : tie.Need-returns Inv-loop μ-loop
+returns c =
     let l = c .before .loop in
     let r = c .before .before .before .args .r .now in
     held-end r (l .m) (l .at) (l .inv .2) (aslas-end Every r (l .at) (omega arith))
@@ -146,10 +140,9 @@ all-masks-spec =
     Inv-loop
     μ-loop
     loop-holds
-    read-frame-requires
-    enum-known-code
-    enum-told
-    returns
+    read16-requires
+    add-read16
+    read16-requires-2
     add-value
     add-next
     sub-is-chosen
@@ -164,4 +157,4 @@ all-masks-spec =
     loop-again
     loop-less-2
     loop-again-2
-    returns-2)
+    returns)

@@ -1,8 +1,13 @@
 -- `bgpls_srlg::count_list` meets its contract: with what is left, all are counted.
-use Rattle.bgpls_srlg.proofs.Laws.{wordsLeft, words-start, words-turn, words-cut, words-end, Counted, count-start, count-next, count-end}
+use Rattle.bgpls_srlg.proofs.Laws.{wordsLeft, words-start, words-turn, words-end, Counted, count-start, count-next, count-end}
 use Rattle.bgpls_srlg.specs.Words.{listWords, elementWords}
-use Rattle.bgpls_check.proofs.Laws.{IsWhole, is-whole, part-length}
-use mathlib.Core.Path.{_≡_, sym, _∙_}
+use Rattle.bgpls_find.proofs.Laws.{head-fits, whole-here, others-pass}
+use Rattle.bgpls_find.specs.Walks.{anyElement}
+use Rattle.bgpls_check.proofs.Laws.{IsWhole, part-length, from-start}
+use Rattle.linkstate.proofs.WalkLaws.{left}
+use Rattle.linkstate.specs.Elements.{faults}
+use Rattle.linkstate.specs.Replies.{accepted, runBgpLs}
+use mathlib.Core.Path.{_≡_, ap, _∙_}
 use lib.ListN.{length, take, drop}
 use borrow.Author.Needs.{needs}
 use native.Mathlib.Omega.{arith}
@@ -12,33 +17,35 @@ use Rattle.bgpls_srlg.proofs.count_list.Statement.{statement}
 use Rattle.bgpls_srlg.proofs.count_list.Tie as tie
 use Rattle.bgpls_srlg.proofs.count_list.Reads as reads
 use Rattle.bgpls_srlg.proofs.count_list.Lts as lts
-use Rattle.bgpls_check.proofs.read_frame.Reads as read-frame-reads
+use Rattle.octets.proofs.read16.Reads as read16-reads
 use Rattle.bgpls_srlg.proofs.count_element.Reads as count-element-reads
 
 abbrev Inv-loop : tie.InvT-loop
-Inv-loop s n₀ at₀ n at = (at ≤ length s) × (n * 4 ≤ at) × Counted (listWords s) n (wordsLeft s at)
+Inv-loop s n₀ at₀ n at = (at ≤ length s) × (n * 4 ≤ at) × Counted (listWords s) n (wordsLeft s at) × ((base : ℕ) × (faults runBgpLs anyElement (left 2 base s at) ≡ accepted))
 
 abbrev μ-loop : tie.MeasureT-loop
 μ-loop s n₀ at₀ n at = length s - at
 
 abbrev Known : Type 0
-Known = lts.After-known-told (read-frame-reads.Asked, read-frame-reads.Learnt, count-element-reads.Asked, count-element-reads.Learnt) reads.Pre reads.Post Inv-loop μ-loop
+Known = lts.After-read162 (read16-reads.Asked, read16-reads.Learnt, count-element-reads.Asked, count-element-reads.Learnt) reads.Pre reads.Post Inv-loop μ-loop
 
--- The list, the position, and the type and the length that its frame says.
+-- The list, the position, and the type and the length that were read.
 abbrev list : Known → List ℕ
-list k = k .before .before .before .before .before .before .before .args .s .now
+list k = k .before .before .before .before .before .args .s .now
 
 abbrev place : Known → ℕ
-place k = k .before .before .before .before .before .loop .at
+place k = k .before .before .before .loop .at
 
 abbrev type : Known → ℕ
-type k = k .before .code .given .0 .0
+type k = k .before .read16 .result
 
 abbrev size : Known → ℕ
-size k = k .before .code .given .0 .1 .0
+size k = k .read162 .result
 
 whole : (k : Known) → IsWhole (list k) (place k) (type k) (size k)
-whole k = is-whole _ _ _ _ (sym (k .before .before .before .read-frame .ensures) ∙ k .before .code .given .1)
+whole k =
+    let l = k .before .before .before .loop in
+    whole-here anyElement _ (list k) (place k) (k .before .before .loop-test .taken) (l .inv .3 .1) (type k) (size k) (k .before .read16 .ensures .0) (k .read162 .ensures .0)
 
 -- The numbers of the element, and of those behind it.
 abbrev here : Known → List ℕ
@@ -51,23 +58,16 @@ turn : (k : Known) → wordsLeft (list k) (place k) ≡ here k ++ others k
 turn k = words-turn (list k) (place k) (type k) (size k) (whole k)
 
 loop-holds : tie.Need-loop-holds Inv-loop μ-loop
-loop-holds c = let s = c .before .args .s .now in (omega arith, omega arith, count-start (listWords s) (wordsLeft s 0) (words-start s))
+loop-holds c = let s = c .before .args .s .now in (omega arith, omega arith, count-start (listWords s) (wordsLeft s 0) (words-start s), (c .before .pre .0, ap (faults runBgpLs anyElement) (from-start (c .before .pre .0) s) ∙ c .before .pre .1))
 
-read-frame-requires : tie.Need-read-frame-requires Inv-loop μ-loop
-read-frame-requires c κs = search needs
+read16-requires : tie.Need-read16-requires Inv-loop μ-loop
+read16-requires c κs = omega (arith, head-fits anyElement _ _ _ (c .loop-test .taken) (c .before .loop .inv .3 .1))
 
-enum-known-code : tie.Need-enum-known-code Inv-loop μ-loop
-enum-known-code c = search needs
+add-read16 : tie.Need-add-read16 Inv-loop μ-loop
+add-read16 c = omega (arith, head-fits anyElement _ _ _ (c .before .loop-test .taken) (c .before .before .loop .inv .3 .1))
 
-enum-told : tie.Need-enum-told Inv-loop μ-loop
-enum-told c = search needs
-
-returns : tie.Need-returns Inv-loop μ-loop
-returns c =
-    let m = c .before .before in
-    let l = m .before .before .loop in
-    let s = m .before .before .before .before .args .s .now in
-    (count-end (listWords s) (wordsLeft s (l .at)) (l .n) (l .inv .2) (words-cut s (l .at) (m .before .loop-test .taken) (sym (m .read-frame .ensures) ∙ c .enum-told .given .1)), omega arith)
+read16-requires-2 : tie.Need-read16-requires-2 Inv-loop μ-loop
+read16-requires-2 c κs = omega (arith, head-fits anyElement _ _ _ (c .before .loop-test .taken) (c .before .before .loop .inv .3 .1))
 
 add-value : tie.Need-add-value Inv-loop μ-loop
 add-value c = let f = whole c in omega arith
@@ -96,15 +96,16 @@ loop-less c = let f = whole (c .before .before) in omega arith
 loop-again : tie.Need-loop-again Inv-loop μ-loop
 loop-again c =
     let k = c .before .before in
-    let l = k .before .before .before .before .before .loop in
+    let l = k .before .before .before .loop in
     let f = whole k in (
       f .within,
       omega (arith, part-length (list k) (place k + 4) (size k) (f .within)),
       count-next _ _ (here k) (others k) (l .n) _ (l .inv .2) (turn k) (c .count-element .ensures .0),
+      (l .inv .3 .0, others-pass anyElement _ (list k) (place k) (k .before .before .loop-test .taken) (l .inv .3 .1) (type k) (size k) f),
     )
 
-returns-2 : tie.Need-returns-2 Inv-loop μ-loop
-returns-2 c =
+returns : tie.Need-returns Inv-loop μ-loop
+returns c =
     let l = c .before .loop in
     let s = c .before .before .before .args .s .now in
     (count-end (listWords s) (wordsLeft s (l .at)) (l .n) (l .inv .2) (words-end s (l .at) (omega arith)), omega arith)
@@ -116,10 +117,9 @@ count-list-spec =
     Inv-loop
     μ-loop
     loop-holds
-    read-frame-requires
-    enum-known-code
-    enum-told
-    returns
+    read16-requires
+    add-read16
+    read16-requires-2
     add-value
     add-next
     sub-count-element
@@ -129,4 +129,4 @@ count-list-spec =
     add-n
     loop-less
     loop-again
-    returns-2)
+    returns)
