@@ -3,7 +3,8 @@ use Prim.Native.Nat.{ℕ, _+_, _-_, _≤_, _<_}
 use mathlib.Core.Path.{_≡_, refl, sym, _∙_, ap, ap₂}
 use mathlib.Core.Bool.{Bool}
 use mathlib.Core.List.{List, [], _∷_, _++_, append-assoc}
-use lib.ListN.{length, length-append}
+use lib.ListN.{length, take, drop, length-append}
+use lib.Seq.{length-take-le, take-append-le, take-take, drop-at}
 use native.Mathlib.Omega.{arith}
 use borrow.Author.Tests.{lt-ltb, le-ltb}
 use Rattle.linkstate.specs.Lists.{put}
@@ -17,7 +18,7 @@ use Rattle.masks.proofs.Laws.{size-same, size-le, mask-same}
 use Rattle.linkstate.proofs.MaskLaws.{length-mask}
 use Rattle.set_bytes.specs.Sets.{inTlvs}
 use Rattle.set_bytes.proofs.Laws.{length-tlv, tlvs-same}
-use Rattle.asla_bytes.specs.Applications.{inNumbers, aslaHead}
+use Rattle.asla_bytes.specs.Applications.{inNumbers, aslaRest}
 
 -- A mask's length is small.
 pub small : (m r : ℕ) → r ≡ maskSize (inNumber m) → r ≤ 8
@@ -39,33 +40,31 @@ module _ (s u : ℕ) where
   pub user-size : maskSize (λ n. inNumbers s u (user n)) ≡ maskSize (inNumber u)
   user-size = size-same (λ n. inNumbers s u (user n)) (inNumber u) user-in
 
-  pub head-is : (maskSize (inNumber s) ∷ maskSize (inNumber u) ∷ 0 ∷ 0 ∷ []) ++ (mask (inNumber s) ++ mask (inNumber u)) ≡ aslaHead (inNumbers s u)
-  unfolding aslaHead
-  head-is =
-      let a = standard-size in
-      let b = user-size in
-      let c = mask-same (inNumbers s u) (inNumber s) standard-in in
-      let d = mask-same (λ n. inNumbers s u (user n)) (inNumber u) user-in in
-      cc
-
   pub length-masks : length (mask (inNumber s) ++ mask (inNumber u)) ≡ maskSize (inNumber s) + maskSize (inNumber u)
   length-masks = length-append (mask (inNumber s)) (mask (inNumber u)) ∙ ap₂ (λ (i j : ℕ). i + j) (length-mask (inNumber s)) (length-mask (inNumber u))
 
-  pub length-head : length (aslaHead (inNumbers s u)) ≡ 4 + (maskSize (inNumber s) + maskSize (inNumber u))
-  length-head = ap length (sym head-is) ∙ omega (arith, length-masks)
+  -- The value of an ASLA TLV: four bytes of lengths and zeros, the masks, and the TLVs of the set.
+  abbrev pub sizes : List ℕ
+  sizes = maskSize (inNumber s) ∷ maskSize (inNumber u) ∷ 0 ∷ 0 ∷ []
 
--- The value of an ASLA TLV: its head and the TLVs of the set.
-pub value-is : (p : ℕ → Bool) (f : ℕ → List ℕ) → aslaValue p f ≡ aslaHead p ++ inTlvs f applicationCodes
-unfolding aslaValue aslaHead
-value-is p f = refl
+  module _ (f : ℕ → List ℕ) where
+    pub value-is : aslaValue (inNumbers s u) f ≡ sizes ++ aslaRest s u f
+    unfolding aslaValue
+    value-is =
+        let a = standard-size in
+        let b = user-size in
+        let c = mask-same (inNumbers s u) (inNumber s) standard-in in
+        let d = mask-same (λ n. inNumbers s u (user n)) (inNumber u) user-in in
+        cc
 
-pub length-value : (p : ℕ → Bool) (f : ℕ → List ℕ) → length (aslaValue p f) ≡ length (aslaHead p) + length (inTlvs f applicationCodes)
-length-value p f = ap length (value-is p f) ∙ length-append (aslaHead p) (inTlvs f applicationCodes)
+    pub length-rest : length (aslaRest s u f) ≡ maskSize (inNumber s) + maskSize (inNumber u) + length (inTlvs f applicationCodes)
+    length-rest = length-append (mask (inNumber s) ++ mask (inNumber u)) (inTlvs f applicationCodes) ∙ ap (λ (k : ℕ). k + length (inTlvs f applicationCodes)) length-masks
 
-pub length-asla : (s u : ℕ) (f : ℕ → List ℕ) → length (bytesOf (tlv 1122 (aslaValue (inNumbers s u) f))) ≡ 8 + (maskSize (inNumber s) + maskSize (inNumber u)) + length (inTlvs f applicationCodes)
-length-asla s u f =
-    length-tlv 1122 (aslaValue (inNumbers s u) f)
-    ∙ omega (arith, length-value (inNumbers s u) f, length-head s u)
+    pub length-value : length (aslaValue (inNumbers s u) f) ≡ 4 + length (aslaRest s u f)
+    length-value = ap length value-is ∙ omega arith
+
+    pub length-asla : length (bytesOf (tlv 1122 (aslaValue (inNumbers s u) f))) ≡ 8 + length (aslaRest s u f)
+    length-asla = length-tlv 1122 (aslaValue (inNumbers s u) f) ∙ omega (arith, length-value)
 
 -- The value depends on the applications below 64 of each kind, and on the values of the set.
 pub asla-same : (p q : ℕ → Bool) (f h : ℕ → List ℕ) → ((n : ℕ) → n < 64 → p n ≡ q n) → ((n : ℕ) → n < 64 → p (user n) ≡ q (user n)) → row f ≡ row h → aslaValue p f ≡ aslaValue q h
@@ -84,13 +83,21 @@ pub put-sizes : (d e f : List ℕ) (at x y v w s u : ℕ) → e ≡ put d at (x 
     → f ≡ put d at (s ∷ u ∷ 0 ∷ 0 ∷ [])
 put-sizes d e f at x y v w s u p q i j k l h = put-then d e f at (x ∷ y ∷ []) (at + 2) (v ∷ w ∷ []) p q refl (omega arith) ∙ ap (put d at) (cc)
 
-head-length : (n : ℕ) (v : List ℕ) → length (two 1122 ++ two n ++ v) ≡ 4 + length v
-unfolding two
-head-length n v = omega arith
-
-as-tlv : (n : ℕ) (v : List ℕ) → n ≡ length v → two 1122 ++ two n ++ v ≡ bytesOf (tlv 1122 v)
-unfolding bytesOf
-as-tlv n v e = ap (λ (k : ℕ). two 1122 ++ two k ++ v) e
+-- A second write, right before a first, is one write of both.
+pub put-before : (d e f : List ℕ) (at : ℕ) (vs : List ℕ) (k : ℕ) (ws : List ℕ) → e ≡ put d k ws → f ≡ put e at vs → k ≡ at + length vs → k + length ws ≤ length d → f ≡ put d at (vs ++ ws)
+unfolding put
+put-before d e f at vs k ws p q r h =
+    let z = drop (k + length ws) d in
+    let l = length-take-le k d (omega arith) in
+    let whole : e ≡ take k d ++ (ws ++ z) = p ∙ append-assoc (take k d) ws z in
+    let low : take at e ≡ take at d = ap (take at) whole ∙ take-append-le at (take k d) (ws ++ z) (omega arith) ∙ take-take at k d (omega arith) in
+    let high : drop (at + length vs) e ≡ ws ++ z = ap (λ (j : ℕ). drop j e) (sym r) ∙ ap (drop k) whole ∙ drop-at (take k d) (ws ++ z) k l in
+    let end : k + length ws ≡ at + length (vs ++ ws) = omega (arith, length-append vs ws) in
+    q
+    ∙ ap₂ (λ (x y : List ℕ). x ++ vs ++ y) low high
+    ∙ sym (append-assoc (take at d ++ vs) ws z)
+    ∙ ap (λ (x : List ℕ). x ++ z) (append-assoc (take at d) vs ws)
+    ∙ ap (λ (j : ℕ). take at d ++ (vs ++ ws) ++ drop j d) end
 
 module _ (s u : ℕ) (d : List ℕ) (at : ℕ) where
   pub put-masks : (e f : List ℕ) (k : ℕ) → e ≡ put d at (mask (inNumber s)) → f ≡ put e (at + k) (mask (inNumber u)) → k ≡ maskSize (inNumber s)
@@ -98,28 +105,25 @@ module _ (s u : ℕ) (d : List ℕ) (at : ℕ) where
   put-masks e f k p q i h =
       put-then d e f at (mask (inNumber s)) (at + k) (mask (inNumber u)) p q (omega (arith, length-mask (inNumber s))) (omega (arith, length-mask (inNumber u)))
 
-  pub put-head : (n : ℕ) (e f o : List ℕ) → e ≡ put d at (two 1122 ++ two n) → f ≡ put e (at + 4) (maskSize (inNumber s) ∷ maskSize (inNumber u) ∷ 0 ∷ 0 ∷ []) → o ≡ put f (at + 8) (mask (inNumber s) ++ mask (inNumber u))
-      → length e ≡ length d → at + (4 + length (aslaHead (inNumbers s u))) ≤ length d → o ≡ put d at (two 1122 ++ two n ++ aslaHead (inNumbers s u))
+  pub masks-write : {r : ℕ} {o : List ℕ} → (r ≡ at + (maskSize (inNumber s) + maskSize (inNumber u))) × (o ≡ put d at (mask (inNumber s) ++ mask (inNumber u)))
+      → (r ≡ at + length (mask (inNumber s) ++ mask (inNumber u))) × (o ≡ put d at (mask (inNumber s) ++ mask (inNumber u)))
+  masks-write w = (w .0 ∙ ap (λ (k : ℕ). at + k) (sym (length-masks s u)), w .1)
+
+  pub put-front : (n : ℕ) (e f : List ℕ) → e ≡ put d at (two 1122 ++ two n) → f ≡ put e (at + 4) (sizes s u) → at + 8 ≤ length d → f ≡ put d at (two 1122 ++ two n ++ sizes s u)
   unfolding two
-  put-head n e f o x y z l h =
-      let sizes = maskSize (inNumber s) ∷ maskSize (inNumber u) ∷ 0 ∷ 0 ∷ [] in
-      let masks = mask (inNumber s) ++ mask (inNumber u) in
-      let k = length-head s u in
-      let m = length-masks s u in
-      put-then d e o at (two 1122 ++ two n) (at + 4) (sizes ++ masks) x (put-then e f o (at + 4) sizes (at + 8) masks y z (omega arith) (omega arith)) refl (omega arith)
-      ∙ ap (λ (v : List ℕ). put d at (two 1122 ++ two n ++ v)) (head-is s u)
+  put-front n e f p q h = put-then d e f at (two 1122 ++ two n) (at + 4) (sizes s u) p q refl (omega arith)
 
-pub put-asla : (d : List ℕ) (at : ℕ) (p : ℕ → Bool) (f : ℕ → List ℕ) (n k : ℕ) (e o : List ℕ) → e ≡ put d at (two 1122 ++ two n ++ aslaHead p) → o ≡ put e k (inTlvs f applicationCodes) → k ≡ at + (4 + length (aslaHead p))
-    → n ≡ length (aslaValue p f) → at + length (bytesOf (tlv 1122 (aslaValue p f))) ≤ length d → o ≡ put d at (bytesOf (tlv 1122 (aslaValue p f)))
-put-asla d at p f n k e o x y z i h =
-    let inner = inTlvs f applicationCodes in
-    let t = length-tlv 1122 (aslaValue p f) in
-    let v = length-value p f in
-    put-then d e o at (two 1122 ++ two n ++ aslaHead p) k inner x y heads (omega arith)
-    ∙ ap (put d at) (append-assoc (two 1122 ++ two n) (aslaHead p) inner ∙ whole)
-  where
-    heads : k ≡ at + length (two 1122 ++ two n ++ aslaHead p)
-    heads = z ∙ ap (λ (j : ℕ). at + j) (sym (head-length n (aslaHead p)))
+  module _ (f : ℕ → List ℕ) where
+    as-tlv : (n : ℕ) → n ≡ length (aslaValue (inNumbers s u) f) → two 1122 ++ two n ++ sizes s u ++ aslaRest s u f ≡ bytesOf (tlv 1122 (aslaValue (inNumbers s u) f))
+    unfolding bytesOf
+    as-tlv n e = append-assoc (two 1122 ++ two n) (sizes s u) (aslaRest s u f) ∙ ap₂ (λ (k : ℕ) (v : List ℕ). two 1122 ++ two k ++ v) e (sym (value-is s u f))
 
-    whole : two 1122 ++ two n ++ (aslaHead p ++ inTlvs f applicationCodes) ≡ bytesOf (tlv 1122 (aslaValue p f))
-    whole = ap (λ (l : List ℕ). two 1122 ++ two n ++ l) (sym (value-is p f)) ∙ as-tlv n (aslaValue p f) i
+    front-length : (n : ℕ) → length (two 1122 ++ two n ++ sizes s u) ≡ 8
+    unfolding two
+    front-length n = refl
+
+    pub put-asla : (n : ℕ) (e o : List ℕ) → e ≡ put d (at + 8) (aslaRest s u f) → o ≡ put e at (two 1122 ++ two n ++ sizes s u) → n ≡ 4 + length (aslaRest s u f)
+        → at + length (bytesOf (tlv 1122 (aslaValue (inNumbers s u) f))) ≤ length d → o ≡ put d at (bytesOf (tlv 1122 (aslaValue (inNumbers s u) f)))
+    put-asla n e o p q i h =
+        put-before d e o at (two 1122 ++ two n ++ sizes s u) (at + 8) (aslaRest s u f) p q (ap (λ (k : ℕ). at + k) (sym (front-length n))) (omega (arith, length-asla s u f))
+        ∙ ap (put d at) (as-tlv n (i ∙ sym (length-value s u f)))

@@ -8,7 +8,7 @@ ghost use Rattle.linkstate.specs.Bytes.{two};
 ghost use Rattle.linkstate.specs.Masks.{inNumber, maskSize, mask};
 ghost use Rattle.linkstate.specs.Export.{tlv, bytesOf, aslaValue};
 ghost use Rattle.set_bytes.specs.Sets.{setOf, Fits, Short};
-ghost use Rattle.asla_bytes.specs.Applications.{inNumbers, aslaHead};
+ghost use Rattle.asla_bytes.specs.Applications.{inNumbers, aslaRest};
 
 // How many bytes an ASLA TLV has.
 pub fn asla_size(g: &[[usize; 2]; 10], srlgs: usize, standard: u64, user: u64) -> usize
@@ -48,17 +48,33 @@ fn write_masks(standard: u64, user: u64, out: &mut [u8], at: usize) -> usize
     at + s + u
 }
 
-// An ASLA TLV up to its set, of which len is the length of its value; the place after it.
-pub fn write_asla_head(standard: u64, user: u64, len: u16, out: &mut [u8], at: usize) -> usize
-    requires { ⌜ at + (4 + length (aslaHead (inNumbers standard user))) ≤ length (now out) ⌝ }
-    ensures { λ r. ⌜ (r ≡ at + (4 + length (aslaHead (inNumbers standard user)))) × (now (out .exit) ≡ put (now (out .entry)) at (two 1122 ++ two len ++ aslaHead (inNumbers standard user))) ⌝ }
+// The first eight bytes of an ASLA TLV, of which len is the length of its value: type, length, the lengths of the masks, reserved bytes.
+fn write_front(standard: u64, user: u64, len: u16, out: &mut [u8], at: usize)
+    requires { ⌜ at + 8 ≤ length (now out) ⌝ }
+    ensures { λ _. ⌜ now (out .exit) ≡ put (now (out .entry)) at (two 1122 ++ two len ++ (maskSize (inNumber standard) ∷ maskSize (inNumber user) ∷ 0 ∷ 0 ∷ [])) ⌝ }
 {
     set_bytes::write_head(out, at, 1122, len);
     write_sizes(standard, user, out, at + 4);
-    write_masks(standard, user, out, at + 8)
 }
 
-// The ASLA TLV of a set; the place after it.
+// What stands behind them: the masks, and the TLVs of the set; the place after it.
+fn write_rest(
+    a: &[u8],
+    g: &[[usize; 2]; 10],
+    srlgs: &[u32],
+    standard: u64,
+    user: u64,
+    out: &mut [u8],
+    at: usize,
+) -> usize
+    requires { ⌜ Fits (now a) (now g) × (length (now srlgs) ≤ 512) × (at + length (aslaRest standard user (setOf (now a) (now g) (now srlgs))) ≤ length (now out)) ⌝ }
+    ensures { λ r. ⌜ (r ≡ at + length (aslaRest standard user (setOf (now (a .entry)) (now (g .entry)) (now (srlgs .entry))))) × (now (out .exit) ≡ put (now (out .entry)) at (aslaRest standard user (setOf (now (a .entry)) (now (g .entry)) (now (srlgs .entry))))) ⌝ }
+{
+    let inner = write_masks(standard, user, out, at);
+    set_bytes::write_set(a, g, srlgs, out, inner)
+}
+
+// The ASLA TLV of a set; the place after it. Its length is known once the set is written.
 pub fn write_asla(
     a: &[u8],
     g: &[[usize; 2]; 10],
@@ -71,7 +87,8 @@ pub fn write_asla(
     requires { ⌜ Fits (now a) (now g) × (length (now srlgs) ≤ 512) × (at + length (bytesOf (tlv 1122 (aslaValue (inNumbers standard user) (setOf (now a) (now g) (now srlgs))))) ≤ length (now out)) ⌝ }
     ensures { λ r. ⌜ (r ≡ at + length (bytesOf (tlv 1122 (aslaValue (inNumbers standard user) (setOf (now (a .entry)) (now (g .entry)) (now (srlgs .entry))))))) × (now (out .exit) ≡ put (now (out .entry)) at (bytesOf (tlv 1122 (aslaValue (inNumbers standard user) (setOf (now (a .entry)) (now (g .entry)) (now (srlgs .entry))))))) ⌝ }
 {
-    let size = asla_size(g, srlgs.len(), standard, user);
-    let inner = write_asla_head(standard, user, (size - 4) as u16, out, at);
-    set_bytes::write_set(a, g, srlgs, out, inner)
+    let end = write_rest(a, g, srlgs, standard, user, out, at + 8);
+    let len = end - at - 4;
+    write_front(standard, user, len as u16, out, at);
+    end
 }

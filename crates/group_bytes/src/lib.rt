@@ -13,11 +13,11 @@ fn entry_size(grids: &[[[usize; 2]; 10]], heads: &[[u64; 4]], i: usize, count: u
     requires { ⌜ Measurable count (now grids) (now heads) × (i < count) ⌝ }
     ensures { λ r. ⌜ (r ≤ 28752) × ((a values : List ℕ) (bits : List (List ℕ)) → Sound a values count (now (grids .entry)) bits (now (heads .entry)) → r ≡ length (entryBytes a values (now (grids .entry)) bits (now (heads .entry)) i)) ⌝ }
 {
-    let g = grids[i];
+    let g = &grids[i];
     let srlgs = heads[i][2] as usize;
     let standard = heads[i][0];
     let user = heads[i][1];
-    asla_bytes::asla_size(&g, srlgs, standard, user)
+    asla_bytes::asla_size(g, srlgs, standard, user)
 }
 
 // How many bytes the TLVs of all groups have.
@@ -65,12 +65,12 @@ fn write_entry(
     requires { ⌜ (length (now values) ≤ 768) × Sound (now a) (now values) count (now grids) (now bits) (now heads) × (i < count) × Holds (now values) count (now bits) (length (now scratch)) × (at + length (entryBytes (now a) (now values) (now grids) (now bits) (now heads) i) ≤ length (now out)) ⌝ }
     ensures { λ r. ⌜ (r ≡ at + length (entryBytes (now (a .entry)) (now (values .entry)) (now (grids .entry)) (now (bits .entry)) (now (heads .entry)) i)) × (now (out .exit) ≡ put (now (out .entry)) at (entryBytes (now (a .entry)) (now (values .entry)) (now (grids .entry)) (now (bits .entry)) (now (heads .entry)) i)) ⌝ }
 {
-    let g = grids[i];
+    let g = &grids[i];
     let w = bits[i];
     let k = srlg_ranks::pick(values, w, scratch);
     let standard = heads[i][0];
     let user = heads[i][1];
-    write_listed(a, &g, scratch, k, standard, user, out, at)
+    write_listed(a, g, scratch, k, standard, user, out, at)
 }
 
 // The TLVs of all groups; the place after them.

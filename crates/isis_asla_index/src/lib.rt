@@ -139,8 +139,7 @@ pub fn grid_having(
         if (words[j] >> n) % 2 == 1 {
             let from = lists[j][0] as usize;
             let to = lists[j][1] as usize;
-            let h = isis_grids::fill(g, &a[from..to], from);
-            g = h;
+            isis_grids::fill(&mut g, &a[from..to], from);
         }
     }
     g

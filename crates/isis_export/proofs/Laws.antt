@@ -8,7 +8,7 @@ use native.Mathlib.Nat.{pow-suc, div-eq-of-lt}
 use borrow.Author.Tests.{ltb-true, ltb-false, leb-true, eqb-true, eqb-false, ne-eqb}
 use lib.Dec.{eqb, ltb, leb}
 use lib.Pow.{pow-pos}
-use lib.ListN.{length, take, drop, length-take}
+use lib.ListN.{length, take, drop, getD, replicate, length-take}
 use Rattle.linkstate.specs.Lists.{member, numbers, keep}
 use Rattle.linkstate.specs.Kinds.{linkCodes}
 use Rattle.linkstate.specs.Masks.{user, others, inNumber}
@@ -20,7 +20,6 @@ use Rattle.linkstate.specs.Questions.{standardNo, generally, setOf, numberTooHi
 use Rattle.linkstate.specs.Meaning.{meaning}
 use Rattle.linkstate.specs.Export.{export}
 use Rattle.kinds.specs.Rules.{gridCodes}
-use Rattle.kinds.proofs.Computing.{computing}
 use Rattle.isis.specs.RunA.{sideA}
 use Rattle.isis.specs.RunB.{sideB}
 use Rattle.isis.specs.Link.{linkVerdict, sideOf, linkSource, exportLink}
@@ -33,7 +32,10 @@ use Rattle.group_bytes.specs.Groups.{Readable}
 use Rattle.export_bytes.specs.Whole.{wholeBytes}
 use Rattle.export_bytes.specs.Describes.{Describes}
 use Rattle.export_bytes.proofs.Exported.{whole-export}
-use Rattle.isis_grids.specs.Grid.{rowOf, gridOf}
+use Rattle.srlg_ranks.specs.Ranks.{picked}
+use Rattle.srlg_ranks.proofs.Laws.{length-picked}
+use Rattle.isis_grids.specs.Grid.{rowOf, gridOf, filledIn}
+use Rattle.isis_grids.proofs.Grids.{filled-empty, links-filled, placed-legacy}
 use Rattle.isis_sets.specs.Sets.{rsvpTeGrid}
 use Rattle.isis_sets.proofs.Stand.{general-stands, rsvp-te-stands, bandwidth-stands}
 use Rattle.isis_table.specs.Filled.{PassedLink, NamedBy, left, Filled}
@@ -43,7 +45,7 @@ use Rattle.isis_srlg_values.specs.declared.Gathered.{Gathered}
 use Rattle.isis_srlg_values.specs.Gathered as B
 use Rattle.isis_meaning.proofs.Rows.{rows-fit, grid-codes, link-codes}
 use Rattle.isis_meaning.proofs.Sets.{general-row, top-row}
-use Rattle.isis_export.specs.Tables.{Srlgs}
+use Rattle.isis_export.specs.Tables.{Beside, Scratch}
 
 -- ---- a link that was accepted
 
@@ -80,18 +82,18 @@ module _ (a b c : List ℕ) (passed : PassedLink a b c) where
   bandwidths-fit = rows-fit a (λ k. bandwidthKind k (sideA a)) linkCodes link-codes (bandwidth-stands a (passed .runA))
 
   module _ (values : List ℕ) (count : ℕ) (grids : List (List (List ℕ))) (bits heads : List (List ℕ)) (t : Filled a b c values count grids bits heads) where
-    pub readable : (k : ℕ) → length values ≤ 768 → 512 ≤ k → Readable a values count grids bits heads k
+    pub readable : (k : ℕ) → length values ≤ 768 → Scratch (length values) k → Readable a values count grids bits heads k
     readable k most h =
         record {
           valued = most;
           most = t .most;
           sound = t .sound;
-          holds = λ i l. let e = t .sound .entry i l in omega (arith, e .counted, e .few);
+          holds = λ i l. let e = t .sound .entry i l in h (length (picked values (getD bits i []))) (omega (arith, e .counted, e .few)) (length-picked values (getD bits i []));
         }
 
-    pub describes : (rs gs : List ℕ) → Srlgs b c rs gs
+    pub describes : (l : List (List ℕ)) (rs gs : List ℕ) → Beside a b c l rs gs
         → Describes (meaning (linkSource a b c)) a (map (λ k. rowOf k (bandwidthKind k (sideA a))) linkCodes) (rsvpTeGrid (sideA a)) rs (gridOf (generalSet (sideA a))) gs values count grids bits heads
-    describes rs gs s =
+    describes l rs gs s =
         record { top = rw (s .rsvpTe) (top-row a b c (passed .runA)); general = rw (s .general) (general-row a b c (passed .runA)); groups = t .groups }
 
 -- ---- who is named
@@ -159,15 +161,27 @@ module _ (b c : List ℕ) where
 front-part : (r : ℕ) (x : List ℕ) → take (r - 0) (drop 0 x) ≡ take r x
 front-part r x = let e : r - 0 ≡ r = omega arith in rw e
 
-pub srlgs-ready : (b c x y : List ℕ) (r g : ℕ) → ((a : List ℕ) → take r x ≡ srlgs (setOf (linkSource a b c) (standardNo 0) 1096)) → ((a : List ℕ) → take g y ≡ srlgs (setOf (linkSource a b c) generally 1096))
-    → r ≤ 512 → g ≤ 512 → Srlgs b c (take (r - 0) (drop 0 x)) (take (g - 0) (drop 0 y))
-srlgs-ready b c x y r g e f h k =
+pub beside-ready : (a b c : List ℕ) (l : List (List ℕ)) (x y : List ℕ) (r g : ℕ) → l ≡ map (λ k. rowOf k (bandwidthKind k (sideA a))) linkCodes
+    → ((a : List ℕ) → take r x ≡ srlgs (setOf (linkSource a b c) (standardNo 0) 1096)) → ((a : List ℕ) → take g y ≡ srlgs (setOf (linkSource a b c) generally 1096))
+    → r ≤ 512 → g ≤ 512 → Beside a b c l (take r x) (take g y)
+beside-ready a b c l x y r g i e f h k =
     record {
-      rsvpTe = front-part r x ∙ e [] ∙ ap srlgs (rsvp-te-srlgs b c);
-      general = front-part g y ∙ f [] ∙ ap srlgs (general-srlgs b c);
-      fewRs = omega (arith, ap length (front-part r x), length-take r x);
-      fewGs = omega (arith, ap length (front-part g y), length-take g y);
+      links = i;
+      rsvpTe = e [] ∙ ap srlgs (rsvp-te-srlgs b c);
+      general = f [] ∙ ap srlgs (general-srlgs b c);
+      fewRs = omega (arith, length-take r x);
+      fewGs = omega (arith, length-take g y);
     }
+
+pub beside-part : (a b c : List ℕ) (l : List (List ℕ)) (x y : List ℕ) (r g : ℕ) → Beside a b c l (take r x) (take g y) → Beside a b c l (take (r - 0) (drop 0 x)) (take (g - 0) (drop 0 y))
+beside-part a b c l x y r g s = rw (front-part r x, front-part g y) s
+
+-- Fewer numbers need no more room.
+pub scratch-part : (values : List ℕ) (n k : ℕ) → Scratch n k → Scratch (length (take (n - 0) (drop 0 values))) k
+scratch-part values n k h i few l = h i few (omega (arith, l, ap length (front-part n values), length-take n values))
+
+pub scratch-fewer : (m n k : ℕ) → m ≤ n → Scratch n k → Scratch m k
+scratch-fewer m n k h s i few l = s i few (omega arith)
 
 pub rsvp-te-number : numberTooHigh (standardNo 0) ≡ false
 unfolding numberTooHigh
@@ -187,27 +201,22 @@ pub not-exported : (a b c buffer : List ℕ) (x : R.Refusal) → linkVerdict a b
 unfolding exportLink write unless _then_
 not-exported a b c buffer x e = rw e
 
-link-three : linkCodes ≡ 1089 ∷ 1090 ∷ 1091 ∷ []
-unfolding computing
-link-three = refl
-
--- The three rows of the link's bandwidths.
-pub bandwidth-rows-are : (a x y z : List ℕ) → x ≡ rowOf 1089 (bandwidthKind 1089 (sideA a)) → y ≡ rowOf 1090 (bandwidthKind 1090 (sideA a)) → z ≡ rowOf 1091 (bandwidthKind 1091 (sideA a))
-    → x ∷ y ∷ z ∷ [] ≡ map (λ k. rowOf k (bandwidthKind k (sideA a))) linkCodes
-bandwidth-rows-are a x y z e f g = three (λ k. rowOf k (bandwidthKind k (sideA a))) x y z e f g
-  where
-    three : (h : ℕ → List ℕ) (x y z : List ℕ) → x ≡ h 1089 → y ≡ h 1090 → z ≡ h 1091 → x ∷ y ∷ z ∷ [] ≡ map h linkCodes
-    three h x y z e f g = rw (e, f, g) (sym (ap (map h) link-three))
-
 -- What is written from the table is the link's export.
-pub written-as : (a b c : List ℕ) (passed : PassedLink a b c) (values : List ℕ) (count : ℕ) (grids : List (List (List ℕ))) (bits heads : List (List ℕ)) (rs gs : List ℕ) → Srlgs b c rs gs → Filled a b c values count grids bits heads
-    → (l r g : List (List ℕ)) (buffer : List ℕ) → l ≡ map (λ k. rowOf k (bandwidthKind k (sideA a))) linkCodes → r ≡ rsvpTeGrid (sideA a) → g ≡ gridOf (generalSet (sideA a))
+pub written-as : (a b c : List ℕ) (passed : PassedLink a b c) (values : List ℕ) (count : ℕ) (grids : List (List (List ℕ))) (bits heads : List (List ℕ)) (l : List (List ℕ)) (rs gs : List ℕ) → Beside a b c l rs gs → Filled a b c values count grids bits heads
+    → (r g : List (List ℕ)) (buffer : List ℕ) → r ≡ rsvpTeGrid (sideA a) → g ≡ gridOf (generalSet (sideA a))
     → write accepted (wholeBytes a l r rs g gs values count grids bits heads) buffer ≡ write accepted (export (meaning (linkSource a b c))) buffer
-written-as a b c passed values count grids bits heads rs gs s t l r g buffer e f h =
-    rw (e, f, h)
+written-as a b c passed values count grids bits heads l rs gs s t r g buffer f h =
+    rw (s .links, f, h)
     (ap (λ (x : List ℕ). write accepted x buffer)
     (whole-export (meaning (linkSource a b c)) a (map (λ k. rowOf k (bandwidthKind k (sideA a))) linkCodes) (rsvpTeGrid (sideA a)) rs (gridOf (generalSet (sideA a))) gs values count grids bits heads
-    (describes a b c passed values count grids bits heads t rs gs s)))
+    (describes a b c passed values count grids bits heads t l rs gs s)))
+
+-- From rows that were empty.
+pub legacy-filled : (a : List ℕ) (g : List (List ℕ)) → g ≡ filledIn gridCodes (replicate 10 (0 ∷ 0 ∷ [])) ((sideA a) .legacy) → g ≡ gridOf ((sideA a) .legacy)
+legacy-filled a g e = e ∙ filled-empty ((sideA a) .legacy) (placed-legacy a)
+
+pub links-legacy : (a : List ℕ) (l : List (List ℕ)) → l ≡ filledIn linkCodes (replicate 3 (0 ∷ 0 ∷ [])) ((sideA a) .legacy) → l ≡ map (λ k. rowOf k ((sideA a) .legacy)) linkCodes
+links-legacy a l e = e ∙ links-filled ((sideA a) .legacy) (placed-legacy a)
 
 -- ---- room
 

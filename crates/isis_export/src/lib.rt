@@ -1,27 +1,24 @@
 // The export of an IS-IS link as BGP-LS TLVs (document 01, "BGP-LS bytes").
 ghost use mathlib.Core.Path.{_≡_};
-ghost use mathlib.Core.List.{List, map};
+ghost use mathlib.Core.List.{List};
 ghost use Prim.Native.Nat.{ℕ, _+_, _*_, _/_, _≤_, _<_};
 ghost use lib.ListN.{length, take};
-ghost use Rattle.linkstate.specs.Replies.{accepted, runA, bytes};
-ghost use Rattle.linkstate.specs.Elements.{elements, faults};
-ghost use Rattle.linkstate.specs.Kinds.{linkCodes};
-ghost use Rattle.linkstate.specs.Sides.{named, bandwidthKind};
+ghost use Rattle.linkstate.specs.Replies.{accepted, bytes};
+ghost use Rattle.linkstate.specs.Sides.{named};
 ghost use Rattle.linkstate.specs.Questions.{write};
 ghost use Rattle.linkstate.specs.Meaning.{meaning};
 ghost use Rattle.linkstate.specs.Export as Definitions;
 ghost use Rattle.replies.specs.Told.{toldWritten, toldExported};
-ghost use Rattle.isis.specs.RunA.{checkA, sideA};
+ghost use Rattle.isis.specs.RunA.{sideA};
 ghost use Rattle.isis.specs.RunB.{sideB};
 ghost use Rattle.isis.specs.Link.{linkSource, exportLink};
-ghost use Rattle.isis_grids.specs.Grid.{rowOf};
 ghost use Rattle.isis_sets.specs.Sets.{Holds};
-ghost use Rattle.isis_asla_index.specs.Index.{Room, Indexed};
+ghost use Rattle.isis_asla_index.specs.Index.{Room};
 ghost use Rattle.isis_srlg_values.specs.Gathered as B;
 ghost use Rattle.asla_bytes.specs.Applications.{inNumbers};
-ghost use Rattle.isis_table.specs.Filled.{PassedLink, NamedBy, ReadyA, Ready, left, Filled};
+ghost use Rattle.isis_table.specs.Filled.{PassedLink, NamedBy, ReadyA, Ready, left};
 ghost use Rattle.isis_table.specs.Filled as T;
-ghost use Rattle.isis_export.specs.Tables.{Srlgs};
+ghost use Rattle.isis_export.specs.Tables.{Beside, Scratch};
 ghost use Rattle.isis_export.specs.Delivered.{Delivered};
 use isis_asla_index::Index;
 use isis_sets::Masks;
@@ -39,68 +36,7 @@ fn named_in_link(x: Masks, y: isis_tlvs_238::Masks) -> Masks
     Masks { standard, user }
 }
 
-// The rows of the link's bandwidths.
-fn bandwidth_rows(
-    a: &[u8],
-    lists: &[[u16; 2]],
-    standards: &[u64],
-    users: &[u64],
-    index: Index,
-) -> [[usize; 2]; 3]
-    requires { ⌜ Indexed (now a) (now lists) (now standards) (now users) index × (faults runA checkA (elements 1 0 (now a)) ≡ accepted) ⌝ }
-    ensures { λ r. ⌜ r ≡ map (λ k. rowOf k (bandwidthKind k (sideA (now (a .entry))))) linkCodes ⌝ }
-{
-    let maximum = isis_index_sets::bandwidth_row(a, lists, standards, users, index, 1089);
-    let reservable = isis_index_sets::bandwidth_row(a, lists, standards, users, index, 1090);
-    let unreserved = isis_index_sets::bandwidth_row(a, lists, standards, users, index, 1091);
-    let rows = [maximum, reservable, unreserved];
-    rows
-}
-
-// The export, from the table of the groups and the SRLGs of RSVP-TE and of the general set.
-fn export_table(
-    a: &[u8],
-    b: &[u8],
-    c: &[u8],
-    lists: &[[u16; 2]],
-    standards: &[u64],
-    users: &[u64],
-    index: Index,
-    legacy: &[[usize; 2]; 10],
-    general: &[[usize; 2]; 10],
-    rs: &[u32],
-    gs: &[u32],
-    values: &[u32],
-    count: usize,
-    grids: &[[[usize; 2]; 10]],
-    bits: &[[u64; 12]],
-    heads: &[[u64; 4]],
-    scratch: &mut [u32],
-    out: &mut [u8],
-) -> Written
-    requires { ⌜ PassedLink (now a) (now b) (now c) × ReadyA (now a) (now lists) (now standards) (now users) index (now legacy) (now general) × Srlgs (now b) (now c) (now rs) (now gs) × (length (now values) ≤ 768) × Filled (now a) (now b) (now c) (now values) count (now grids) (now bits) (now heads) × (512 ≤ length (now scratch)) ⌝ }
-    ensures { λ r. ⌜ toldExported r (now (out .exit)) ≡ write accepted (Definitions.export (meaning (linkSource (now (a .entry)) (now (b .entry)) (now (c .entry))))) (now (out .entry)) ⌝ }
-{
-    let l = bandwidth_rows(a, lists, standards, users, index);
-    let r = isis_index_sets::rsvp_te_grid(a, lists, standards, users, index, legacy);
-    export_bytes::export_sets(
-        a,
-        &l,
-        &r,
-        rs,
-        general,
-        gs,
-        values,
-        count,
-        grids,
-        bits,
-        heads,
-        scratch,
-        out,
-    )
-}
-
-// The export, with lent room for the table and the SRLGs.
+// The export, with lent room for the table of the groups and for the SRLGs of one of them.
 fn export_with(
     a: &[u8],
     b: &[u8],
@@ -109,6 +45,7 @@ fn export_with(
     standards: &[u64],
     users: &[u64],
     index: Index,
+    l: &[[usize; 2]; 3],
     legacy: &[[usize; 2]; 10],
     general: &[[usize; 2]; 10],
     values: &[u32],
@@ -117,15 +54,15 @@ fn export_with(
     entries: usize,
     standard: u64,
     user: u64,
-    rs: &mut [u32],
-    gs: &mut [u32],
+    rs: &[u32],
+    gs: &[u32],
     scratch: &mut [u32],
     grids: &mut [[[usize; 2]; 10]],
     bits: &mut [[u64; 12]],
     heads: &mut [[u64; 4]],
     out: &mut [u8],
 ) -> Written
-    requires { ⌜ Ready (now a) (now b) (now c) (now lists) (now standards) (now users) index (now legacy) (now general) (now values) (now sets) (now takers) entries standard user × (512 ≤ length (now rs)) × (512 ≤ length (now gs)) × (512 ≤ length (now scratch)) × T.Holds (left (inNumbers standard user) 1) (now grids) (now bits) (now heads) ⌝ }
+    requires { ⌜ Ready (now a) (now b) (now c) (now lists) (now standards) (now users) index (now legacy) (now general) (now values) (now sets) (now takers) entries standard user × Beside (now a) (now b) (now c) (now l) (now rs) (now gs) × Scratch (length (now values)) (length (now scratch)) × T.Holds (left (inNumbers standard user) 1) (now grids) (now bits) (now heads) ⌝ }
     ensures { λ r. ⌜ toldExported r (now (out .exit)) ≡ write accepted (Definitions.export (meaning (linkSource (now (a .entry)) (now (b .entry)) (now (c .entry))))) (now (out .entry)) ⌝ }
 {
     let count = isis_table::fill_groups(
@@ -148,20 +85,14 @@ fn export_with(
         bits,
         heads,
     );
-    let rn = isis_srlgs::srlgs_of(b, c, Subject::Standard(0), rs);
-    let gn = isis_srlgs::srlgs_of(b, c, Subject::General, gs);
-    export_table(
+    let r = isis_index_sets::rsvp_te_grid(a, lists, standards, users, index, legacy);
+    export_bytes::export_sets(
         a,
-        b,
-        c,
-        lists,
-        standards,
-        users,
-        index,
-        legacy,
+        l,
+        &r,
+        rs,
         general,
-        &rs[0..rn],
-        &gs[0..gn],
+        gs,
         values,
         count,
         grids,
@@ -181,6 +112,7 @@ fn export_two(
     standards: &[u64],
     users: &[u64],
     index: Index,
+    l: &[[usize; 2]; 3],
     legacy: &[[usize; 2]; 10],
     general: &[[usize; 2]; 10],
     values: &[u32],
@@ -189,14 +121,14 @@ fn export_two(
     entries: usize,
     standard: u64,
     user: u64,
+    rs: &[u32],
+    gs: &[u32],
+    scratch: &mut [u32],
     out: &mut [u8],
 ) -> Written
-    requires { ⌜ Ready (now a) (now b) (now c) (now lists) (now standards) (now users) index (now legacy) (now general) (now values) (now sets) (now takers) entries standard user × (left (inNumbers standard user) 1 ≤ 2) ⌝ }
+    requires { ⌜ Ready (now a) (now b) (now c) (now lists) (now standards) (now users) index (now legacy) (now general) (now values) (now sets) (now takers) entries standard user × Beside (now a) (now b) (now c) (now l) (now rs) (now gs) × Scratch (length (now values)) (length (now scratch)) × (left (inNumbers standard user) 1 ≤ 2) ⌝ }
     ensures { λ r. ⌜ toldExported r (now (out .exit)) ≡ write accepted (Definitions.export (meaning (linkSource (now (a .entry)) (now (b .entry)) (now (c .entry))))) (now (out .entry)) ⌝ }
 {
-    let mut rs = [0u32; 512];
-    let mut gs = [0u32; 512];
-    let mut scratch = [0u32; 512];
     let mut grids = [[[0usize; 2]; 10]; 2];
     let mut bits = [[0u64; 12]; 2];
     let mut heads = [[0u64; 4]; 2];
@@ -208,6 +140,7 @@ fn export_two(
         standards,
         users,
         index,
+        l,
         legacy,
         general,
         values,
@@ -216,9 +149,9 @@ fn export_two(
         entries,
         standard,
         user,
-        &mut rs,
-        &mut gs,
-        &mut scratch,
+        rs,
+        gs,
+        scratch,
         &mut grids,
         &mut bits,
         &mut heads,
@@ -234,6 +167,7 @@ fn export_few(
     standards: &[u64],
     users: &[u64],
     index: Index,
+    l: &[[usize; 2]; 3],
     legacy: &[[usize; 2]; 10],
     general: &[[usize; 2]; 10],
     values: &[u32],
@@ -242,14 +176,14 @@ fn export_few(
     entries: usize,
     standard: u64,
     user: u64,
+    rs: &[u32],
+    gs: &[u32],
+    scratch: &mut [u32],
     out: &mut [u8],
 ) -> Written
-    requires { ⌜ Ready (now a) (now b) (now c) (now lists) (now standards) (now users) index (now legacy) (now general) (now values) (now sets) (now takers) entries standard user × (left (inNumbers standard user) 1 ≤ 12) ⌝ }
+    requires { ⌜ Ready (now a) (now b) (now c) (now lists) (now standards) (now users) index (now legacy) (now general) (now values) (now sets) (now takers) entries standard user × Beside (now a) (now b) (now c) (now l) (now rs) (now gs) × Scratch (length (now values)) (length (now scratch)) × (left (inNumbers standard user) 1 ≤ 12) ⌝ }
     ensures { λ r. ⌜ toldExported r (now (out .exit)) ≡ write accepted (Definitions.export (meaning (linkSource (now (a .entry)) (now (b .entry)) (now (c .entry))))) (now (out .entry)) ⌝ }
 {
-    let mut rs = [0u32; 512];
-    let mut gs = [0u32; 512];
-    let mut scratch = [0u32; 512];
     let mut grids = [[[0usize; 2]; 10]; 12];
     let mut bits = [[0u64; 12]; 12];
     let mut heads = [[0u64; 4]; 12];
@@ -261,6 +195,7 @@ fn export_few(
         standards,
         users,
         index,
+        l,
         legacy,
         general,
         values,
@@ -269,9 +204,9 @@ fn export_few(
         entries,
         standard,
         user,
-        &mut rs,
-        &mut gs,
-        &mut scratch,
+        rs,
+        gs,
+        scratch,
         &mut grids,
         &mut bits,
         &mut heads,
@@ -287,6 +222,7 @@ fn export_many(
     standards: &[u64],
     users: &[u64],
     index: Index,
+    l: &[[usize; 2]; 3],
     legacy: &[[usize; 2]; 10],
     general: &[[usize; 2]; 10],
     values: &[u32],
@@ -295,14 +231,14 @@ fn export_many(
     entries: usize,
     standard: u64,
     user: u64,
+    rs: &[u32],
+    gs: &[u32],
+    scratch: &mut [u32],
     out: &mut [u8],
 ) -> Written
-    requires { ⌜ Ready (now a) (now b) (now c) (now lists) (now standards) (now users) index (now legacy) (now general) (now values) (now sets) (now takers) entries standard user ⌝ }
+    requires { ⌜ Ready (now a) (now b) (now c) (now lists) (now standards) (now users) index (now legacy) (now general) (now values) (now sets) (now takers) entries standard user × Beside (now a) (now b) (now c) (now l) (now rs) (now gs) × Scratch (length (now values)) (length (now scratch)) ⌝ }
     ensures { λ r. ⌜ toldExported r (now (out .exit)) ≡ write accepted (Definitions.export (meaning (linkSource (now (a .entry)) (now (b .entry)) (now (c .entry))))) (now (out .entry)) ⌝ }
 {
-    let mut rs = [0u32; 512];
-    let mut gs = [0u32; 512];
-    let mut scratch = [0u32; 512];
     let mut grids = [[[0usize; 2]; 10]; 127];
     let mut bits = [[0u64; 12]; 127];
     let mut heads = [[0u64; 4]; 127];
@@ -314,6 +250,7 @@ fn export_many(
         standards,
         users,
         index,
+        l,
         legacy,
         general,
         values,
@@ -322,9 +259,9 @@ fn export_many(
         entries,
         standard,
         user,
-        &mut rs,
-        &mut gs,
-        &mut scratch,
+        rs,
+        gs,
+        scratch,
         &mut grids,
         &mut bits,
         &mut heads,
@@ -341,6 +278,7 @@ fn export_named(
     standards: &[u64],
     users: &[u64],
     index: Index,
+    l: &[[usize; 2]; 3],
     legacy: &[[usize; 2]; 10],
     general: &[[usize; 2]; 10],
     values: &[u32],
@@ -349,9 +287,12 @@ fn export_named(
     entries: usize,
     standard: u64,
     user: u64,
+    rs: &[u32],
+    gs: &[u32],
+    scratch: &mut [u32],
     out: &mut [u8],
 ) -> Written
-    requires { ⌜ Ready (now a) (now b) (now c) (now lists) (now standards) (now users) index (now legacy) (now general) (now values) (now sets) (now takers) entries standard user ⌝ }
+    requires { ⌜ Ready (now a) (now b) (now c) (now lists) (now standards) (now users) index (now legacy) (now general) (now values) (now sets) (now takers) entries standard user × Beside (now a) (now b) (now c) (now l) (now rs) (now gs) × Scratch (length (now values)) (length (now scratch)) ⌝ }
     ensures { λ r. ⌜ toldExported r (now (out .exit)) ≡ write accepted (Definitions.export (meaning (linkSource (now (a .entry)) (now (b .entry)) (now (c .entry))))) (now (out .entry)) ⌝ }
 {
     if isis_table::few_named(standard, user, 2) {
@@ -363,6 +304,7 @@ fn export_named(
             standards,
             users,
             index,
+            l,
             legacy,
             general,
             values,
@@ -371,6 +313,9 @@ fn export_named(
             entries,
             standard,
             user,
+            rs,
+            gs,
+            scratch,
             out,
         );
     }
@@ -383,6 +328,7 @@ fn export_named(
             standards,
             users,
             index,
+            l,
             legacy,
             general,
             values,
@@ -391,6 +337,9 @@ fn export_named(
             entries,
             standard,
             user,
+            rs,
+            gs,
+            scratch,
             out,
         );
     }
@@ -402,6 +351,7 @@ fn export_named(
         standards,
         users,
         index,
+        l,
         legacy,
         general,
         values,
@@ -410,6 +360,9 @@ fn export_named(
         entries,
         standard,
         user,
+        rs,
+        gs,
+        scratch,
         out,
     )
 }
@@ -423,15 +376,19 @@ fn export_indexed(
     standards: &[u64],
     users: &[u64],
     index: Index,
+    l: &[[usize; 2]; 3],
     legacy: &[[usize; 2]; 10],
     general: &[[usize; 2]; 10],
     values: &[u32],
     g: Gathered,
     sets: &mut [[u64; 12]],
     takers: &mut [[u64; 2]],
+    rs: &[u32],
+    gs: &[u32],
+    scratch: &mut [u32],
     out: &mut [u8],
 ) -> Written
-    requires { ⌜ PassedLink (now a) (now b) (now c) × ReadyA (now a) (now lists) (now standards) (now users) index (now legacy) (now general) × B.Values (now b) (now c) g (now values) × (length (now b) + 16 ≤ 16 * length (now sets)) × (length (now b) + 16 ≤ 16 * length (now takers)) ⌝ }
+    requires { ⌜ PassedLink (now a) (now b) (now c) × ReadyA (now a) (now lists) (now standards) (now users) index (now legacy) (now general) × B.Values (now b) (now c) g (now values) × (length (now b) + 16 ≤ 16 * length (now sets)) × (length (now b) + 16 ≤ 16 * length (now takers)) × Beside (now a) (now b) (now c) (now l) (now rs) (now gs) × Scratch (length (now values)) (length (now scratch)) ⌝ }
     ensures { λ r. ⌜ toldExported r (now (out .exit)) ≡ write accepted (Definitions.export (meaning (linkSource (now (a .entry)) (now (b .entry)) (now (c .entry))))) (now (out .entry)) ⌝ }
 {
     let entries = isis_srlg_index::index_srlgs(b, c, values, g, sets, takers);
@@ -446,6 +403,7 @@ fn export_indexed(
         standards,
         users,
         index,
+        l,
         legacy,
         general,
         values,
@@ -454,11 +412,14 @@ fn export_indexed(
         entries,
         standard,
         user,
+        rs,
+        gs,
+        scratch,
         out,
     )
 }
 
-// The same, with the numbers at the front of a list.
+// The same, with the numbers at the fronts of lists.
 fn export_sorted(
     a: &[u8],
     b: &[u8],
@@ -467,15 +428,21 @@ fn export_sorted(
     standards: &[u64],
     users: &[u64],
     index: Index,
+    l: &[[usize; 2]; 3],
     legacy: &[[usize; 2]; 10],
     general: &[[usize; 2]; 10],
     values: &[u32],
     g: Gathered,
     sets: &mut [[u64; 12]],
     takers: &mut [[u64; 2]],
+    rs: &[u32],
+    rn: usize,
+    gs: &[u32],
+    gn: usize,
+    scratch: &mut [u32],
     out: &mut [u8],
 ) -> Written
-    requires { ⌜ PassedLink (now a) (now b) (now c) × ReadyA (now a) (now lists) (now standards) (now users) index (now legacy) (now general) × B.Values (now b) (now c) g (take (g .count) (now values)) × (g .count ≤ length (now values)) × (length (now b) + 16 ≤ 16 * length (now sets)) × (length (now b) + 16 ≤ 16 * length (now takers)) ⌝ }
+    requires { ⌜ PassedLink (now a) (now b) (now c) × ReadyA (now a) (now lists) (now standards) (now users) index (now legacy) (now general) × B.Values (now b) (now c) g (take (g .count) (now values)) × (g .count ≤ length (now values)) × (length (now b) + 16 ≤ 16 * length (now sets)) × (length (now b) + 16 ≤ 16 * length (now takers)) × Beside (now a) (now b) (now c) (now l) (take rn (now rs)) (take gn (now gs)) × (rn ≤ length (now rs)) × (gn ≤ length (now gs)) × Scratch (g .count) (length (now scratch)) ⌝ }
     ensures { λ r. ⌜ toldExported r (now (out .exit)) ≡ write accepted (Definitions.export (meaning (linkSource (now (a .entry)) (now (b .entry)) (now (c .entry))))) (now (out .entry)) ⌝ }
 {
     let n = g.count;
@@ -487,12 +454,16 @@ fn export_sorted(
         standards,
         users,
         index,
+        l,
         legacy,
         general,
         &values[0..n],
         g,
         sets,
         takers,
+        &rs[0..rn],
+        &gs[0..gn],
+        scratch,
         out,
     )
 }
@@ -508,17 +479,23 @@ fn export_runs(
     values: &mut [u32],
     list: &mut [u32],
     tmp: &mut [u32],
+    scratch: &mut [u32],
     sets: &mut [[u64; 12]],
     takers: &mut [[u64; 2]],
     out: &mut [u8],
 ) -> Written
-    requires { ⌜ PassedLink (now a) (now b) (now c) × Room (now a) (now lists) (now standards) (now users) × (length (now b) / 4 + length (now c) / 4 ≤ length (now values)) × (length (now b) / 4 + length (now c) / 4 ≤ length (now list)) × (length (now b) / 4 + length (now c) / 4 ≤ length (now tmp)) × (length (now b) + 16 ≤ 16 * length (now sets)) × (length (now b) + 16 ≤ 16 * length (now takers)) ⌝ }
+    requires { ⌜ PassedLink (now a) (now b) (now c) × Room (now a) (now lists) (now standards) (now users) × (length (now b) / 4 + length (now c) / 4 ≤ length (now values)) × (length (now b) / 4 + length (now c) / 4 ≤ length (now list)) × (length (now b) / 4 + length (now c) / 4 ≤ length (now tmp)) × Scratch (length (now b) / 4 + length (now c) / 4) (length (now scratch)) × (length (now b) + 16 ≤ 16 * length (now sets)) × (length (now b) + 16 ≤ 16 * length (now takers)) ⌝ }
     ensures { λ r. ⌜ toldExported r (now (out .exit)) ≡ write accepted (Definitions.export (meaning (linkSource (now (a .entry)) (now (b .entry)) (now (c .entry))))) (now (out .entry)) ⌝ }
 {
     let index = isis_asla_index::index_aslas(a, lists, standards, users);
-    let legacy = isis_grids::legacy_grid(a);
+    let mut legacy = [[0usize; 2]; 10];
+    let mut link = [[0usize; 2]; 3];
+    isis_grids::fill_legacy(&mut legacy, &mut link, a);
+    let l = isis_index_sets::bandwidth_rows(a, lists, standards, users, index, &link);
     let general = isis_index_sets::general_grid(a, lists, standards, users, index);
     let g = isis_srlg_values::sort_values(b, c, values, list, tmp);
+    let rn = isis_srlgs::srlgs_of(b, c, Subject::Standard(0), list);
+    let gn = isis_srlgs::srlgs_of(b, c, Subject::General, tmp);
     export_sorted(
         a,
         b,
@@ -527,12 +504,18 @@ fn export_runs(
         standards,
         users,
         index,
+        &l,
         &legacy,
         &general,
         values,
         g,
         sets,
         takers,
+        list,
+        rn,
+        tmp,
+        gn,
+        scratch,
         out,
     )
 }
@@ -548,6 +531,7 @@ fn export_least(a: &[u8], b: &[u8], c: &[u8], out: &mut [u8]) -> Written
     let mut values = [0u32; 16];
     let mut list = [0u32; 16];
     let mut tmp = [0u32; 16];
+    let mut scratch = [0u32; 16];
     let mut sets = [[0u64; 12]; 3];
     let mut takers = [[0u64; 2]; 3];
     export_runs(
@@ -560,6 +544,7 @@ fn export_least(a: &[u8], b: &[u8], c: &[u8], out: &mut [u8]) -> Written
         &mut values,
         &mut list,
         &mut tmp,
+        &mut scratch,
         &mut sets,
         &mut takers,
         out,
@@ -576,6 +561,7 @@ fn export_small(a: &[u8], b: &[u8], c: &[u8], out: &mut [u8]) -> Written
     let mut values = [0u32; 128];
     let mut list = [0u32; 128];
     let mut tmp = [0u32; 128];
+    let mut scratch = [0u32; 128];
     let mut sets = [[0u64; 12]; 21];
     let mut takers = [[0u64; 2]; 21];
     export_runs(
@@ -588,6 +574,7 @@ fn export_small(a: &[u8], b: &[u8], c: &[u8], out: &mut [u8]) -> Written
         &mut values,
         &mut list,
         &mut tmp,
+        &mut scratch,
         &mut sets,
         &mut takers,
         out,
@@ -604,6 +591,7 @@ fn export_large(a: &[u8], b: &[u8], c: &[u8], out: &mut [u8]) -> Written
     let mut values = [0u32; 768];
     let mut list = [0u32; 768];
     let mut tmp = [0u32; 768];
+    let mut scratch = [0u32; 512];
     let mut sets = [[0u64; 12]; 129];
     let mut takers = [[0u64; 2]; 129];
     export_runs(
@@ -616,6 +604,7 @@ fn export_large(a: &[u8], b: &[u8], c: &[u8], out: &mut [u8]) -> Written
         &mut values,
         &mut list,
         &mut tmp,
+        &mut scratch,
         &mut sets,
         &mut takers,
         out,

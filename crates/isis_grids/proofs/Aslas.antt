@@ -298,19 +298,3 @@ module _ (w : Which) (a : List ℕ) (at : ℕ) (here : at < length a) (ok : faul
     live-unread l =
         live-read g
         (sym (ap (λ (v : List ℕ). F g (each attributesOf (elements 1 from v))) (empty-list from l) ∙ ap (λ (es : List Element). F g (each attributesOf es)) (none-left 1 from) ∙ none g))
-
--- The end of such a loop.
-module _ {G : Type 0} (F : G → List Attribute → G) (none : (g : G) → F g [] ≡ g) where
-  pub live-end : (w : Which) (a : List ℕ) (at : ℕ) (g : G) → length a ≤ at → g ≡ F g (each (selected w) (left 1 0 a at))
-  live-end w a at g l = sym (ap (F g) (each-end (selected w) 1 (omega arith) 0 a at l) ∙ none g)
-
--- What fills a grid: the lists one after the other.
-pub filled-nil : (g : List (List ℕ)) → filled g [] ≡ g
-unfolding filled
-filled-nil g = refl
-
-pub live-start : (w : Which) (a : List ℕ) → filled (replicate 10 (0 ∷ 0 ∷ [])) (each (selected w) (left 1 0 a 0)) ≡ gridOf (ofLive (selects w) (sideA a))
-live-start w a =
-    ap (λ (es : List Element). filled (replicate 10 (0 ∷ 0 ∷ [])) (each (selected w) es)) (left-all 0 a)
-    ∙ filled-empty (each (selected w) (elements 1 0 a)) (placed-selected w (elements 1 0 a))
-    ∙ ap gridOf (sym (live-all w a))

@@ -1,20 +1,21 @@
 -- Grids and the attributes that fill them: a grid that is filled from several lists is that of the lists joined.
 use mathlib.Core.Path.{_≡_, refl, sym, ap, ap₂, _∙_, subst}
-use mathlib.Core.Bool.{Bool, true, false, cond, _||_}
+use mathlib.Core.Bool.{Bool, true, false, cond, _&&_, _||_}
 use mathlib.Core.Logic.{_⊎_, inl, inr}
 use mathlib.Core.List.{List, [], _∷_, _++_, map, append-assoc, List·Memᴰ, List·Memᴰ·head, List·Memᴰ·tail, List·Memᴰ·cases-cons}
 use Prim.Native.Nat.{ℕ, suc, _+_, _<_}
 use native.Mathlib.Omega.{arith}
-use borrow.Author.Tests.{eqb-true, eqb-false, eq-eqb, ne-eqb}
-use lib.Dec.{eqb}
-use lib.ListN.{getD, set, replicate}
+use borrow.Author.Tests.{eqb-true, eqb-false, eq-eqb, ne-eqb, ltb-true, ltb-false, lt-ltb, le-ltb}
+use lib.Dec.{ltb, eqb}
+use lib.ListN.{length, getD, set, replicate}
 use Rattle.linkstate.specs.Lists.{keep, each, member}
-use Rattle.linkstate.specs.Elements.{Element, element, cut}
+use Rattle.linkstate.specs.Elements.{Element, element, cut, elements}
+use Rattle.linkstate.specs.Kinds.{linkCodes}
 use Rattle.linkstate.specs.Attributes.{Attribute, attribute, ofKind}
-use Rattle.isis.specs.RunA.{attributesOf}
+use Rattle.isis.specs.RunA.{attributesOf, sideA}
 use Rattle.kinds.specs.Rules.{gridCodes, rowIn}
 use Rattle.kinds.proofs.Computing.{computing}
-use Rattle.isis_grids.specs.Grid.{firstRow, rowOf, gridOf, enteredIn, filled}
+use Rattle.isis_grids.specs.Grid.{firstRow, rowOf, gridOf, entered, filledIn, filled}
 
 -- What holds of every element of a list.
 module _ {A : Type 0} where
@@ -113,8 +114,15 @@ cond-head : {A : Type 0} (b : Bool) (x y : A) (xs : List A) → cond b (x ∷ xs
 cond-head true x y xs = refl
 cond-head false x y xs = refl
 
-entered-one : (cs : List ℕ) (us : List Attribute) (t : Attribute) → Apart cs → All Placed us → enteredIn cs (map (λ c. rowOf c us) cs) t ≡ map (λ c. rowOf c (us ++ (t ∷ []))) cs
-unfolding enteredIn rowIn
+below-suc : (k n : ℕ) → ltb (suc k) (suc n) ≡ ltb k n
+below-suc k n = go (ltb k n) refl
+  where
+    go : (b : Bool) → ltb k n ≡ b → ltb (suc k) (suc n) ≡ b
+    go true e = let l = ltb-true k n e in lt-ltb (suc k) (suc n) (omega arith)
+    go false e = let l = ltb-false k n e in le-ltb (suc k) (suc n) (omega arith)
+
+entered-one : (cs : List ℕ) (us : List Attribute) (t : Attribute) → Apart cs → All Placed us → entered cs (map (λ c. rowOf c us) cs) (t .code) (t .at) (t .len) ≡ map (λ c. rowOf c (us ++ (t ∷ []))) cs
+unfolding entered rowIn
 entered-one [] us t a p = refl
 entered-one (c ∷ cs) us t a p = go (eqb (t .code) c) refl (entered-one cs us t (a .1) p)
   where
@@ -127,46 +135,58 @@ entered-one (c ∷ cs) us t a p = go (eqb (t .code) c) refl (entered-one cs us t
     r : List ℕ
     r = t .at ∷ t .len ∷ []
 
-    go : (b : Bool) → eqb (t .code) c ≡ b → cond (eqb (getD (getD g k []) 0 0) 0) (set g k r) g ≡ map (λ c. rowOf c (us ++ (t ∷ []))) cs
-        → cond (eqb (getD (getD (rowOf c us ∷ g) (cond b 0 (suc k)) []) 0 0) 0) (set (rowOf c us ∷ g) (cond b 0 (suc k)) r) (rowOf c us ∷ g) ≡ rowOf c (us ++ (t ∷ [])) ∷ map (λ c. rowOf c (us ++ (t ∷ []))) cs
+    go : (b : Bool) → eqb (t .code) c ≡ b → cond (ltb k (length cs) && eqb (getD (getD g k []) 0 0) 0) (set g k r) g ≡ map (λ c. rowOf c (us ++ (t ∷ []))) cs
+        → cond (ltb (cond b 0 (suc k)) (suc (length cs)) && eqb (getD (getD (rowOf c us ∷ g) (cond b 0 (suc k)) []) 0 0) 0) (set (rowOf c us ∷ g) (cond b 0 (suc k)) r) (rowOf c us ∷ g) ≡ rowOf c (us ++ (t ∷ [])) ∷ map (λ c. rowOf c (us ++ (t ∷ []))) cs
     go true e i =
-        cond-head (eqb (getD (rowOf c us) 0 0) 0) r (rowOf c us) g
-        ∙ ap₂ (λ (x : List ℕ) (xs : List (List ℕ)). x ∷ xs) (row-own c us t p (eqb-swap c (t .code) ∙ e)) (rows-other cs us t (subst (λ (x : ℕ). member x cs ≡ false) (sym (eqb-true (t .code) c e)) (a .0)))
+        rw (lt-ltb 0 (suc (length cs)) (omega arith))
+        (cond-head (eqb (getD (rowOf c us) 0 0) 0) r (rowOf c us) g
+        ∙ ap₂ (λ (x : List ℕ) (xs : List (List ℕ)). x ∷ xs) (row-own c us t p (eqb-swap c (t .code) ∙ e)) (rows-other cs us t (subst (λ (x : ℕ). member x cs ≡ false) (sym (eqb-true (t .code) c e)) (a .0))))
     go false e i =
-        cond-cons (eqb (getD (getD g k []) 0 0) 0) (rowOf c us) (set g k r) g
-        ∙ ap₂ (λ (x : List ℕ) (xs : List (List ℕ)). x ∷ xs) (sym (row-other c us t (eqb-swap c (t .code) ∙ e))) i
+        rw (below-suc k (length cs))
+        (cond-cons (ltb k (length cs) && eqb (getD (getD g k []) 0 0) 0) (rowOf c us) (set g k r) g
+        ∙ ap₂ (λ (x : List ℕ) (xs : List (List ℕ)). x ∷ xs) (sym (row-other c us t (eqb-swap c (t .code) ∙ e))) i)
 
 codes-apart : Apart gridCodes
 unfolding computing
 codes-apart = (refl, (refl, (refl, (refl, (refl, (refl, (refl, (refl, (refl, (refl, tt))))))))))
 
+links-apart : Apart linkCodes
+unfolding computing
+links-apart = (refl, (refl, (refl, tt)))
+
 -- ---- filling
 
-pub filled-append : (g : List (List ℕ)) (ts us : List Attribute) → filled g (ts ++ us) ≡ filled (filled g ts) us
-unfolding filled
-filled-append g [] us = refl
-filled-append g (t ∷ ts) us = filled-append (enteredIn gridCodes g t) ts us
-
--- A grid of attributes that is filled with more is the grid of all of them.
-pub filled-grid : (us ts : List Attribute) → All Placed us → All Placed ts → filled (gridOf us) ts ≡ gridOf (us ++ ts)
-unfolding filled gridOf
-filled-grid us [] p q = ap gridOf (sym (append-nil us))
+-- Rows of attributes that are filled with more are the rows of all of them.
+filled-rows : (cs : List ℕ) → Apart cs → (us ts : List Attribute) → All Placed us → All Placed ts → filledIn cs (map (λ c. rowOf c us) cs) ts ≡ map (λ c. rowOf c (us ++ ts)) cs
+unfolding filledIn
+filled-rows cs x us [] p q = ap (λ (ts : List Attribute). map (λ c. rowOf c ts) cs) (sym (append-nil us))
   where
     append-nil : (xs : List Attribute) → xs ++ [] ≡ xs
     append-nil [] = refl
     append-nil (x ∷ xs) = ap (λ (l : List Attribute). x ∷ l) (append-nil xs)
-filled-grid us (t ∷ ts) p q =
-    ap (λ (g : List (List ℕ)). filled g ts) (entered-one gridCodes us t codes-apart p)
-    ∙ filled-grid (us ++ (t ∷ [])) ts (all-append Placed us (t ∷ []) p (q .0, tt)) (q .1)
-    ∙ ap gridOf (append-assoc us (t ∷ []) ts)
+filled-rows cs x us (t ∷ ts) p q =
+    ap (λ (g : List (List ℕ)). filledIn cs g ts) (entered-one cs us t x p)
+    ∙ filled-rows cs x (us ++ (t ∷ [])) ts (all-append Placed us (t ∷ []) p (q .0, tt)) (q .1)
+    ∙ ap (λ (ts : List Attribute). map (λ c. rowOf c ts) cs) (append-assoc us (t ∷ []) ts)
+
+pub filled-grid : (us ts : List Attribute) → All Placed us → All Placed ts → filled (gridOf us) ts ≡ gridOf (us ++ ts)
+unfolding gridOf
+filled-grid us ts p q = filled-rows gridCodes codes-apart us ts p q
 
 pub grid-empty : replicate 10 (0 ∷ 0 ∷ []) ≡ gridOf []
 unfolding computing gridOf rowOf firstRow
 grid-empty = refl
 
--- From the empty grid.
+links-empty : replicate 3 (0 ∷ 0 ∷ []) ≡ map (λ c. rowOf c []) linkCodes
+unfolding computing rowOf firstRow
+links-empty = refl
+
+-- From empty rows.
 pub filled-empty : (ts : List Attribute) → All Placed ts → filled (replicate 10 (0 ∷ 0 ∷ [])) ts ≡ gridOf ts
 filled-empty ts p = ap (λ (g : List (List ℕ)). filled g ts) grid-empty ∙ filled-grid [] ts tt p
+
+pub links-filled : (ts : List Attribute) → All Placed ts → filledIn linkCodes (replicate 3 (0 ∷ 0 ∷ [])) ts ≡ map (λ c. rowOf c ts) linkCodes
+links-filled ts p = ap (λ (g : List (List ℕ)). filledIn linkCodes g ts) links-empty ∙ filled-rows linkCodes links-apart [] ts tt p
 
 -- ---- attributes of elements
 
@@ -177,3 +197,7 @@ placed-one (cut at) = tt
 
 pub placed-each : (es : List Element) → All Placed (each attributesOf es)
 placed-each es = all-each Placed attributesOf es (λ e m. placed-one e)
+
+pub placed-legacy : (a : List ℕ) → All Placed (sideA a .legacy)
+unfolding sideA
+placed-legacy a = placed-each (elements 1 0 a)

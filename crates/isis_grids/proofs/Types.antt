@@ -4,12 +4,13 @@ use mathlib.Core.Bool.{Bool, true, false, cond, _&&_, _||_, not}
 use mathlib.Core.List.{List, [], _∷_, map}
 use Prim.Native.Nat.{ℕ, zero, suc, _+_, _-_, _≤_, _<_}
 use native.Mathlib.Omega.{arith}
-use borrow.Author.Tests.{eqb-true, eq-eqb, ne-eqb}
-use lib.Dec.{eqb}
+use borrow.Author.Tests.{eqb-true, eq-eqb, ne-eqb, leb-true}
+use lib.Dec.{eqb, leb}
 use lib.ListN.{length, getD}
 use Rattle.linkstate.specs.Lists.{all, lookup}
 use Rattle.linkstate.specs.Kinds as T
-use Rattle.linkstate.specs.Kinds.{kinds, hasType, codeOfType, wrongInA}
+use Rattle.linkstate.specs.Kinds.{kinds, linkCodes, hasType, codeOfType, wrongInA}
+use Rattle.linkstate.proofs.ListLaws.{and-l, and-r}
 use Rattle.kinds.specs.declared.Kind.{Kind}
 use Rattle.kinds.specs.declared.Kind.the-variants.{Link, Application, Srlg, Asla, Unknown}
 use Rattle.kinds.specs.declared.Size.the-variants.{Any}
@@ -52,6 +53,28 @@ row-of-type t = go (eqb t 16) refl
 pub row-read : (t : ℕ) (r : Rule) (k : Kind) → r ≡ ruleOfType t → r .kind ≡ k → rowOfKind k ≡ rowIn gridCodes (codeOfType t)
 row-read t r k e h = ap rowOfKind (sym h ∙ ap (λ (x : Rule). x .kind) e) ∙ row-of-type t
 
+-- The row of a bandwidth's type, 9 to 11, among the link's codes; every other type has none there.
+pub ten-codes : length gridCodes ≡ 10
+unfolding computing
+ten-codes = refl
+
+pub three-codes : length linkCodes ≡ 3
+unfolding computing
+three-codes = refl
+
+pub link-bounds : (t : ℕ) → leb 9 t && leb t 11 ≡ true → (9 ≤ t) × (t ≤ 11)
+link-bounds t e = (leb-true 9 t (and-l (leb 9 t) (leb t 11) e), leb-true t 11 (and-r (leb 9 t) (leb t 11) e))
+
+pub link-row : (t : ℕ) → 9 ≤ t → t ≤ 11 → t - 9 ≡ rowIn linkCodes (codeOfType t)
+unfolding computing
+link-row t h g = let e : 9 + (t - 9) ≡ t = omega arith in subst (λ (i : ℕ). i - 9 ≡ rowIn linkCodes (codeOfType i)) e (go (t - 9) (omega arith))
+  where
+    go : (d : ℕ) → d < 3 → 9 + d - 9 ≡ rowIn linkCodes (codeOfType (9 + d))
+    go zero l = refl
+    go (suc zero) l = refl
+    go (suc (suc zero)) l = refl
+    go (suc (suc (suc d))) l = absurd (omega arith)
+
 -- ---- every type
 
 -- What holds of a type that is carried in run A.
@@ -80,6 +103,26 @@ types-in P (q ∷ qs) all t f = go (q .carrier) (all .0) f (types-in P qs (all .
 pub every-type : (P : ℕ → Type 0) → OfTypes P kinds → ((t : ℕ) → codeOfType t ≡ 0 → P t) → (t : ℕ) → P t
 unfolding codeOfType
 every-type P all f t = types-in P kinds all t (f t)
+
+-- Whether a type is one of the bandwidths' or has no row among the link's codes: a computed test.
+linked : ℕ → Bool
+linked t = (leb 9 t && leb t 11) || leb 3 (rowIn linkCodes (codeOfType t))
+
+linked-all : (t : ℕ) → linked t ≡ true
+unfolding computing linked
+linked-all = every-type (λ t. linked t ≡ true) (refl, (refl, (refl, (refl, (refl, (tt, (refl, (refl, (refl, (refl, (refl, (refl, (refl, (refl, tt)))))))))))))) (λ t e. or-true (leb 9 t && leb t 11) (leb 3 (rowIn linkCodes (codeOfType t))) (ap (λ (c : ℕ). leb 3 (rowIn linkCodes c)) e))
+  where
+    or-true : (x y : Bool) → y ≡ true → (x || y) ≡ true
+    or-true true y e = refl
+    or-true false y e = e
+
+pub link-none : (t : ℕ) → leb 9 t && leb t 11 ≡ false → 3 ≤ rowIn linkCodes (codeOfType t)
+unfolding linked
+link-none t e = leb-true 3 (rowIn linkCodes (codeOfType t)) (go (leb 9 t && leb t 11) e (linked-all t))
+  where
+    go : (b : Bool) → b ≡ false → b || leb 3 (rowIn linkCodes (codeOfType t)) ≡ true → leb 3 (rowIn linkCodes (codeOfType t)) ≡ true
+    go true f h = absurd (let z : _≡_ {A = ℕ} 0 1 = cc in omega arith)
+    go false f h = h
 
 -- A type whose length is right has a code whose length is.
 pub right-code : (n t : ℕ) → wrongInA t n ≡ false → wrongOfCode (codeOfType t) n ≡ false

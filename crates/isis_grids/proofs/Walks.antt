@@ -5,10 +5,9 @@ use mathlib.Core.List.{List, [], _∷_, _++_}
 use Prim.Native.Nat.{ℕ, _+_, _≤_, _<_}
 use native.Mathlib.Omega.{arith}
 use native.Mathlib.Nat.{add-zero}
-use borrow.Author.Tests.{eq-eqb, ne-eqb}
+use borrow.Author.Tests.{eq-eqb, ne-eqb, lt-ltb, le-ltb}
 use lib.Dec.{eqb}
-use lib.ListN.{length, getD, set, length-set, List·getD-eq-default}
-use lib.Seq.{set-out}
+use lib.ListN.{length, getD, set}
 use Rattle.linkstate.specs.Lists.{each}
 use Rattle.linkstate.specs.Bytes.{bytesAt}
 use Rattle.linkstate.specs.Replies.{Verdict, accepted, runA, _then_}
@@ -17,9 +16,9 @@ use Rattle.linkstate.specs.Kinds.{codeOfType}
 use Rattle.linkstate.specs.Attributes.{attribute}
 use Rattle.linkstate.proofs.WalkLaws.{left, type-one, length-one, faults-passed, each-end, each-turn, then-second, not-accepted}
 use Rattle.octets.proofs.Laws.{length-bytesAt}
-use Rattle.kinds.specs.Rules.{gridCodes, rowIn}
+use Rattle.kinds.specs.Rules.{rowIn}
 use Rattle.isis.specs.RunA.{attributesOf}
-use Rattle.isis_grids.specs.Grid.{enteredIn, filled, unchecked}
+use Rattle.isis_grids.specs.Grid.{entered, filledIn, unchecked}
 
 -- What passes its checks is framed.
 pub framed : (check : ℕ → ℕ → List ℕ → Verdict) (es : List Element) → faults runA check es ≡ accepted → faults runA unchecked es ≡ accepted
@@ -54,40 +53,37 @@ module _ (check : ℕ → ℕ → List ℕ → Verdict) (base : ℕ) (s : List �
       each-turn f 1 (omega arith) base s at (getD s (at + 1) 0) (length-one s at) inside
       ∙ ap (λ (t : ℕ). f (element (base + at) t (bytesAt s (at + 2) (getD s (at + 1) 0))) ++ each f (left 1 base s (at + 2 + getD s (at + 1) 0))) (type-one s at)
 
--- ---- a grid that is filled
+-- ---- rows that are filled
 
-module _ (base : ℕ) (s : List ℕ) (at : ℕ) (here : at < length s) (ok : faults runA unchecked (left 1 base s at) ≡ accepted) (h : List (List ℕ)) (k : ℕ)
-    (row : k ≡ rowIn gridCodes (codeOfType (getD s at 0))) where
-  -- The grid with the attribute at this position.
-  abbrev Next : List (List ℕ) → Type 0
-  Next g = g ≡ cond (eqb (getD (getD h k []) 0 0) 0) (set h k ((base + at + 2) ∷ getD s (at + 1) 0 ∷ [])) h
+module _ (cs : List ℕ) (h : List (List ℕ)) (c place n k : ℕ) (row : k ≡ rowIn cs c) where
+  abbrev Enters : List (List ℕ) → Type 0
+  Enters g = g ≡ entered cs h c place n
 
-  pub next-stored : getD (getD h k []) 0 0 ≡ 0 → Next (set h k ((base + at + 2) ∷ getD s (at + 1) 0 ∷ []))
-  next-stored e = rw (eq-eqb (getD (getD h k []) 0 0) 0 e)
+  pub stored : k < length cs → getD (getD h k []) 0 0 ≡ 0 → Enters (set h k (place ∷ n ∷ []))
+  unfolding entered
+  stored l e = rw (← row, lt-ltb k (length cs) l, eq-eqb (getD (getD h k []) 0 0) 0 e)
 
-  pub next-kept : (getD (getD h k []) 0 0 ≡ 0 → ⊥) → Next h
-  next-kept e = rw (ne-eqb (getD (getD h k []) 0 0) 0 e)
+  pub kept : k < length cs → (getD (getD h k []) 0 0 ≡ 0 → ⊥) → Enters h
+  unfolding entered
+  kept l e = rw (← row, lt-ltb k (length cs) l, ne-eqb (getD (getD h k []) 0 0) 0 e)
 
-  pub next-none : length h ≤ k → Next h
-  next-none e = rw (List·getD-eq-default h [] {n = k} e, set-out h k ((base + at + 2) ∷ getD s (at + 1) 0 ∷ []) e)
+  pub no-row : length cs ≤ k → Enters h
+  unfolding entered
+  no-row l = rw (← row, le-ltb k (length cs) l)
 
-  pub fill-turn : (g : List (List ℕ)) → Next g → (length g ≡ length h) × (filled g (each attributesOf (left 1 base s (at + 2 + getD s (at + 1) 0))) ≡ filled h (each attributesOf (left 1 base s at)))
-  unfolding attributesOf attribute filled enteredIn
-  fill-turn g e =
-      let n = getD s (at + 1) 0 in
-      let rest = each attributesOf (left 1 base s (at + 2 + n)) in (
-        ap length e ∙ same (eqb (getD (getD h k []) 0 0) 0),
-        ap (λ (x : List (List ℕ)). filled x rest) (e ∙ ap₂ (λ (i l : ℕ). cond (eqb (getD (getD h i []) 0 0) 0) (set h i ((base + at + 2) ∷ l ∷ [])) h) row (sym (length-bytesAt s (at + 2) n (inside unchecked base s at here ok))))
-            ∙ ap (filled h) (sym (turn unchecked base s at here ok attributesOf)),
-      )
-    where
-      same : (b : Bool) → length (cond b (set h k ((base + at + 2) ∷ getD s (at + 1) 0 ∷ [])) h) ≡ length h
-      same true = length-set h k ((base + at + 2) ∷ getD s (at + 1) 0 ∷ [])
-      same false = refl
+-- A turn enters the attribute at its position.
+pub fill-turn : (base : ℕ) (s : List ℕ) (at : ℕ) → at < length s → faults runA unchecked (left 1 base s at) ≡ accepted → (cs : List ℕ) (h g : List (List ℕ)) (place : ℕ) → place ≡ base + at + 2 → g ≡ entered cs h (codeOfType (getD s at 0)) place (getD s (at + 1) 0)
+    → filledIn cs g (each attributesOf (left 1 base s (at + 2 + getD s (at + 1) 0))) ≡ filledIn cs h (each attributesOf (left 1 base s at))
+unfolding attributesOf attribute filledIn
+fill-turn base s at here ok cs h g place p e =
+    let n = getD s (at + 1) 0 in
+    let rest = each attributesOf (left 1 base s (at + 2 + n)) in
+    ap (λ (x : List (List ℕ)). filledIn cs x rest) (e ∙ ap₂ (entered cs h (codeOfType (getD s at 0))) p (sym (length-bytesAt s (at + 2) n (inside unchecked base s at here ok))))
+    ∙ ap (filledIn cs h) (sym (turn unchecked base s at here ok attributesOf))
 
-pub fill-end : (base : ℕ) (s : List ℕ) (at : ℕ) (h : List (List ℕ)) → length s ≤ at → h ≡ filled h (each attributesOf (left 1 base s at))
-unfolding filled
-fill-end base s at h l = ap (filled h) (sym (each-end attributesOf 1 (omega arith) base s at l))
+pub fill-end : (base : ℕ) (s : List ℕ) (at : ℕ) (cs : List ℕ) (h : List (List ℕ)) → length s ≤ at → h ≡ filledIn cs h (each attributesOf (left 1 base s at))
+unfolding filledIn
+fill-end base s at cs h l = ap (filledIn cs h) (sym (each-end attributesOf 1 (omega arith) base s at l))
 
 -- Where a walk begins.
 pub left-all : (base : ℕ) (s : List ℕ) → left 1 base s 0 ≡ elements 1 base s

@@ -2,8 +2,8 @@
 use mathlib.Core.Bool.{Bool, cond, _&&_, not}
 use mathlib.Core.List.{List, [], _∷_, map}
 use Prim.Native.Nat.{ℕ}
-use lib.Dec.{eqb}
-use lib.ListN.{getD, set}
+use lib.Dec.{ltb, eqb}
+use lib.ListN.{length, getD, set}
 use Rattle.linkstate.specs.Lists.{any}
 use Rattle.linkstate.specs.Bytes.{bytesAt}
 use Rattle.linkstate.specs.Kinds.{kinds, hasCode, fits}
@@ -24,13 +24,17 @@ rowOf c ts = firstRow (ofKind c ts)
 unfoldable pub gridOf : List Attribute → List (List ℕ)
 gridOf ts = map (λ c. rowOf c ts) gridCodes
 
--- One attribute more: it goes into the row of its code unless something stands there. A code that has no row changes nothing.
-unfoldable pub enteredIn : List ℕ → List (List ℕ) → Attribute → List (List ℕ)
-enteredIn cs g t = let k = rowIn cs (t .code) in cond (eqb (getD (getD g k []) 0 0) 0) (set g k (t .at ∷ t .len ∷ [])) g
+-- One value more, by its code, place and length: it goes into the row of its code unless something stands there. A code that has no row changes nothing.
+unfoldable pub entered : List ℕ → List (List ℕ) → ℕ → ℕ → ℕ → List (List ℕ)
+entered cs g c at n = let k = rowIn cs c in cond (ltb k (length cs) && eqb (getD (getD g k []) 0 0) 0) (set g k (at ∷ n ∷ [])) g
 
-unfoldable pub filled : List (List ℕ) → List Attribute → List (List ℕ)
-filled g [] = g
-filled g (t ∷ ts) = filled (enteredIn gridCodes g t) ts
+-- All attributes of a list, one after the other.
+unfoldable pub filledIn : List ℕ → List (List ℕ) → List Attribute → List (List ℕ)
+filledIn cs g [] = g
+filledIn cs g (t ∷ ts) = filledIn cs (entered cs g (t .code) (t .at) (t .len)) ts
+
+abbrev pub filled : List (List ℕ) → List Attribute → List (List ℕ)
+filled g ts = filledIn gridCodes g ts
 
 -- The check that passes every element: faults by it are those of framing alone.
 unfoldable pub unchecked : ℕ → ℕ → List ℕ → Verdict

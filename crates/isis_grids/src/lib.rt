@@ -6,11 +6,11 @@ ghost use Rattle.linkstate.specs.Replies.{accepted, runA};
 ghost use Rattle.linkstate.specs.Lists.{each};
 ghost use Rattle.linkstate.specs.Bytes.{bytesAt};
 ghost use Rattle.linkstate.specs.Elements.{elements, faults};
-ghost use Rattle.linkstate.specs.Kinds.{codeOfType};
+ghost use Rattle.linkstate.specs.Kinds.{codeOfType, linkCodes};
 ghost use Rattle.kinds.specs.Rules.{gridCodes, rowIn};
 ghost use Rattle.linkstate.specs.Sides.{ofLive};
 ghost use Rattle.isis.specs.RunA.{attributesOf, checkA, sideA};
-ghost use Rattle.isis_grids.specs.Grid.{rowOf, gridOf, filled, unchecked};
+ghost use Rattle.isis_grids.specs.Grid.{rowOf, entered, filledIn, unchecked};
 ghost use Rattle.isis_grids.specs.Selected.{selects, unflagged, listFrom, listAt, Headed};
 use kinds::Kind;
 
@@ -42,34 +42,57 @@ pub fn type_of(k: usize) -> u8
     }
 }
 
-// A grid with the attributes of a list, whose first byte is at an offset of run A: each goes into the row of its kind unless something stands there.
-pub fn fill(g: [[usize; 2]; 10], s: &[u8], base: usize) -> [[usize; 2]; 10]
-    requires { ⌜ (base + length (now s) < 18446744073709551616) × (faults runA unchecked (elements 1 base (now s)) ≡ accepted) ⌝ }
-    ensures { λ r. ⌜ r ≡ filled g (each attributesOf (elements 1 base (now (s .entry)))) ⌝ }
+// A value more, of a type, with its place and length: it goes into the row of its kind unless something stands there.
+fn enter(g: &mut [[usize; 2]; 10], t: u8, place: usize, n: usize)
+    ensures { λ _. ⌜ now (g .exit) ≡ entered gridCodes (now (g .entry)) (codeOfType t) place n ⌝ }
 {
-    let mut h = g;
+    let k = row_of(t);
+    if k < 10 {
+        if g[k][0] == 0 {
+            let row = [place, n];
+            g[k] = row;
+        }
+    }
+}
+
+// The same for the rows of the link's bandwidths.
+fn enter_link(l: &mut [[usize; 2]; 3], t: u8, place: usize, n: usize)
+    ensures { λ _. ⌜ now (l .exit) ≡ entered linkCodes (now (l .entry)) (codeOfType t) place n ⌝ }
+{
+    if (9 <= t) & (t <= 11) {
+        let k = (t - 9) as usize;
+        if l[k][0] == 0 {
+            let row = [place, n];
+            l[k] = row;
+        }
+    }
+}
+
+// A grid filled with the attributes of a list, whose first byte is at an offset of run A.
+pub fn fill(g: &mut [[usize; 2]; 10], s: &[u8], base: usize)
+    requires { ⌜ (base + length (now s) < 18446744073709551616) × (faults runA unchecked (elements 1 base (now s)) ≡ accepted) ⌝ }
+    ensures { λ _. ⌜ now (g .exit) ≡ filledIn gridCodes (now (g .entry)) (each attributesOf (elements 1 base (now (s .entry)))) ⌝ }
+{
     let mut at = 0;
     while at < s.len() {
         let n = s[at + 1] as usize;
-        let k = row_of(s[at]);
-        if k < 10 {
-            if h[k][0] == 0 {
-                let row = [base + at + 2, n];
-                h[k] = row;
-            }
-        }
+        enter(g, s[at], base + at + 2, n);
         at = at + 2 + n;
     }
-    h
 }
 
-// The grid of run A's legacy attributes.
-pub fn legacy_grid(a: &[u8]) -> [[usize; 2]; 10]
+// A grid and the rows of the link's bandwidths, filled with run A's legacy attributes.
+pub fn fill_legacy(g: &mut [[usize; 2]; 10], l: &mut [[usize; 2]; 3], a: &[u8])
     requires { ⌜ faults runA checkA (elements 1 0 (now a)) ≡ accepted ⌝ }
-    ensures { λ r. ⌜ r ≡ gridOf ((sideA (now (a .entry))) .legacy) ⌝ }
+    ensures { λ _. ⌜ (now (g .exit) ≡ filledIn gridCodes (now (g .entry)) ((sideA (now (a .entry))) .legacy)) × (now (l .exit) ≡ filledIn linkCodes (now (l .entry)) ((sideA (now (a .entry))) .legacy)) ⌝ }
 {
-    let g = [[0usize; 2]; 10];
-    fill(g, a, 0)
+    let mut at = 0;
+    while at < a.len() {
+        let n = a[at + 1] as usize;
+        enter(g, a[at], at + 2, n);
+        enter_link(l, a[at], at + 2, n);
+        at = at + 2 + n;
+    }
 }
 
 // Which live ASLA sub-TLVs are read: those that name an application, the general ones, those whose only set bit is RSVP-TE's, or all without L.
@@ -131,28 +154,6 @@ fn list_at(a: &[u8], at: usize, which: Which) -> usize
     let n = a[at + 1] as usize;
     let v = at + 2;
     v + list_start(&a[v..v + n], which)
-}
-
-// The grid of the live ASLA sub-TLVs that are selected, together.
-pub fn live_grid(a: &[u8], which: Which) -> [[usize; 2]; 10]
-    requires { ⌜ faults runA checkA (elements 1 0 (now a)) ≡ accepted ⌝ }
-    ensures { λ r. ⌜ r ≡ gridOf (ofLive (selects which) (sideA (now (a .entry)))) ⌝ }
-{
-    let mut g = [[0usize; 2]; 10];
-    let mut at = 0;
-    while at < a.len() {
-        let n = a[at + 1] as usize;
-        let next = at + 2 + n;
-        if a[at] == 16 {
-            let from = list_at(a, at, which);
-            if from < next {
-                let h = fill(g, &a[from..next], from);
-                g = h;
-            }
-        }
-        at = next;
-    }
-    g
 }
 
 // The row of one kind, by its type, in a list whose first byte is at an offset of run A.

@@ -1,16 +1,18 @@
 -- The sets of applications, from an index of the run.
 use mathlib.Core.Path.{_≡_, refl, sym, ap, ap₂, _∙_, subst}
-use mathlib.Core.Bool.{Bool, true, false, cond}
-use mathlib.Core.List.{List}
+use mathlib.Core.Bool.{Bool, true, false, cond, _&&_, _||_, not}
+use mathlib.Core.List.{List, [], _∷_, map}
 use Prim.Native.Nat.{ℕ, _+_, _-_, _≤_, _<_}
 use native.Mathlib.Omega.{arith}
 use borrow.Author.Tests.{lt-ltb, le-ltb}
 use lib.ListN.{getD}
-use Rattle.linkstate.specs.Masks.{user, inNumber}
-use Rattle.linkstate.specs.Lists.{each}
+use Rattle.linkstate.specs.Masks.{user, others, inNumber}
+use Rattle.linkstate.specs.Lists.{any, keep, each}
 use Rattle.linkstate.specs.Replies.{accepted, runA}
 use Rattle.linkstate.specs.Elements.{elements, faults}
-use Rattle.linkstate.specs.Sides.{names, named, namedWithL, ofLive, generalSet, applicationSet}
+use Rattle.linkstate.specs.Sides.{Advertisement, bandwidthKind, rsvpTeAlone, names, named, namedWithL, ofLive, generalSet, applicationSet}
+use Rattle.linkstate.specs.Kinds.{linkCodes, codeOfType}
+use Rattle.kinds.proofs.Computing.{computing}
 use Rattle.isis.specs.RunA.{attributesOf, checkA, sideA}
 use Rattle.asla_bytes.specs.Applications.{inNumbers}
 use Rattle.isis_grids.specs.declared.Which.the-variants.{Naming}
@@ -19,13 +21,26 @@ use Rattle.isis_grids.specs.Grid.{rowOf, gridOf, filled}
 use Rattle.isis_grids.specs.Selected.{selects}
 use Rattle.isis_grids.proofs.Grids.{All, Placed, placed-each, filled-grid}
 use Rattle.isis_grids.proofs.Aslas.{placed-selected, live-all}
-use Rattle.isis_sets.specs.Sets.{rsvpTeGrid}
+use Rattle.isis_sets.specs.Sets.{rsvpTeGrid, selectedOrLegacy}
 use Rattle.isis_sets.proofs.Sets.{rsvp-te-legacy, rsvp-te-filled}
 use Rattle.isis_asla_index.specs.declared.Index.{Index}
 use Rattle.isis_asla_index.specs.Index.{tells, attributesAt, together, Indexed}
 use Rattle.isis_asla_index.proofs.Entries.{together-same}
 use Rattle.isis_index_sets.specs.Sets.{setBy, withWords, orElse}
 use Rattle.isis_index_sets.proofs.Rows.{or-grids}
+
+is-false : (b : Bool) → not b ≡ true → b ≡ false
+is-false true e = sym e
+is-false false e = refl
+
+none-alone : (ds : List Advertisement) → any (names 0) ds ≡ false → keep rsvpTeAlone ds ≡ []
+unfolding any keep rsvpTeAlone
+none-alone [] e = refl
+none-alone (d ∷ ds) e = go (names 0 d) e (none-alone ds)
+  where
+    go : (b : Bool) → b || any (names 0) ds ≡ false → (any (names 0) ds ≡ false → keep rsvpTeAlone ds ≡ []) → cond (b && not (any (λ n. names n d) others)) (d ∷ keep rsvpTeAlone ds) (keep rsvpTeAlone ds) ≡ []
+    go true f h = absurd (let z : _≡_ {A = ℕ} 0 1 = cc in omega arith)
+    go false f h = h f
 
 module _ (a : List ℕ) (lists : List (List ℕ)) (standard users : List ℕ) (index : Index) (is : Indexed a lists standard users index) where
   -- The entries that have an application's bit.
@@ -77,6 +92,16 @@ module _ (a : List ℕ) (lists : List (List ℕ)) (standard users : List ℕ) (i
   unfolding tells
   alone-row c r e = e ∙ ap (rowOf c) (is .answers W.RsvpTeAlone tt)
 
+  -- where nothing names RSVP-TE, nothing names it alone
+  pub legacy-unnamed : (f : Bool) → f ≡ inNumber (index .named .standard) 0 → not f ≡ true → (c : ℕ) (r : List ℕ) → r ≡ rowOf c ((sideA a) .legacy) → r ≡ rowOf c (selectedOrLegacy W.RsvpTeAlone (sideA a))
+  unfolding selectedOrLegacy selects ofLive named each
+  legacy-unnamed f told e c r h =
+      rw (none-alone ((sideA a) .live) (sym (is .named .standard 0 (omega arith)) ∙ sym told ∙ is-false f e)) (h ∙ go (namedWithL 0 (sideA a)))
+    where
+      go : (b : Bool) → rowOf c ((sideA a) .legacy) ≡ rowOf c (cond b ((sideA a) .legacy) ((sideA a) .legacy))
+      go true = refl
+      go false = refl
+
   module _ (f : Bool) (told : f ≡ inNumber (index .flagged .standard) 0) where
     pub rsvp-te-flag : (b : Bool) → f ≡ b → b ≡ namedWithL 0 (sideA a)
     rsvp-te-flag b e = sym e ∙ told ∙ is .flags .standard 0 (omega arith)
@@ -94,3 +119,20 @@ module _ (a : List ℕ) (lists : List (List ℕ)) (standard users : List ℕ) (i
           let is-g : g ≡ gridOf us = standard-grid 0 (omega arith) g h in
           rsvp-te-filled a ok (rsvp-te-flag false e) g r is-g
           (i ∙ ap₂ orElse is-g el ∙ or-grids us ts p ∙ sym (ap (λ (x : List (List ℕ)). filled x ts) is-g ∙ filled-grid us ts p (placed-each (elements 1 0 a))))
+
+-- ---- the rows of the link's bandwidths
+
+link-three : linkCodes ≡ codeOfType 9 ∷ codeOfType 10 ∷ codeOfType 11 ∷ []
+unfolding computing
+link-three = refl
+
+-- those of legacy, by their types
+pub link-rows : (h : ℕ → List ℕ) (rows : List (List ℕ)) → rows ≡ map h linkCodes → (getD rows 0 [] ≡ h (codeOfType 9)) × (getD rows 1 [] ≡ h (codeOfType 10)) × (getD rows 2 [] ≡ h (codeOfType 11))
+link-rows h rows e = let f = e ∙ ap (map h) link-three in (ap (λ (l : List (List ℕ)). getD l 0 []) f, ap (λ (l : List (List ℕ)). getD l 1 []) f, ap (λ (l : List (List ℕ)). getD l 2 []) f)
+
+link-codes : linkCodes ≡ 1089 ∷ 1090 ∷ 1091 ∷ []
+unfolding computing
+link-codes = refl
+
+pub three-rows : (h : ℕ → List ℕ) (x y z : List ℕ) → x ≡ h 1089 → y ≡ h 1090 → z ≡ h 1091 → x ∷ y ∷ z ∷ [] ≡ map h linkCodes
+three-rows h x y z e f g = rw (e, f, g) (sym (ap (map h) link-codes))

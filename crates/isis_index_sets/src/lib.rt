@@ -1,10 +1,11 @@
 // What applications get of run A, taken from the index of its ASLA sub-TLVs (document 01, "Who gets what").
 ghost use mathlib.Core.Path.{_≡_};
+ghost use mathlib.Core.List.{map};
 ghost use Prim.Native.Nat.{_<_, _≤_};
 ghost use lib.ListN.{length};
 ghost use Rattle.linkstate.specs.Replies.{accepted, runA};
 ghost use Rattle.linkstate.specs.Elements.{elements, faults};
-ghost use Rattle.linkstate.specs.Kinds.{codeOfType};
+ghost use Rattle.linkstate.specs.Kinds.{codeOfType, linkCodes};
 ghost use Rattle.linkstate.specs.Sides.{applicationSet, generalSet, bandwidthKind};
 ghost use Rattle.isis.specs.RunA.{checkA, sideA};
 ghost use Rattle.isis_grids.specs.declared.Which.the-variants.{RsvpTeAlone};
@@ -13,6 +14,7 @@ ghost use Rattle.isis_sets.specs.Sets.{rsvpTeGrid, selectedOrLegacy};
 ghost use Rattle.isis_asla_index.specs.Index.{Lists, Indexed};
 ghost use Rattle.isis_index_sets.specs.Sets.{setBy, withWords, orElse};
 use isis_asla_index::Index;
+use isis_grids::Which;
 
 // Legacy where the bit is among the flagged, of the entries that have it where it is among the named, else the general set.
 fn set_by(
@@ -101,8 +103,7 @@ fn grid_with(
         if (standard[j] == s) & (user[j] == u) {
             let from = lists[j][0] as usize;
             let to = lists[j][1] as usize;
-            let h = isis_grids::fill(g, &a[from..to], from);
-            g = h;
+            isis_grids::fill(&mut g, &a[from..to], from);
         }
     }
     g
@@ -183,7 +184,8 @@ fn row_with(
     row
 }
 
-// The row of a kind, by its type, in the ASLAs that name RSVP-TE alone, else legacy; legacy where RSVP-TE is named with L.
+// The row of a kind, by its type, in the ASLAs that name RSVP-TE alone, else that of legacy; that of legacy where nothing names RSVP-TE, or it
+// is named with L.
 fn reservable_row(
     a: &[u8],
     lists: &[[u16; 2]],
@@ -191,36 +193,55 @@ fn reservable_row(
     user: &[u64],
     index: Index,
     t: u8,
+    legacy: [usize; 2],
 ) -> [usize; 2]
-    requires { ⌜ (codeOfType t ≡ 0 → ⊥) × Indexed (now a) (now lists) (now standard) (now user) index × (faults runA checkA (elements 1 0 (now a)) ≡ accepted) ⌝ }
+    requires { ⌜ (codeOfType t ≡ 0 → ⊥) × Indexed (now a) (now lists) (now standard) (now user) index × (legacy ≡ rowOf (codeOfType t) ((sideA (now a)) .legacy)) ⌝ }
     ensures { λ r. ⌜ r ≡ rowOf (codeOfType t) (selectedOrLegacy RsvpTeAlone (sideA (now (a .entry)))) ⌝ }
 {
+    let named = index.named;
+    if !masks::has(named.standard, 0) {
+        return legacy;
+    }
     let flagged = index.flagged;
     if masks::has(flagged.standard, 0) {
-        return isis_grids::row_in(a, 0, t);
+        return legacy;
     }
     let row = row_with(a, lists, standard, user, index.count, 1, 0, t);
     if row[0] != 0 {
         return row;
     }
-    isis_grids::row_in(a, 0, t)
+    legacy
 }
 
-// The row of one of the link's bandwidths. Maximum link bandwidth may stand in an ASLA without an entry, so it is looked for in the run.
-pub fn bandwidth_row(
+// The row of maximum link bandwidth: that of legacy, else of any live ASLA without L. It may stand in an ASLA without an entry, so it is looked for in the run.
+fn maximum_row(a: &[u8], legacy: [usize; 2]) -> [usize; 2]
+    requires { ⌜ (legacy ≡ rowOf (codeOfType 9) ((sideA (now a)) .legacy)) × (faults runA checkA (elements 1 0 (now a)) ≡ accepted) ⌝ }
+    ensures { λ r. ⌜ r ≡ rowOf 1089 (bandwidthKind 1089 (sideA (now (a .entry)))) ⌝ }
+{
+    if legacy[0] != 0 {
+        return legacy;
+    }
+    isis_grids::live_row(a, Which::WithoutL, 9)
+}
+
+// The rows of the link's bandwidths, from those of legacy.
+pub fn bandwidth_rows(
     a: &[u8],
     lists: &[[u16; 2]],
     standard: &[u64],
     user: &[u64],
     index: Index,
-    code: usize,
-) -> [usize; 2]
-    requires { ⌜ (1089 ≤ code) × (code ≤ 1091) × Indexed (now a) (now lists) (now standard) (now user) index × (faults runA checkA (elements 1 0 (now a)) ≡ accepted) ⌝ }
-    ensures { λ r. ⌜ r ≡ rowOf code (bandwidthKind code (sideA (now (a .entry)))) ⌝ }
+    legacy: &[[usize; 2]; 3],
+) -> [[usize; 2]; 3]
+    requires { ⌜ Indexed (now a) (now lists) (now standard) (now user) index × (now legacy ≡ map (λ k. rowOf k ((sideA (now a)) .legacy)) linkCodes) × (faults runA checkA (elements 1 0 (now a)) ≡ accepted) ⌝ }
+    ensures { λ r. ⌜ r ≡ map (λ k. rowOf k (bandwidthKind k (sideA (now (a .entry))))) linkCodes ⌝ }
 {
-    match code {
-        1089 => isis_sets::bandwidth_row(a, 1089),
-        1090 => reservable_row(a, lists, standard, user, index, 10),
-        _ => reservable_row(a, lists, standard, user, index, 11),
-    }
+    let x = legacy[0];
+    let y = legacy[1];
+    let z = legacy[2];
+    let maximum = maximum_row(a, x);
+    let reservable = reservable_row(a, lists, standard, user, index, 10, y);
+    let unreserved = reservable_row(a, lists, standard, user, index, 11, z);
+    let rows = [maximum, reservable, unreserved];
+    rows
 }

@@ -24,6 +24,7 @@ use Rattle.isis.proofs.Computing.{computing}
 use Rattle.masks.proofs.Laws.{is-number}
 use Rattle.rivals.proofs.KindLaws.{standard-other, user-other}
 use Rattle.isis_srlgs.specs.Runs.{Passed}
+use Rattle.isis_srlgs.proofs.Subjects.{no-srlgs}
 
 module _ (a b c : List ℕ) (ok : linkVerdict a b c ≡ accepted) where
   sizes : (ltb 2048 (length a) || ltb 2048 (length b)) || ltb 1024 (length c) ≡ false
@@ -114,24 +115,8 @@ module _ (x y j s : ℕ) (p q : ℕ → Bool) where
       → (n : ℕ) → n < 64 → inNumber j n ≡ p n || q n
   user-in hx hy hj n h = hj n ∙ ap₂ (λ (u v : Bool). u || v) (hx n h) (hy n h)
 
--- Without runs B and C nobody gets an SRLG.
-no-set : (a : List ℕ) (whom : Subject) → srlgs (setOf (linkSource a [] []) whom 1096) ≡ []
-unfolding computing setOf
-no-set a generally = refl
-no-set a (standardNo n) = go (eqb n 0)
-  where
-    go : (z : Bool) → srlgs (cond z (rsvpTeKind 1096 (sideB [] [])) (applicationSet n (sideB [] []))) ≡ []
-    go true = refl
-    go false = refl
-no-set a (userNo n) = refl
-
-pub no-srlgs : (a b c : List ℕ) (whom : Subject) (list : List ℕ) → (eqb (length b) 0 && eqb (length c) 0) ≡ true
+-- Without runs B and C there is no SRLG to answer with.
+pub none-there : (a b c : List ℕ) (whom : Subject) (list : List ℕ) → (eqb (length b) 0 && eqb (length c) 0) ≡ true
     → record { reply = absent; list = list } ≡ srlgAnswer (srlgs (setOf (linkSource a b c) whom 1096)) list
 unfolding srlgAnswer unwritten empty
-no-srlgs a b c whom list e =
-    go b c (eqb-true (length b) 0 (and-l (eqb (length b) 0) (eqb (length c) 0) e)) (eqb-true (length c) 0 (and-r (eqb (length b) 0) (eqb (length c) 0) e))
-  where
-    go : (x y : List ℕ) → length x ≡ 0 → length y ≡ 0 → record { reply = absent; list = list } ≡ srlgAnswer (srlgs (setOf (linkSource a x y) whom 1096)) list
-    go [] [] h k = sym (ap (λ (ns : List ℕ). srlgAnswer ns list) (no-set a whom))
-    go [] (v ∷ y) h k = let z : ⊥ = omega arith in absurd z
-    go (v ∷ x) y h k = let z : ⊥ = omega arith in absurd z
+none-there a b c whom list e = sym (ap (λ (ns : List ℕ). srlgAnswer ns list) (no-srlgs a b c whom e))

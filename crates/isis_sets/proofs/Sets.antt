@@ -20,7 +20,7 @@ use Rattle.isis_grids.specs.declared.Which.{Which}
 use Rattle.isis_grids.specs.declared.Which.the-variants as W
 use Rattle.isis_grids.specs.Grid.{rowOf, gridOf, filled, wrongOfCode}
 use Rattle.isis_grids.specs.Selected.{selects}
-use Rattle.isis_grids.proofs.Grids.{All, Placed, placed-each, row-append, filled-grid}
+use Rattle.isis_grids.proofs.Grids.{All, Placed, placed-each, placed-legacy, row-append, filled-grid}
 use Rattle.isis_grids.proofs.Aslas.{placed-selected, live-all}
 use Rattle.isis_grids.proofs.Types.{all-at, row-known, bandwidth-code}
 use Rattle.isis_grids.proofs.Rows.{first-present, first-absent}
@@ -108,10 +108,6 @@ and-both false b e = absurd (let z : _≡_ {A = ℕ} 0 1 = cc in omega arith)
 
 placed-live : (w : Which) (a : List ℕ) → All Placed (ofLive (selects w) (sideA a))
 placed-live w a = subst (All Placed) (sym (live-all w a)) (placed-selected w (elements 1 0 a))
-
-placed-legacy : (a : List ℕ) → All Placed ((sideA a) .legacy)
-unfolding sideA
-placed-legacy a = placed-each (elements 1 0 a)
 
 module _ (a : List ℕ) (ok : faults runA checkA (elements 1 0 a) ≡ accepted) where
   pub rsvp-te-legacy : true ≡ namedWithL 0 (sideA a) → gridOf ((sideA a) .legacy) ≡ rsvpTeGrid (sideA a)

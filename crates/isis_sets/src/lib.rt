@@ -9,9 +9,9 @@ ghost use Rattle.linkstate.specs.Kinds.{codeOfType};
 ghost use Rattle.linkstate.specs.Sides.{names, named, namedWithL, applicationSet, generalSet, rsvpTeKind, bandwidthKind};
 ghost use Rattle.kinds.specs.Rules.{gridCodes};
 ghost use Rattle.isis.specs.RunA.{aslaAdvertisements, checkA, sideA};
-ghost use Rattle.isis_grids.specs.Grid.{rowOf, gridOf};
+ghost use Rattle.isis_grids.specs.Grid.{rowOf};
 ghost use Rattle.isis_grids.specs.Selected.{Headed};
-ghost use Rattle.isis_sets.specs.Sets.{namingBy, namingOf, strongerOf, rsvpTeGrid, selectedOrLegacy, Holds, HoldsSent};
+ghost use Rattle.isis_sets.specs.Sets.{namingBy, namingOf, strongerOf, selectedOrLegacy, Holds, HoldsSent};
 use isis_grids::Which;
 
 // How the live ASLA sub-TLVs name an application.
@@ -72,26 +72,6 @@ pub fn how_named(a: &[u8], application: u32) -> Naming
     found
 }
 
-// The set of an application other than RSVP-TE.
-pub fn application_grid(a: &[u8], application: u32) -> [[usize; 2]; 10]
-    requires { ⌜ faults runA checkA (elements 1 0 (now a)) ≡ accepted ⌝ }
-    ensures { λ r. ⌜ r ≡ gridOf (applicationSet application (sideA (now (a .entry)))) ⌝ }
-{
-    match how_named(a, application) {
-        Naming::WithL => isis_grids::legacy_grid(a),
-        Naming::Named => isis_grids::live_grid(a, Which::Naming(application)),
-        Naming::NotNamed => isis_grids::live_grid(a, Which::General),
-    }
-}
-
-// The general set.
-pub fn general_grid(a: &[u8]) -> [[usize; 2]; 10]
-    requires { ⌜ faults runA checkA (elements 1 0 (now a)) ≡ accepted ⌝ }
-    ensures { λ r. ⌜ r ≡ gridOf (generalSet (sideA (now (a .entry)))) ⌝ }
-{
-    isis_grids::live_grid(a, Which::General)
-}
-
 // Whether some live ASLA names RSVP-TE with L.
 fn rsvp_te_with_l(a: &[u8]) -> bool
     requires { ⌜ faults runA checkA (elements 1 0 (now a)) ≡ accepted ⌝ }
@@ -102,18 +82,6 @@ fn rsvp_te_with_l(a: &[u8]) -> bool
         Naming::Named => false,
         Naming::WithL => true,
     }
-}
-
-// The set of RSVP-TE: kind by kind of the ASLAs that name it, otherwise legacy.
-pub fn rsvp_te_grid(a: &[u8]) -> [[usize; 2]; 10]
-    requires { ⌜ faults runA checkA (elements 1 0 (now a)) ≡ accepted ⌝ }
-    ensures { λ r. ⌜ r ≡ rsvpTeGrid (sideA (now (a .entry))) ⌝ }
-{
-    if rsvp_te_with_l(a) {
-        return isis_grids::legacy_grid(a);
-    }
-    let g = isis_grids::live_grid(a, Which::Naming(0));
-    isis_grids::fill(g, a, 0)
 }
 
 // The row of a kind, by its type, in the ASLAs that are selected, else legacy; legacy where RSVP-TE is named with L.

@@ -270,6 +270,11 @@ module _ (b c values : List ℕ) (g : Gathered) (ok : Passed b c) (so : Values b
         entries = es;
       }
 
+-- Where there is no number, no entry has to say anything.
+pub no-entries : (values : List ℕ) (bits members : List (List ℕ)) (all : ℕ → ℕ → Bool) → length values ≤ 0 → Entries values bits members 0 (λ n i. false) all
+no-entries values bits members all z =
+    record { inBits = omega arith; inMembers = omega arith; within = λ j h. absurd (omega arith); told = λ n i h k l. absurd (omega arith) }
+
 -- ---- an application's bits
 
 srlgs-is : (ts : List Attribute) → distinct (srlgWords ts) ≡ srlgs ts

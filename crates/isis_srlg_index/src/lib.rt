@@ -114,7 +114,7 @@ fn add_legacy(
     members[0] = row;
 }
 
-// The index of runs B and C over the ascending list of their numbers; how many entries it has.
+// The index of runs B and C over the ascending list of their numbers; how many entries it has, none where there is no number.
 pub fn index_srlgs(
     b: &[u8],
     c: &[u8],
@@ -126,6 +126,9 @@ pub fn index_srlgs(
     requires { ⌜ Passed (now b) (now c) × Values (now b) (now c) g (now values) × (length (now b) + 16 ≤ 16 * length (now bits)) × (length (now b) + 16 ≤ 16 * length (now members)) ⌝ }
     ensures { λ r. ⌜ Indexed (now (b .entry)) (now (c .entry)) (now (values .entry)) (now (bits .exit)) (now (members .exit)) r ⌝ }
 {
+    if values.len() == 0 {
+        return 0;
+    }
     add_legacy(
         isis_srlg_values::legacy_used(g.legacy.standard, g.legacy.user, c),
         values,

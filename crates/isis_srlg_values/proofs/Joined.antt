@@ -187,6 +187,11 @@ module _ (b c : List ℕ) (g : Gathered) (list list₁ legacy : List ℕ) (so : 
           few = omega (arith, so .place, so .few);
         }
 
+-- Of no number nothing is left.
+pub none-sorted : (l : List ℕ) (k : ℕ) → k ≡ 0 → [] ≡ distinct (take (k - 0) l)
+unfolding distinct
+none-sorted l k e = rw e
+
 -- As the part of a list that is lent.
 pub values-part : (b c : List ℕ) (r : Gathered) (l : List ℕ) → Values b c r (take (r .count) l) → Values b c r (take (r .count - 0) l)
 values-part b c r l so = rw sub-zero so

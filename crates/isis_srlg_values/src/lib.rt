@@ -171,9 +171,16 @@ pub fn sort_values(
         list,
         g.count,
     );
-    let count = srlg_sort::sort_distinct(&list[0..k], values, tmp);
     let named = g.named;
     let legacy = g.legacy;
+    if k == 0 {
+        return Gathered {
+            count: 0,
+            named,
+            legacy,
+        };
+    }
+    let count = srlg_sort::sort_distinct(&list[0..k], values, tmp);
     Gathered {
         count,
         named,

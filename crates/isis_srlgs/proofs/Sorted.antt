@@ -30,10 +30,10 @@ pub ascending-stays : (out : List ℕ) (k : ℕ) → ascending (take (k - 0) out
 ascending-stays out k e = sym (distinct-ascending (take k out) (rw sub-zero at e))
 
 -- What stands at the front.
-module _ (before after : List ℕ) (k : ℕ) (ts : List Attribute) (f : Fronts before after k (srlgWords ts)) (room : 512 ≤ length before) where
+module _ (before after : List ℕ) (k : ℕ) (ts : List Attribute) (f : Fronts before after k (srlgWords ts)) where
   pub fronted : take k after ≡ srlgWords ts
   fronted =
-      ap (take k) (f .list) ∙ ap (λ (i : ℕ). take i (put before 0 (srlgWords ts))) (f .count) ∙ front-is before (srlgWords ts) (omega (arith, f .count, f .few))
+      ap (take k) (f .list) ∙ ap (λ (i : ℕ). take i (put before 0 (srlgWords ts))) (f .count) ∙ front-is before (srlgWords ts) (omega (arith, f .count, f .room))
 
   pub sorted-front : (l : List ℕ) → l ≡ distinct (take k after) → l ≡ srlgs ts
   unfolding srlgs srlgWords

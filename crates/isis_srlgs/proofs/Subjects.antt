@@ -4,8 +4,8 @@ use mathlib.Core.Bool.{Bool, true, false, cond, _&&_, _||_}
 use mathlib.Core.List.{List, [], _∷_}
 use Prim.Native.Nat.{ℕ, _+_, _/_, _≤_, _<_}
 use native.Mathlib.Omega.{arith}
-use borrow.Author.Tests.{eq-eqb, ne-eqb, ltb-false}
-use lib.Dec.{ltb}
+use borrow.Author.Tests.{eqb-true, eq-eqb, ne-eqb, ltb-false}
+use lib.Dec.{eqb, ltb}
 use lib.ListN.{length}
 use Rattle.linkstate.specs.Lists.{any, keep, each, empty, put}
 use Rattle.linkstate.specs.Bytes.{words, insert, distinct, bytesOfWords}
@@ -13,6 +13,9 @@ use Rattle.linkstate.specs.Attributes.{Attribute, ofKind, srlgs, valueOf}
 use Rattle.linkstate.specs.Sides.{Side, names, named, namedWithL, ofLive, generalSet, applicationSet, rsvpTeKind}
 use Rattle.linkstate.specs.Masks.{user}
 use Rattle.linkstate.specs.Questions.{setOf, numberTooHigh}
+use Rattle.linkstate.specs.Questions as Q
+use Rattle.linkstate.proofs.ListLaws.{and-l, and-r}
+use Rattle.isis.proofs.Computing.{computing}
 use Rattle.octets.proofs.Laws.{put-nil}
 use Rattle.srlg.proofs.Laws.{length-words, length-bytesOfWords}
 use Rattle.replies.specs.declared.Subject.{Subject}
@@ -29,23 +32,23 @@ use Rattle.isis_srlgs.specs.Runs.{Fronts}
 -- ---- what a call has written
 
 module _ (before after : List ℕ) (r : ℕ) (ws : List ℕ) (e : (r ≡ 0 + length ws) × (after ≡ put before 0 ws)) where
-  fronts : (n : ℕ) → r ≤ 0 + n / 4 → n ≤ 2048 → Fronts before after r ws
-  fronts n h l = record { count = omega (arith, e .0); list = e .1; few = omega arith }
+  fronts : (n : ℕ) → r ≤ 0 + n / 4 → n ≤ 2048 → n / 4 ≤ length before → Fronts before after r ws
+  fronts n h l m = record { count = omega (arith, e .0); list = e .1; few = omega arith; room = omega arith }
 
 -- of a set that is the one asked for
 module _ (before after : List ℕ) (r : ℕ) (ts us : List Attribute) (same : us ≡ ts) where
-  pub collected : (n : ℕ) → (r ≡ 0 + length (srlgWords ts)) × (after ≡ put before 0 (srlgWords ts)) → r ≤ 0 + n / 4 → n ≤ 2048 → Fronts before after r (srlgWords us)
-  collected n e h l = rw same (fronts before after r (srlgWords ts) e n h l)
+  pub collected : (n : ℕ) → (r ≡ 0 + length (srlgWords ts)) × (after ≡ put before 0 (srlgWords ts)) → r ≤ 0 + n / 4 → n ≤ 2048 → n / 4 ≤ length before → Fronts before after r (srlgWords us)
+  collected n e h l m = rw same (fronts before after r (srlgWords ts) e n h l m)
 
 pub legacy-words : (b c : List ℕ) → srlgWords (sideB b c .legacy) ≡ words c
 unfolding sideB
 legacy-words b c = words-one 0 c
 
 module _ (b c before after : List ℕ) (r : ℕ) (us : List Attribute) (same : us ≡ sideB b c .legacy) where
-  pub from-legacy : (r ≡ 0 + length (words c)) × (after ≡ put before 0 (words c)) → length c ≤ 1024 → Fronts before after r (srlgWords us)
-  from-legacy e l =
+  pub from-legacy : (r ≡ 0 + length (words c)) × (after ≡ put before 0 (words c)) → length c ≤ 1024 → length c / 4 ≤ length before → Fronts before after r (srlgWords us)
+  from-legacy e l m =
       subst (λ (ws : List ℕ). Fronts before after r ws) (sym (ap srlgWords same ∙ legacy-words b c))
-      (fronts before after r (words c) e (length c) (omega (arith, length-words c, e .0)) (omega arith))
+      (fronts before after r (words c) e (length c) (omega (arith, length-words c, e .0)) (omega arith) m)
 
 -- ---- what a way of naming says
 
@@ -196,3 +199,25 @@ fronts-same before after r ts us e h = rw e h
 -- Nothing was written, then something.
 pub nothing-then : (d e f ws vs : List ℕ) (k : ℕ) → k ≤ 0 → k ≡ 0 + length ws → e ≡ put d 0 ws → f ≡ put e 0 vs → f ≡ put d 0 vs
 nothing-then d e f ws vs k z n p q = q ∙ ap (λ (l : List ℕ). put l 0 vs) (p ∙ ap (put d 0) (no-words ws (omega arith)) ∙ sym (put-nil d 0))
+
+-- ---- no runs
+
+no-set : (a : List ℕ) (whom : Q.Subject) → srlgs (setOf (linkSource a [] []) whom 1096) ≡ []
+unfolding computing setOf
+no-set a Q.generally = refl
+no-set a (Q.standardNo n) = go (eqb n 0)
+  where
+    go : (z : Bool) → srlgs (cond z (rsvpTeKind 1096 (sideB [] [])) (applicationSet n (sideB [] []))) ≡ []
+    go true = refl
+    go false = refl
+no-set a (Q.userNo n) = refl
+
+-- Without runs B and C nobody gets an SRLG.
+pub no-srlgs : (a b c : List ℕ) (whom : Q.Subject) → (eqb (length b) 0 && eqb (length c) 0) ≡ true → srlgs (setOf (linkSource a b c) whom 1096) ≡ []
+no-srlgs a b c whom e =
+    go b c (eqb-true (length b) 0 (and-l (eqb (length b) 0) (eqb (length c) 0) e)) (eqb-true (length c) 0 (and-r (eqb (length b) 0) (eqb (length c) 0) e))
+  where
+    go : (x y : List ℕ) → length x ≡ 0 → length y ≡ 0 → srlgs (setOf (linkSource a x y) whom 1096) ≡ []
+    go [] [] h k = no-set a whom
+    go [] (v ∷ y) h k = let z : ⊥ = omega arith in absurd z
+    go (v ∷ x) y h k = let z : ⊥ = omega arith in absurd z

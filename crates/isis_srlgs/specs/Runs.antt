@@ -19,3 +19,4 @@ pub record Fronts (before after : List ℕ) (r : ℕ) (numbers : List ℕ) : Typ
   pub count : r ≡ length numbers
   pub list : after ≡ put before 0 numbers
   pub few : r ≤ 512
+  pub room : r ≤ length before

@@ -2,7 +2,7 @@
 ghost use mathlib.Core.Path.{_≡_};
 ghost use mathlib.Core.Bool.{false};
 ghost use mathlib.Core.List.{List};
-ghost use Prim.Native.Nat.{ℕ, _≤_};
+ghost use Prim.Native.Nat.{ℕ, _/_, _≤_};
 ghost use lib.ListN.{length, take};
 ghost use Rattle.linkstate.specs.Bytes.{distinct};
 ghost use Rattle.linkstate.specs.Attributes.{srlgs};
@@ -19,7 +19,7 @@ use replies::Subject;
 
 // The numbers of the general TLVs 238, in byte order, at the front of the list; how many there are.
 pub fn general_words(b: &[u8], c: &[u8], out: &mut [u32]) -> usize
-    requires { ⌜ Passed (now b) (now c) × (512 ≤ length (now out)) ⌝ }
+    requires { ⌜ Passed (now b) (now c) × (length (now b) / 4 ≤ length (now out)) × (length (now c) / 4 ≤ length (now out)) ⌝ }
     ensures { λ r. ⌜ Fronts (now (out .entry)) (now (out .exit)) r (srlgWords (generalSet (sideB (now (b .entry)) (now (c .entry))))) ⌝ }
 {
     isis_tlvs_238::collect(b, Which::General, out, 0)
@@ -27,7 +27,7 @@ pub fn general_words(b: &[u8], c: &[u8], out: &mut [u32]) -> usize
 
 // Those of application n, which is not RSVP-TE: legacy if it is named with L, else of the TLVs that name it, else the general ones.
 pub fn application_words(b: &[u8], c: &[u8], n: u32, out: &mut [u32]) -> usize
-    requires { ⌜ Passed (now b) (now c) × (512 ≤ length (now out)) ⌝ }
+    requires { ⌜ Passed (now b) (now c) × (length (now b) / 4 ≤ length (now out)) × (length (now c) / 4 ≤ length (now out)) ⌝ }
     ensures { λ r. ⌜ Fronts (now (out .entry)) (now (out .exit)) r (srlgWords (applicationSet n (sideB (now (b .entry)) (now (c .entry))))) ⌝ }
 {
     match isis_tlvs_238::how_named(b, n) {
@@ -39,7 +39,7 @@ pub fn application_words(b: &[u8], c: &[u8], n: u32, out: &mut [u32]) -> usize
 
 // Those of RSVP-TE: legacy if it is named with L; else of the TLVs that name it, and legacy where those carry none.
 pub fn rsvp_te_words(b: &[u8], c: &[u8], out: &mut [u32]) -> usize
-    requires { ⌜ Passed (now b) (now c) × (512 ≤ length (now out)) ⌝ }
+    requires { ⌜ Passed (now b) (now c) × (length (now b) / 4 ≤ length (now out)) × (length (now c) / 4 ≤ length (now out)) ⌝ }
     ensures { λ r. ⌜ Fronts (now (out .entry)) (now (out .exit)) r (srlgWords (rsvpTeKind 1096 (sideB (now (b .entry)) (now (c .entry))))) ⌝ }
 {
     match isis_tlvs_238::how_named(b, 0) {
@@ -57,7 +57,7 @@ pub fn rsvp_te_words(b: &[u8], c: &[u8], out: &mut [u32]) -> usize
 
 // Those of a subject.
 fn words_of(b: &[u8], c: &[u8], whom: Subject, out: &mut [u32]) -> usize
-    requires { ⌜ Passed (now b) (now c) × (512 ≤ length (now out)) × (numberTooHigh (subjectOf whom) ≡ false) ⌝ }
+    requires { ⌜ Passed (now b) (now c) × (length (now b) / 4 ≤ length (now out)) × (length (now c) / 4 ≤ length (now out)) × (numberTooHigh (subjectOf whom) ≡ false) ⌝ }
     ensures { λ r. ⌜ ((a : List ℕ) → Fronts (now (out .entry)) (now (out .exit)) r (srlgWords (setOf (linkSource a (now (b .entry)) (now (c .entry))) (subjectOf whom) 1096))) ⌝ }
 {
     match whom {
@@ -114,11 +114,15 @@ fn sort_front(out: &mut [u32], k: usize) -> usize
     sort_many(out, k)
 }
 
-// The SRLGs of a subject, ascending, at the front of the list; how many there are. What stands behind them is of no meaning.
+// The SRLGs of a subject, ascending, at the front of the list; how many there are. What stands behind them is of no meaning. A link without TLVs 238 and
+// legacy values has none.
 pub fn srlgs_of(b: &[u8], c: &[u8], whom: Subject, out: &mut [u32]) -> usize
-    requires { ⌜ Passed (now b) (now c) × (512 ≤ length (now out)) × (numberTooHigh (subjectOf whom) ≡ false) ⌝ }
-    ensures { λ r. ⌜ ((a : List ℕ) → take r (now (out .exit)) ≡ srlgs (setOf (linkSource a (now (b .entry)) (now (c .entry))) (subjectOf whom) 1096)) × (r ≤ 512) ⌝ }
+    requires { ⌜ Passed (now b) (now c) × (length (now b) / 4 ≤ length (now out)) × (length (now c) / 4 ≤ length (now out)) × (numberTooHigh (subjectOf whom) ≡ false) ⌝ }
+    ensures { λ r. ⌜ ((a : List ℕ) → take r (now (out .exit)) ≡ srlgs (setOf (linkSource a (now (b .entry)) (now (c .entry))) (subjectOf whom) 1096)) × (r ≤ 512) × (r ≤ length (now (out .entry))) ⌝ }
 {
+    if (b.len() == 0) & (c.len() == 0) {
+        return 0;
+    }
     let k = words_of(b, c, whom, out);
     sort_front(out, k)
 }

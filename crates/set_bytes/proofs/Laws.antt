@@ -1,24 +1,21 @@
 -- Laws of the TLVs of a set, whatever the set is, and of the values that rows stand for. Assumes nothing.
 use Prim.Native.Nat.{ℕ, zero, suc, _+_, _-_, _*_, _≤_, _<_}
-use mathlib.Core.Path.{_≡_, refl, sym, _∙_, ap}
+use mathlib.Core.Path.{_≡_, refl, sym, _∙_, ap, ap₂}
 use mathlib.Core.Bool.{Bool, true, false, cond, _&&_}
 use mathlib.Core.List.{List, [], _∷_, _++_, append-assoc, append-nil, map}
 use lib.Dec.{eqb}
-use lib.ListN.{length, take, drop, getD, replicate, length-append}
-use lib.Seq.{take-add, drop-cons, drop-drop}
+use lib.ListN.{length, take, drop, getD, length-append, take-append-drop}
 use native.Mathlib.Omega.{arith}
 use borrow.Author.Tests.{eqb-false, eq-eqb, ne-eqb}
 use Rattle.linkstate.specs.Lists.{all, each, empty, put}
 use Rattle.linkstate.specs.Bytes.{two, bytesAt, bytesOfWords}
-use Rattle.linkstate.specs.Kinds.{codes, linkCodes, applicationCodes, isLinkCode}
+use Rattle.linkstate.specs.Kinds.{linkCodes, applicationCodes}
 use Rattle.linkstate.specs.Meaning.{Meaning, row}
 use Rattle.linkstate.specs.Export.{tlv, bytesOf, present, topValue}
-use Rattle.kinds.specs.Rules.{gridCodes, rowIn}
 use Rattle.kinds.proofs.Computing.{computing}
 use Rattle.octets.proofs.Laws.{length-bytesAt, put-nil, put-then}
 use Rattle.srlg.proofs.Laws.{length-bytesOfWords}
-use Rattle.set_bytes.specs.Sets.{inTlvs, front, rowValue, setOf, bandwidthOf, topOf, lowCodes, highCodes, RowFits, Fits, Short, rowRead, rowFor, codesFrom}
-use Rattle.set_bytes.proofs.Codes.{other-code, code-srlg}
+use Rattle.set_bytes.specs.Sets.{inTlvs, front, rowValue, rowTlv, setOf, bandwidthOf, topOf, lowCodes, highCodes, extendedCodes, middleCodes, RowFits, rowRead}
 use Rattle.set_bytes.specs.declared.Row.the-variants.{Present, Absent}
 
 -- ---- the TLVs of a set
@@ -65,29 +62,19 @@ tlvs-same f h (k ∷ ks) e =
     go true e = e
     go false e = ap (λ (l : List ℕ). bytesOf (tlv k (h k)) ++ l) e
 
--- ---- the kinds from one place to another
-
-pub codes-none : (from : ℕ) → codesFrom from from ≡ []
-unfolding codesFrom
-codes-none from = let e : from - from ≡ 0 = omega arith in rw e
-
-pub codes-add : (from i to : ℕ) → from ≤ i → i ≤ to → codesFrom from to ≡ codesFrom from i ++ codesFrom i to
-unfolding codesFrom
-codes-add from i to h l =
-    let e : to - from ≡ (i - from) + (to - i) = omega arith in
-    let f : from + (i - from) ≡ i = omega arith in
-    ap (λ (n : ℕ). take n (drop from codes)) e ∙ take-add (i - from) (to - i) (drop from codes)
-    ∙ ap (λ (k : List ℕ). take (i - from) (drop from codes) ++ take (to - i) k) (drop-drop (i - from) from codes ∙ ap (λ (n : ℕ). drop n codes) f)
-
-fourteen : length codes ≡ 14
-unfolding computing
-fourteen = refl
-
-pub codes-one : (i : ℕ) → i < 14 → codesFrom i (i + 1) ≡ getD codes i 0 ∷ []
-unfolding codesFrom
-codes-one i h =
-    let e : i + 1 - i ≡ 1 = omega arith in
-    rw (e, drop-cons codes i 0 (omega (arith, fourteen)))
+-- Seven numbers in turn: what holds of each holds of every number from `from` on, up to the seventh.
+seven : (P : ℕ → Type 0) (from : ℕ) → P from → P (1 + from) → P (2 + from) → P (3 + from) → P (4 + from) → P (5 + from) → P (6 + from) → (i : ℕ) → from ≤ i → i < 7 + from → P i
+seven P from a b c d e f g i l m = let s : i - from + from ≡ i = omega arith in rw s at (go (i - from) (omega arith))
+  where
+    go : (j : ℕ) → j < 7 → P (j + from)
+    go zero k = let z : 0 + from ≡ from = omega arith in rw z a
+    go (suc zero) k = b
+    go (suc (suc zero)) k = c
+    go (suc (suc (suc zero))) k = d
+    go (suc (suc (suc (suc zero)))) k = e
+    go (suc (suc (suc (suc (suc zero))))) k = f
+    go (suc (suc (suc (suc (suc (suc zero)))))) k = g
+    go (suc (suc (suc (suc (suc (suc (suc j))))))) k = absurd (omega arith)
 
 -- ---- rows
 
@@ -134,124 +121,79 @@ front-none c e = rw (ne-eqb c 1092 e)
 pub length-value : (a : List ℕ) (c p n : ℕ) → p + n ≤ length a → length (front c ++ bytesAt a p n) ≡ length (front c) + n
 length-value a c p n h = length-append (front c) (bytesAt a p n) ∙ ap (λ (k : ℕ). length (front c) + k) (length-bytesAt a p n h)
 
--- ---- what stands at the top of a run
+-- The TLV of a row that is absent, and of one that is not.
+module _ (a : List ℕ) (k : ℕ) (r : List ℕ) where
+  pub row-none : rowRead r ≡ Absent → rowTlv a k r ≡ []
+  row-none e = tlv-absent (λ c. rowValue a c r) k (value-absent r a k e)
 
--- What holds of every row of the link and of a grid holds of the row of a code.
-pub every-row : (P : List ℕ → Type 0) (l g : List (List ℕ)) → ((k : ℕ) → P (getD l k [])) → ((k : ℕ) → P (getD g k [])) → (c : ℕ) → P (rowFor l g c)
-unfolding rowFor
-every-row P l g p q c = go (isLinkCode c)
-  where
-    go : (b : Bool) → P (cond b (getD l (rowIn linkCodes c) []) (getD g (rowIn gridCodes c) []))
-    go true = p (rowIn linkCodes c)
-    go false = q (rowIn gridCodes c)
+  module _ (p n : ℕ) (e : rowRead r ≡ Present p n) (fits : RowFits a r) where
+    pub row-some : rowTlv a k r ≡ bytesOf (tlv k (front k ++ bytesAt a p n))
+    row-some =
+        let f = row-present r a p n e fits in
+        tlv-present (λ c. rowValue a c r) k (front k ++ bytesAt a p n) (value-present r a k p n e) (omega (arith, f, length-value a k p n (f .0)))
 
-module _ (a : List ℕ) (l g : List (List ℕ)) where
-  pub fits-for : Fits a l → Fits a g → (c : ℕ) → RowFits a (rowFor l g c)
-  fits-for = every-row (RowFits a) l g
+    pub row-length : length (rowTlv a k r) ≡ 4 + (length (front k) + n)
+    row-length =
+        ap length row-some ∙ length-tlv k (front k ++ bytesAt a p n) ∙ ap (λ (j : ℕ). 4 + j) (length-value a k p n (row-present r a p n e fits .0))
 
-  module _ (ns : List ℕ) where
-    pub top-row : (c : ℕ) → eqb c 1096 ≡ false → topOf a l g ns c ≡ rowValue a c (rowFor l g c)
-    unfolding topOf bandwidthOf setOf rowFor
-    top-row c e = rw e (go (isLinkCode c))
-      where
-        go : (b : Bool) → cond b (rowValue a c (getD l (rowIn linkCodes c) [])) (rowValue a c (getD g (rowIn gridCodes c) [])) ≡ rowValue a c (cond b (getD l (rowIn linkCodes c) []) (getD g (rowIn gridCodes c) []))
-        go true = refl
-        go false = refl
+    pub row-room : (d : List ℕ) (at : ℕ) → at + length (rowTlv a k r) ≤ length d → (p + n ≤ length a) × (n ≤ 252) × (at + (4 + (length (front k) + n)) ≤ length d)
+    row-room d at room = let f = row-present r a p n e fits in (f .0, f .1, omega (arith, row-length))
 
-    top-srlgs : topOf a l g ns 1096 ≡ bytesOfWords ns
-    unfolding computing topOf setOf
-    top-srlgs = refl
+    pub row-written : (d : List ℕ) (at : ℕ) {q : ℕ} {o : List ℕ} → (q ≡ at + (4 + (length (front k) + n))) × (o ≡ put d at (bytesOf (tlv k (front k ++ bytesAt a p n)))) → (q ≡ at + length (rowTlv a k r)) × (o ≡ put d at (rowTlv a k r))
+    row-written d at w = (omega (arith, row-length, w .0), w .1 ∙ ap (put d at) (sym row-some))
 
-    -- The TLV of the kind at a place: none, that of a row, or that of the SRLGs.
-    module _ (i : ℕ) where
-      abbrev here : List ℕ
-      here = inTlvs (topOf a l g ns) (codesFrom i (i + 1))
+-- ---- bytes written at a place
 
-      pub here-absent : i < 14 → (i ≡ 5 → ⊥) → rowRead (rowFor l g (getD codes i 0)) ≡ Absent → here ≡ []
-      here-absent h m e =
-          let k = getD codes i 0 in
-          rw (codes-one i h) (tlv-absent (topOf a l g ns) k (top-row k (other-code i h m) ∙ value-absent (rowFor l g k) a k e))
+-- The same bytes, told otherwise: what a write of them asks, and what it leaves.
+module _ {vs ws : List ℕ} (e : vs ≡ ws) (d : List ℕ) (at : ℕ) where
+  pub same-room : at + length ws ≤ length d → at + length vs ≤ length d
+  same-room h = omega (arith, ap length e)
 
-      module _ (k p n : ℕ) (code : k ≡ getD codes i 0) (h : i < 14) (m : i ≡ 5 → ⊥) (e : rowRead (rowFor l g (getD codes i 0)) ≡ Present p n) (s : Fits a l) (t : Fits a g) where
-        pub here-fits : (p + n ≤ length a) × (n ≤ 252) × (0 < n)
-        here-fits = row-present (rowFor l g (getD codes i 0)) a p n e (fits-for s t (getD codes i 0))
+  pub same-write : {r : ℕ} {o : List ℕ} → (r ≡ at + length vs) × (o ≡ put d at vs) → (r ≡ at + length ws) × (o ≡ put d at ws)
+  same-write w = (w .0 ∙ ap (λ (k : List ℕ). at + length k) e, w .1 ∙ ap (put d at) e)
 
-        pub here-present : here ≡ bytesOf (tlv k (front k ++ bytesAt a p n))
-        here-present =
-            rw (codes-one i h, sym code)
-            (tlv-present (topOf a l g ns) k (front k ++ bytesAt a p n)
-            (rw (sym code) at (top-row (getD codes i 0) (other-code i h m) ∙ value-present (rowFor l g (getD codes i 0)) a (getD codes i 0) p n e))
-            (omega (arith, here-fits, length-value a k p n (here-fits .0))))
+-- Nothing is written where there are no bytes.
+pub no-write : {vs : List ℕ} (d : List ℕ) (at : ℕ) → vs ≡ [] → (at ≡ at + length vs) × (d ≡ put d at vs)
+no-write d at e = same-write (sym e) d at (omega arith, put-nil d at)
 
-        pub here-size : length here ≡ 4 + (length (front k) + n)
-        here-size = ap length here-present ∙ length-tlv k (front k ++ bytesAt a p n) ∙ ap (λ (j : ℕ). 4 + j) (length-value a k p n (here-fits .0))
+-- What is written behind bytes that stand there already.
+module _ (d : List ℕ) (at : ℕ) (x y : List ℕ) (room : at + length (x ++ y) ≤ length d) {o : List ℕ} {r : ℕ} (kept : length o ≡ length d) (w : (r ≡ at + length x) × (o ≡ put d at x)) where
+  pub behind-room : r + length y ≤ length o
+  behind-room = omega (arith, length-append x y, w .0)
 
-      pub here-srlgs : i ≡ 5 → here ≡ inTlvs (λ _. bytesOfWords ns) (1096 ∷ [])
-      unfolding each present
-      here-srlgs e = rw (codes-one i (omega arith), sym (code-srlg i e), top-srlgs)
+  pub behind-write : {t : ℕ} {e : List ℕ} → (t ≡ r + length y) × (e ≡ put o r y) → (t ≡ at + length (x ++ y)) × (e ≡ put d at (x ++ y))
+  behind-write {t} {e} v = (omega (arith, length-append x y, w .0, v .0), put-then d o e at x r y (w .1) (v .1) (w .0) (omega (arith, behind-room)))
 
--- ---- one kind after another
+-- Three pieces, written one after another.
+pub record Three (vs x y z : List ℕ) : Type 0 where
+  pub are : vs ≡ x ++ y ++ z
 
-module _ (f : ℕ → List ℕ) (from i : ℕ) (h : from ≤ i) where
-  pub tlvs-next : inTlvs f (codesFrom from (i + 1)) ≡ inTlvs f (codesFrom from i) ++ inTlvs f (codesFrom i (i + 1))
-  tlvs-next = ap (inTlvs f) (codes-add from i (i + 1) h (omega arith)) ∙ tlvs-append f (codesFrom from i) (codesFrom i (i + 1))
+pub length-three : {vs x y z : List ℕ} → Three vs x y z → length vs ≡ length x + length y + length z
+length-three {vs} {x} {y} {z} t = omega (arith, ap length (t .are), length-append (x ++ y) z, length-append x y)
 
-  pub length-next : length (inTlvs f (codesFrom from (i + 1))) ≡ length (inTlvs f (codesFrom from i)) + length (inTlvs f (codesFrom i (i + 1)))
-  length-next = ap length tlvs-next ∙ length-append (inTlvs f (codesFrom from i)) (inTlvs f (codesFrom i (i + 1)))
+module _ (d : List ℕ) (at : ℕ) {vs x y z : List ℕ} (is : Three vs x y z) (room : at + length vs ≤ length d) where
+  pub first-room : at + length x ≤ length d
+  first-room = omega (arith, length-three is)
 
--- The kinds from `from` on are written one after another, from the place `at` of the buffer d on: those before i are.
-module _ (f : ℕ → List ℕ) (from to : ℕ) (d : List ℕ) (at : ℕ) where
-  abbrev pub Written : List ℕ → ℕ → ℕ → Type 0
-  Written out next i = (from ≤ i) × (i ≤ to) × (length out ≡ length d) × (next ≡ at + length (inTlvs f (codesFrom from i))) × (out ≡ put d at (inTlvs f (codesFrom from i)))
+  module _ {o : List ℕ} {r : ℕ} (kept : length o ≡ length d) (w : (r ≡ at + length x) × (o ≡ put d at x)) where
+    two-room : at + length (x ++ y) ≤ length d
+    two-room = omega (arith, length-three is, length-append x y)
 
-  pub written-start : from ≤ to → Written d at from
-  written-start h =
-      let e = ap (inTlvs f) (codes-none from) ∙ tlvs-none f in
-      (omega arith, h, refl, omega (arith, ap length e), put-nil d at ∙ ap (put d at) (sym e))
+    pub second-room : r + length y ≤ length o
+    second-room = behind-room d at x y two-room kept w
 
-  module _ (out : List ℕ) (next i : ℕ) (w : Written out next i) where
-    pub written-all : to ≤ i → (next ≡ at + length (inTlvs f (codesFrom from to))) × (out ≡ put d at (inTlvs f (codesFrom from to)))
-    written-all h = let e : i ≡ to = omega arith in (w .3 ∙ ap (λ (k : ℕ). at + length (inTlvs f (codesFrom from k))) e, w .4 ∙ ap (λ (k : ℕ). put d at (inTlvs f (codesFrom from k))) e)
+    module _ {p : List ℕ} {q : ℕ} (still : length p ≡ length o) (v : (q ≡ r + length y) × (p ≡ put o r y)) where
+      both : (q ≡ at + length (x ++ y)) × (p ≡ put d at (x ++ y))
+      both = behind-write d at x y two-room kept w v
 
-    -- The TLV of the kind at i, if it has one.
-    module _ (l : i < to) (vs : List ℕ) (is : inTlvs f (codesFrom i (i + 1)) ≡ vs) where
-      whole : inTlvs f (codesFrom from i) ++ vs ≡ inTlvs f (codesFrom from (i + 1))
-      whole = ap (λ (k : List ℕ). inTlvs f (codesFrom from i) ++ k) (sym is) ∙ sym (tlvs-next f from i (w .0))
+      three-room : at + length (x ++ y ++ z) ≤ length d
+      three-room = omega (arith, ap length (is .are))
 
-      longer : length (inTlvs f (codesFrom from (i + 1))) ≡ length (inTlvs f (codesFrom from i)) + length vs
-      longer = length-next f from i (w .0) ∙ ap (λ (k : List ℕ). length (inTlvs f (codesFrom from i)) + length k) is
+      pub third-room : q + length z ≤ length p
+      third-room = behind-room d at (x ++ y) z three-room (still ∙ kept) both
 
-      pub written-room : at + length (inTlvs f (codesFrom from to)) ≤ length d → next + length vs ≤ length out
-      written-room room =
-          let e = ap (inTlvs f) (codes-add from (i + 1) to (omega arith) (omega arith)) ∙ tlvs-append f (codesFrom from (i + 1)) (codesFrom (i + 1) to) in
-          omega (arith, ap length e, length-append (inTlvs f (codesFrom from (i + 1))) (inTlvs f (codesFrom (i + 1) to)), longer)
-
-      pub written-next : (o : List ℕ) (r : ℕ) → at + length (inTlvs f (codesFrom from to)) ≤ length d → length o ≡ length out → r ≡ next + length vs → o ≡ put out next vs → Written o r (i + 1)
-      written-next o r room k p q =
-          let h = written-room room in
-          (omega arith, omega arith, k ∙ w .2, omega (arith, longer), put-then d out o at (inTlvs f (codesFrom from i)) next vs (w .4) q (w .3) (omega arith) ∙ ap (put d at) whole)
-
-    pub written-none : i < to → inTlvs f (codesFrom i (i + 1)) ≡ [] → Written out next (i + 1)
-    written-none l is =
-        (omega arith, omega arith, w .2, omega (arith, longer l [] is), w .4 ∙ ap (put d at) (sym (append-nil _) ∙ whole l [] is))
-
--- The TLV of the row at i, in the same way.
-module _ (a : List ℕ) (l g : List (List ℕ)) (ns : List ℕ) (from to : ℕ) (d : List ℕ) (at : ℕ) (out : List ℕ) (next i : ℕ) (w : Written (topOf a l g ns) from to d at out next i) (k p n : ℕ) (code : k ≡ getD codes i 0)
-    (h : i < to) (most : to ≤ 14) (m : i ≡ 5 → ⊥) (e : rowRead (rowFor l g (getD codes i 0)) ≡ Present p n) (s : Fits a l) (t : Fits a g) (room : at + length (inTlvs (topOf a l g ns) (codesFrom from to)) ≤ length d) where
-  is : inTlvs (topOf a l g ns) (codesFrom i (i + 1)) ≡ bytesOf (tlv k (front k ++ bytesAt a p n))
-  is = here-present a l g ns i k p n code (omega arith) m e s t
-
-  size : length (bytesOf (tlv k (front k ++ bytesAt a p n))) ≡ 4 + (length (front k) + n)
-  size = ap length (sym is) ∙ here-size a l g ns i k p n code (omega arith) m e s t
-
-  pub row-room : (p + n ≤ length a) × (n ≤ 252) × (next + (4 + (length (front k) + n)) ≤ length out)
-  row-room =
-      let f = here-fits a l g ns i k p n code (omega arith) m e s t in
-      (f .0, f .1, omega (arith, size, written-room (topOf a l g ns) from to d at out next i w h _ is room))
-
-  pub row-next : (o : List ℕ) (r : ℕ) → length o ≡ length out → r ≡ next + (4 + (length (front k) + n)) → o ≡ put out next (bytesOf (tlv k (front k ++ bytesAt a p n)))
-      → Written (topOf a l g ns) from to d at o r (i + 1)
-  row-next o r x y z = written-next (topOf a l g ns) from to d at out next i w h _ is o r room x (omega (arith, size)) z
+      pub three-write : {t : ℕ} {e : List ℕ} → (t ≡ q + length z) × (e ≡ put p q z) → (t ≡ at + length vs) × (e ≡ put d at vs)
+      three-write u = same-write (sym (is .are)) d at (behind-write d at (x ++ y) z three-room (still ∙ kept) both u)
 
 -- ---- the TLV of SRLGs
 
@@ -294,56 +236,99 @@ put-row d e f o a at t n k p m x y z r s w h le =
     let l = length-value a t p m w in
     put-tlv d e o at t n (front t ++ bytesAt a p m) x (put-then e f o (at + 4) (front t) k (bytesAt a p m) y z s (omega (arith, length-bytesAt a p m w))) (r ∙ sym l) (omega arith)
 
--- ---- sets
+-- ---- sets, piece by piece
 
--- The rows of no link.
-abbrev pub noRows : List (List ℕ)
-noRows = replicate 3 (0 ∷ 0 ∷ [])
+in-three : (f : ℕ → List ℕ) (ks is js : List ℕ) → inTlvs f (ks ++ is ++ js) ≡ inTlvs f ks ++ inTlvs f is ++ inTlvs f js
+in-three f ks is js = tlvs-append f (ks ++ is) js ∙ ap (λ (v : List ℕ). v ++ inTlvs f js) (tlvs-append f ks is)
 
-absent-fits : (a r : List ℕ) → getD r 0 0 ≡ 0 → getD r 1 0 ≡ 0 → RowFits a r
-absent-fits a r e f = record { within = omega arith; short = omega arith; some = λ z. absurd (z e) }
+module _ (a : List ℕ) (g : List (List ℕ)) where
+  -- The kinds from 1114 on, one after another.
+  module _ (k : ℕ) (h : k < 7) where
+    one-more : take (k + 1) extendedCodes ≡ take k extendedCodes ++ ((1114 + k) ∷ [])
+    one-more = seven (λ (i : ℕ). take (i + 1) extendedCodes ≡ take i extendedCodes ++ ((1114 + i) ∷ [])) 0 refl refl refl refl refl refl refl k (omega arith) (omega arith)
 
-pub none-fit : (a : List ℕ) → Fits a noRows
-none-fit a zero = absent-fits a (0 ∷ 0 ∷ []) refl refl
-none-fit a (suc zero) = absent-fits a (0 ∷ 0 ∷ []) refl refl
-none-fit a (suc (suc zero)) = absent-fits a (0 ∷ 0 ∷ []) refl refl
-none-fit a (suc (suc (suc k))) = absent-fits a [] refl refl
+    extended-is : inTlvs (setOf a g []) ((1114 + k) ∷ []) ≡ rowTlv a (1114 + k) (getD g (2 + k) [])
+    unfolding computing setOf
+    extended-is = seven (λ (i : ℕ). inTlvs (setOf a g []) ((1114 + i) ∷ []) ≡ rowTlv a (1114 + i) (getD g (2 + i) [])) 0 refl refl refl refl refl refl refl k (omega arith) (omega arith)
 
-pub none-short : Short noRows
-none-short k = none-fit [] k .short
+    abbrev before : List ℕ
+    before = inTlvs (setOf a g []) (take k extendedCodes)
 
--- An application's set is what stands at the top of a run with no bandwidths.
-pub set-is : (a : List ℕ) (g : List (List ℕ)) (ns : List ℕ) → inTlvs (topOf a noRows g ns) (codesFrom 0 14) ≡ inTlvs (setOf a g ns) applicationCodes
-unfolding computing topOf setOf bandwidthOf rowValue codesFrom
-set-is a g ns = refl
+    abbrev here : List ℕ
+    here = rowTlv a (1114 + k) (getD g (2 + k) [])
 
-low : codesFrom 0 13 ≡ lowCodes
-unfolding computing codesFrom
-low = refl
+    pub extended-next : before ++ here ≡ inTlvs (setOf a g []) (take (k + 1) extendedCodes)
+    extended-next = sym (ap (inTlvs (setOf a g [])) one-more ∙ tlvs-append (setOf a g []) (take k extendedCodes) ((1114 + k) ∷ []) ∙ ap (λ (v : List ℕ). before ++ v) extended-is)
 
-high : codesFrom 13 14 ≡ highCodes
-unfolding computing codesFrom
-high = refl
+    -- They are written from a place of the buffer d on, up to this one.
+    module _ (fits : RowFits a (getD g (2 + k) [])) (d : List ℕ) (at : ℕ) (room : at + length (inTlvs (setOf a g []) extendedCodes) ≤ length d)
+        {o : List ℕ} {r : ℕ} (kept : length o ≡ length d) (w : (r ≡ at + length before) × (o ≡ put d at before)) where
+      abbrev Next : ℕ → List ℕ → Type 0
+      Next t e = (t ≡ at + length (inTlvs (setOf a g []) (take (k + 1) extendedCodes))) × (e ≡ put d at (inTlvs (setOf a g []) (take (k + 1) extendedCodes)))
 
-module _ (f : ℕ → List ℕ) where
-  pub low-is : inTlvs f (codesFrom 0 13) ≡ inTlvs f lowCodes
-  low-is = ap (inTlvs f) low
+      room-here : at + length (before ++ here) ≤ length d
+      room-here =
+          let later = inTlvs (setOf a g []) (drop (k + 1) extendedCodes) in
+          let e = ap (inTlvs (setOf a g [])) (sym (take-append-drop (k + 1) extendedCodes)) ∙ tlvs-append (setOf a g []) (take (k + 1) extendedCodes) (drop (k + 1) extendedCodes) in
+          omega (arith, ap length extended-next, ap length e, length-append (inTlvs (setOf a g []) (take (k + 1) extendedCodes)) later)
 
-  pub high-is : inTlvs f (codesFrom 13 14) ≡ inTlvs f highCodes
-  high-is = ap (inTlvs f) high
+      next-with : {t : ℕ} {e : List ℕ} → (t ≡ r + length here) × (e ≡ put o r here) → Next t e
+      next-with v = same-write extended-next d at (behind-write d at before here room-here kept w v)
 
-  pub both-are : length (inTlvs f (codesFrom 0 14)) ≡ length (inTlvs f lowCodes) + length (inTlvs f highCodes)
-  both-are =
-      let e = ap (inTlvs f) (codes-add 0 13 14 (omega arith) (omega arith)) ∙ tlvs-append f (codesFrom 0 13) (codesFrom 13 14) in
-      omega (arith, ap length e, length-append (inTlvs f (codesFrom 0 13)) (inTlvs f (codesFrom 13 14)), ap length low-is, ap length high-is)
+      pub next-none : rowRead (getD g (2 + k) []) ≡ Absent → Next r o
+      next-none e = next-with (no-write o r (row-none a (1114 + k) (getD g (2 + k) []) e))
 
--- The same bytes, told otherwise: what a write of them asks, and what it leaves.
-module _ (vs ws : List ℕ) (e : vs ≡ ws) (d : List ℕ) (at : ℕ) where
-  pub same-room : at + length ws ≤ length d → at + length vs ≤ length d
-  same-room h = omega (arith, ap length e)
+      module _ (p n : ℕ) (e : rowRead (getD g (2 + k) []) ≡ Present p n) where
+        pub next-room : (p + n ≤ length a) × (n ≤ 252) × (r + (4 + (length (front (1114 + k)) + n)) ≤ length o)
+        next-room = row-room a (1114 + k) (getD g (2 + k) []) p n e fits o r (behind-room d at before here room-here kept w)
 
-  pub same-write : (r : ℕ) (o : List ℕ) → (r ≡ at + length vs) × (o ≡ put d at vs) → (r ≡ at + length ws) × (o ≡ put d at ws)
-  same-write r o w = (omega (arith, ap length e), w .1 ∙ ap (put d at) e)
+        pub next-some : {t : ℕ} {x : List ℕ} → (t ≡ r + (4 + (length (front (1114 + k)) + n))) × (x ≡ put o r (bytesOf (tlv (1114 + k) (front (1114 + k) ++ bytesAt a p n)))) → Next t x
+        next-some v = next-with (row-written a (1114 + k) (getD g (2 + k) []) p n e fits o r v)
+
+  module _ (ns : List ℕ) where
+    abbrev set : ℕ → List ℕ
+    set = setOf a g ns
+
+    extended-are : map set extendedCodes ≡ map (setOf a g []) extendedCodes
+    unfolding computing setOf
+    extended-are = refl
+
+    pub middle-is : Three (inTlvs set middleCodes) (rowTlv a 1092 (getD g 1 [])) (srlgTlv ns) (inTlvs (setOf a g []) extendedCodes)
+    unfolding computing setOf
+    middle-is = record { are = in-three set (1092 ∷ []) (1096 ∷ []) extendedCodes ∙ ap (λ (v : List ℕ). rowTlv a 1092 (getD g 1 []) ++ srlgTlv ns ++ v) (tlvs-same set (setOf a g []) extendedCodes extended-are) }
+
+    pub set-is : Three (inTlvs set applicationCodes) (rowTlv a 1088 (getD g 0 [])) (inTlvs set middleCodes) (rowTlv a 1173 (getD g 9 []))
+    unfolding computing setOf
+    set-is = record { are = in-three set (1088 ∷ []) middleCodes (1173 ∷ []) }
+
+    -- What stands at the top of a run.
+    module _ (l : List (List ℕ)) where
+      abbrev top : ℕ → List ℕ
+      top = topOf a l g ns
+
+      bandwidths-same : map top linkCodes ≡ map (bandwidthOf a l) linkCodes
+      unfolding computing topOf
+      bandwidths-same = refl
+
+      middle-same : map top middleCodes ≡ map set middleCodes
+      unfolding computing topOf
+      middle-same = refl
+
+      pub low-is : Three (inTlvs top lowCodes) (rowTlv a 1088 (getD g 0 [])) (inTlvs (bandwidthOf a l) linkCodes) (inTlvs set middleCodes)
+      unfolding computing topOf setOf
+      low-is = record {
+        are =
+            in-three top (1088 ∷ []) linkCodes middleCodes
+            ∙ ap₂ (λ (v w : List ℕ). rowTlv a 1088 (getD g 0 []) ++ v ++ w) (tlvs-same top (bandwidthOf a l) linkCodes bandwidths-same) (tlvs-same top set middleCodes middle-same);
+      }
+
+      pub high-is : inTlvs top highCodes ≡ rowTlv a 1173 (getD g 9 [])
+      unfolding computing topOf setOf
+      high-is = refl
+
+pub bandwidths-are : (a : List ℕ) (l : List (List ℕ)) → Three (inTlvs (bandwidthOf a l) linkCodes) (rowTlv a 1089 (getD l 0 [])) (rowTlv a 1090 (getD l 1 [])) (rowTlv a 1091 (getD l 2 []))
+unfolding computing bandwidthOf
+bandwidths-are a l = record { are = in-three (bandwidthOf a l) (1089 ∷ []) (1090 ∷ []) (1091 ∷ []) }
 
 -- A set is empty where it has no TLV.
 pub empty-is : (f : ℕ → List ℕ) (ks : List ℕ) → eqb (length (inTlvs f ks)) 0 ≡ all empty (map f ks)

@@ -1,4 +1,3 @@
 -- Laws that the crates above share, and those of this crate's own functions.
 pub mod Laws
-mod Codes
-mod Sized
+pub mod Sized

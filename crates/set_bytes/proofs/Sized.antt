@@ -1,18 +1,17 @@
 -- How many bytes the TLVs of all kinds have, row by row. Assumes nothing.
-use Prim.Native.Nat.{ℕ, zero, suc, _+_, _-_, _≤_, _<_}
+use Prim.Native.Nat.{ℕ, zero, suc, _+_, _*_, _≤_}
 use mathlib.Core.Path.{_≡_, refl, sym, _∙_, ap}
 use mathlib.Core.Bool.{Bool, true, false, cond}
 use mathlib.Core.List.{List, [], _∷_, _++_}
 use lib.Dec.{eqb}
-use lib.ListN.{length, getD}
+use lib.ListN.{length, getD, take, length-append}
 use native.Mathlib.Numerals.{add-one}
 use native.Mathlib.Omega.{arith}
 use borrow.Author.Tests.{eqb-false, eq-eqb, ne-eqb}
-use Rattle.linkstate.specs.Bytes.{bytesAt, bytesOfWords}
-use Rattle.linkstate.specs.Kinds.{codes}
-use Rattle.set_bytes.specs.Sets.{inTlvs, front, rowValue, topOf, RowFits, Fits, rowSize, rowsSize, frontSize, rowFor, codesFrom}
-use Rattle.set_bytes.proofs.Codes.{other-code, plain-code, metric-code, row-first, row-link, row-metric, row-grid}
-use Rattle.set_bytes.proofs.Laws.{tlvs-none, tlv-absent, tlv-present, length-tlv, length-value, codes-one, codes-none, length-next, top-row, here-srlgs}
+use Rattle.linkstate.specs.Bytes.{bytesAt}
+use Rattle.linkstate.specs.Kinds.{linkCodes, applicationCodes}
+use Rattle.set_bytes.specs.Sets.{inTlvs, front, rowValue, rowTlv, setOf, bandwidthOf, topOf, lowCodes, highCodes, extendedCodes, middleCodes, RowFits, Fits, rowSize, rowsSize, frontSize}
+use Rattle.set_bytes.proofs.Laws.{tlvs-none, tlv-absent, tlv-present, length-tlv, length-value, length-three, front-none, srlgTlv, srlgs-none, length-srlgs, extended-next, middle-is, set-is, low-is, high-is, bandwidths-are}
 
 pub rows-next : (g : List (List ℕ)) (k s r : ℕ) → s ≡ rowsSize g k → r ≡ rowSize (getD g k []) → s + r ≡ rowsSize g (k + 1)
 unfolding rowsSize
@@ -45,89 +44,107 @@ pub three-sum : (l : List (List ℕ)) (x y z : ℕ) → x ≡ rowSize (getD l 0 
 unfolding rowsSize
 three-sum l x y z e f h = omega arith
 
-module _ (a : List ℕ) (l g : List (List ℕ)) (ns : List ℕ) (i : ℕ) (h : i < 14) (other : i ≡ 5 → ⊥) (r : List ℕ) (is : r ≡ rowFor l g (getD codes i 0)) (fits : RowFits a r) where
-  abbrev k : ℕ
-  k = getD codes i 0
-
-  abbrev here : List ℕ
-  here = inTlvs (topOf a l g ns) (codesFrom i (i + 1))
-
-  value : topOf a l g ns k ≡ rowValue a k r
-  value = top-row a l g ns k (other-code i h other) ∙ ap (rowValue a k) (sym is)
-
-  size-at : length here ≡ rowSize r + cond (eqb (getD r 0 0) 0) 0 (length (front k))
+module _ (a : List ℕ) (k : ℕ) (r : List ℕ) (fits : RowFits a r) where
+  size-of : length (rowTlv a k r) ≡ rowSize r + cond (eqb (getD r 0 0) 0) 0 (length (front k))
   unfolding rowSize rowValue
-  size-at = go (eqb (getD r 0 0) 0) refl value
+  size-of = go (eqb (getD r 0 0) 0) refl refl
     where
-      go : (b : Bool) → eqb (getD r 0 0) 0 ≡ b → topOf a l g ns k ≡ cond b [] (front k ++ bytesAt a (getD r 0 0) (getD r 1 0)) → length here ≡ cond b 0 (4 + getD r 1 0) + cond b 0 (length (front k))
-      go true t e = ap (λ (ks : List ℕ). length (inTlvs (topOf a l g ns) ks)) (codes-one i h) ∙ ap length (tlv-absent (topOf a l g ns) k e)
+      go : (b : Bool) → eqb (getD r 0 0) 0 ≡ b → rowValue a k r ≡ cond b [] (front k ++ bytesAt a (getD r 0 0) (getD r 1 0)) → length (rowTlv a k r) ≡ cond b 0 (4 + getD r 1 0) + cond b 0 (length (front k))
+      go true t e = ap length (tlv-absent (λ c. rowValue a c r) k e)
       go false t e =
           let n = fits .some (eqb-false (getD r 0 0) 0 t) in
-          let w = fits .within in
-          let v = length-value a k (getD r 0 0) (getD r 1 0) w in
-          ap (λ (ks : List ℕ). length (inTlvs (topOf a l g ns) ks)) (codes-one i h)
-          ∙ ap length (tlv-present (topOf a l g ns) k (front k ++ bytesAt a (getD r 0 0) (getD r 1 0)) e (omega arith))
+          let v = length-value a k (getD r 0 0) (getD r 1 0) (fits .within) in
+          ap length (tlv-present (λ c. rowValue a c r) k (front k ++ bytesAt a (getD r 0 0) (getD r 1 0)) e (omega arith))
           ∙ length-tlv k (front k ++ bytesAt a (getD r 0 0) (getD r 1 0))
           ∙ omega arith
 
-  plain-at : (i ≡ 4 → ⊥) → length here ≡ rowSize r
-  unfolding front
-  plain-at n = size-at ∙ rw (plain-code i h n) (go (eqb (getD r 0 0) 0))
+  pub plain-size : (k ≡ 1092 → ⊥) → length (rowTlv a k r) ≡ rowSize r
+  plain-size n = size-of ∙ rw (front-none k n) (go (eqb (getD r 0 0) 0))
     where
       go : (b : Bool) → rowSize r + cond b 0 0 ≡ rowSize r
       go true = omega arith
       go false = omega arith
 
-module _ (a : List ℕ) (l g : List (List ℕ)) (ns : List ℕ) (s : Fits a l) (t : Fits a g) where
-  abbrev f : ℕ → List ℕ
-  f = topOf a l g ns
+metric-size : (a : List ℕ) (g : List (List ℕ)) → RowFits a (getD g 1 []) → length (rowTlv a 1092 (getD g 1 [])) ≡ rowSize (getD g 1 []) + frontSize g
+unfolding frontSize front
+metric-size a g fits = size-of a 1092 (getD g 1 []) fits
 
-  abbrev upTo : ℕ → ℕ
-  upTo i = length (inTlvs f (codesFrom 0 i))
+module _ (a : List ℕ) (l : List (List ℕ)) (s : Fits a l) where
+  bandwidths-size : length (inTlvs (bandwidthOf a l) linkCodes) ≡ rowsSize l 3
+  bandwidths-size =
+      length-three (bandwidths-are a l)
+      ∙ three-sum l _ _ _ (plain-size a 1089 (getD l 0 []) (s 0) (λ z. omega arith)) (plain-size a 1090 (getD l 1 []) (s 1) (λ z. omega arith)) (plain-size a 1091 (getD l 2 []) (s 2) (λ z. omega arith))
 
-  metric-at : length (inTlvs f (codesFrom 4 5)) ≡ rowSize (getD g 1 []) + frontSize g
-  unfolding front frontSize
-  metric-at = size-at a l g ns 4 (omega arith) (λ z. omega arith) (getD g 1 []) (row-metric l g 4 refl) (t 1) ∙ rw metric-code
-
-  none-yet : upTo 0 ≡ 0
-  none-yet = ap length (ap (inTlvs f) (codes-none 0) ∙ tlvs-none f)
-
-  link-at : (i : ℕ) → 0 < i → i < 4 → length (inTlvs f (codesFrom i (i + 1))) ≡ rowSize (getD l (i - 1) [])
-  link-at i h m = plain-at a l g ns i (omega arith) (λ z. omega arith) (getD l (i - 1) []) (row-link l g i h m) (s (i - 1)) (λ z. omega arith)
-
-  grid-at : (i : ℕ) → 6 ≤ i → i < 14 → length (inTlvs f (codesFrom i (i + 1))) ≡ rowSize (getD g (i - 4) [])
-  grid-at i h m = plain-at a l g ns i m (λ z. omega arith) (getD g (i - 4) []) (row-grid l g i h m) (t (i - 4)) (λ z. omega arith)
-
-  -- From the seventh kind on, all are rows of the grid.
-  rest : (n : ℕ) → n ≤ 8 → upTo (6 + n) + rowsSize g 2 ≡ upTo 6 + rowsSize g (2 + n)
-  rest zero h = refl
-  rest (suc n) h =
-      let e : 6 + suc n ≡ 6 + n + 1 = omega arith in
-      let d : 2 + suc n ≡ 2 + n + 1 = omega arith in
-      let c : 6 + n - 4 ≡ 2 + n = omega arith in
-      let one : length (inTlvs f (codesFrom (6 + n) (6 + n + 1))) ≡ rowSize (getD g (2 + n) []) = grid-at (6 + n) (omega arith) (omega arith) ∙ ap (λ (j : ℕ). rowSize (getD g j [])) c in
-      rw (e, d) (omega (arith, rest n (omega arith), length-next f 0 (6 + n) (omega arith), rows-next g (2 + n) (rowsSize g (2 + n)) (rowSize (getD g (2 + n) [])) refl refl))
+module _ (a : List ℕ) (g : List (List ℕ)) (t : Fits a g) where
+  -- From the third row on, kind by kind.
+  extended-size : (k : ℕ) → k ≤ 7 → rowsSize g 2 + length (inTlvs (setOf a g []) (take k extendedCodes)) ≡ rowsSize g (2 + k)
+  extended-size zero h = omega (arith, ap length (tlvs-none (setOf a g [])))
+  extended-size (suc k) h =
+      let e : suc k ≡ k + 1 = omega arith in
+      let d : 2 + suc k ≡ 2 + k + 1 = omega arith in
+      let tlv = rowTlv a (1114 + k) (getD g (2 + k) []) in
+      omega (
+        arith,
+        ap (rowsSize g) d,
+        ap (λ (j : ℕ). length (inTlvs (setOf a g []) (take j extendedCodes))) e,
+        extended-size k (omega arith),
+        ap length (extended-next a g k (omega arith)),
+        length-append (inTlvs (setOf a g []) (take k extendedCodes)) tlv,
+        plain-size a (1114 + k) (getD g (2 + k) []) (t (2 + k)) (λ z. omega arith),
+        rows-next g (2 + k) (rowsSize g (2 + k)) (rowSize (getD g (2 + k) [])) refl refl,
+      )
 
   two-rows : rowsSize g 2 ≡ rowSize (getD g 0 []) + rowSize (getD g 1 [])
   unfolding rowsSize
   two-rows = omega arith
 
-  three-rows : rowsSize l 3 ≡ rowSize (getD l 0 []) + rowSize (getD l 1 []) + rowSize (getD l 2 [])
-  unfolding rowsSize
-  three-rows = omega arith
+  module _ (ns : List ℕ) where
+    middle-size : rowSize (getD g 0 []) + length (inTlvs (setOf a g ns) middleCodes) ≡ rowsSize g 9 + frontSize g + length (srlgTlv ns)
+    middle-size = omega (arith, length-three (middle-is a g ns), extended-size 7 (omega arith), two-rows, metric-size a g (t 1))
 
-  pub all-kinds : upTo 14 ≡ rowsSize l 3 + rowsSize g 10 + frontSize g + length (inTlvs (λ _. bytesOfWords ns) (1096 ∷ []))
-  all-kinds =
-      let h0 = plain-at a l g ns 0 (omega arith) (λ z. omega arith) (getD g 0 []) (row-first l g 0 refl) (t 0) (λ z. omega arith) in
-      let h1 = link-at 1 (omega arith) (omega arith) in
-      let h2 = link-at 2 (omega arith) (omega arith) in
-      let h3 = link-at 3 (omega arith) (omega arith) in
-      let h4 = metric-at in
-      let h5 = ap length (here-srlgs a l g ns 5 refl) in
-      let n0 = length-next f 0 0 (omega arith) in
-      let n1 = length-next f 0 1 (omega arith) in
-      let n2 = length-next f 0 2 (omega arith) in
-      let n3 = length-next f 0 3 (omega arith) in
-      let n4 = length-next f 0 4 (omega arith) in
-      let n5 = length-next f 0 5 (omega arith) in
-      omega (arith, none-yet, rest 8 (omega arith), two-rows, three-rows)
+    rows-are : rowSize (getD g 0 []) + length (inTlvs (setOf a g ns) middleCodes) + rowSize (getD g 9 []) ≡ rowsSize g 10 + frontSize g + length (srlgTlv ns)
+    rows-are = omega (arith, middle-size, rows-next g 9 (rowsSize g 9) (rowSize (getD g 9 [])) refl refl)
+
+    first-size : length (rowTlv a 1088 (getD g 0 [])) ≡ rowSize (getD g 0 [])
+    first-size = plain-size a 1088 (getD g 0 []) (t 0) (λ z. omega arith)
+
+    last-size : length (rowTlv a 1173 (getD g 9 [])) ≡ rowSize (getD g 9 [])
+    last-size = plain-size a 1173 (getD g 9 []) (t 9) (λ z. omega arith)
+
+    -- An application's set, and what stands at the top of a run.
+    pub set-kinds : length (inTlvs (setOf a g ns) applicationCodes) ≡ rowsSize g 10 + frontSize g + length (srlgTlv ns)
+    set-kinds = omega (arith, length-three (set-is a g ns), first-size, last-size, rows-are)
+
+    pub top-kinds : (l : List (List ℕ)) → Fits a l
+        → length (inTlvs (topOf a l g ns) lowCodes) + length (inTlvs (topOf a l g ns) highCodes) ≡ rowsSize l 3 + (rowsSize g 10 + frontSize g + length (srlgTlv ns))
+    top-kinds l s = omega (arith, length-three (low-is a g ns l), ap length (high-is a g ns l), bandwidths-size a l s, first-size, last-size, rows-are)
+
+-- ---- a set is small
+
+row-small : (a r : List ℕ) → RowFits a r → rowSize r ≤ 256
+unfolding rowSize
+row-small a r fits = go (eqb (getD r 0 0) 0)
+  where
+    go : (b : Bool) → cond b 0 (4 + getD r 1 0) ≤ 256
+    go true = omega arith
+    go false = omega (arith, fits .short)
+
+rows-small : (a : List ℕ) (g : List (List ℕ)) → Fits a g → (k : ℕ) → rowsSize g k ≤ 256 * k
+unfolding rowsSize
+rows-small a g fits zero = omega arith
+rows-small a g fits (suc k) = omega (arith, rows-small a g fits k, row-small a (getD g k []) (fits k))
+
+front-small : (g : List (List ℕ)) → frontSize g ≤ 1
+unfolding frontSize
+front-small g = go (eqb (getD (getD g 1 []) 0 0) 0)
+  where
+    go : (b : Bool) → cond b 0 1 ≤ 1
+    go true = omega arith
+    go false = omega arith
+
+srlgs-small : (ns : List ℕ) → length (srlgTlv ns) ≤ 4 + 4 * length ns
+srlgs-small [] = omega (arith, ap length (srlgs-none [] refl))
+srlgs-small (n ∷ ns) = omega (arith, length-srlgs (n ∷ ns) (omega arith))
+
+pub set-small : (a : List ℕ) (g : List (List ℕ)) (ns : List ℕ) → Fits a g → length ns ≤ 512 → length (inTlvs (setOf a g ns) applicationCodes) ≤ 4613
+set-small a g ns fits h = omega (arith, set-kinds a g fits ns, rows-small a g fits 10, front-small g, srlgs-small ns)

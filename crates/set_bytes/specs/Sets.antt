@@ -1,10 +1,10 @@
 -- The sets that grids over run A and lists of SRLGs stand for, as BGP-LS value bytes (rules K1, K2, W7).
 use mathlib.Core.Bool.{cond}
 use mathlib.Core.List.{List, [], _∷_, _++_}
-use Prim.Native.Nat.{ℕ, zero, suc, _+_, _-_, _≤_, _<_}
+use Prim.Native.Nat.{ℕ, zero, suc, _+_, _≤_, _<_}
 use mathlib.Core.Path.{_≡_}
 use lib.Dec.{eqb, ltb}
-use lib.ListN.{length, take, drop, getD}
+use lib.ListN.{length, getD}
 use Rattle.linkstate.specs.Lists.{keep, each}
 use Rattle.linkstate.specs.Bytes.{bytesAt, bytesOfWords}
 use Rattle.linkstate.specs.Kinds.{codes, linkCodes, isLinkCode}
@@ -25,6 +25,10 @@ front c = cond (eqb c 1092) (0 ∷ []) []
 unfoldable pub rowValue : List ℕ → ℕ → List ℕ → List ℕ
 rowValue a c r = cond (eqb (getD r 0 0) 0) [] (front c ++ bytesAt a (getD r 0 0) (getD r 1 0))
 
+-- The TLV of a kind by its row.
+abbrev pub rowTlv : List ℕ → ℕ → List ℕ → List ℕ
+rowTlv a c r = inTlvs (λ k. rowValue a k r) (c ∷ [])
+
 -- K2. The set of a grid and its SRLGs.
 unfoldable pub setOf : List ℕ → List (List ℕ) → List ℕ → ℕ → List ℕ
 setOf a g ns c = cond (eqb c 1096) (bytesOfWords ns) (rowValue a c (getD g (rowIn gridCodes c) []))
@@ -43,6 +47,13 @@ lowCodes = keep (λ k. ltb k 1122) codes
 
 abbrev pub highCodes : List ℕ
 highCodes = keep (λ k. ltb 1122 k) codes
+
+-- Codes that stand together both in a set and at the top of a run: those of rows in turn, and with them the TE metric and the SRLGs.
+abbrev pub extendedCodes : List ℕ
+extendedCodes = 1114 ∷ 1115 ∷ 1116 ∷ 1117 ∷ 1118 ∷ 1119 ∷ 1120 ∷ []
+
+abbrev pub middleCodes : List ℕ
+middleCodes = 1092 ∷ 1096 ∷ extendedCodes
 
 -- A row that fits run A: it is absent, or its value lies within the run and has 1 to 252 bytes.
 pub record RowFits (a r : List ℕ) : Type 0 where
@@ -73,11 +84,3 @@ rowsSize g (suc k) = rowsSize g k + rowSize (getD g k [])
 -- How many bytes stand in front of the values of a grid: one before the TE metric, if it has one.
 unfoldable pub frontSize : List (List ℕ) → ℕ
 frontSize g = cond (eqb (getD (getD g 1 []) 0 0) 0) 0 1
-
--- The row of a code other than 1096.
-unfoldable pub rowFor : List (List ℕ) → List (List ℕ) → ℕ → List ℕ
-rowFor l g c = cond (isLinkCode c) (getD l (rowIn linkCodes c) []) (getD g (rowIn gridCodes c) [])
-
--- The codes of the fourteen kinds from one place to another.
-unfoldable pub codesFrom : ℕ → ℕ → List ℕ
-codesFrom from to = take (to - from) (drop from codes)

@@ -5,17 +5,10 @@ ghost use Prim.Native.Nat.{ℕ, _+_, _≤_, _<_};
 ghost use lib.ListN.{length, getD};
 ghost use Rattle.linkstate.specs.Lists.{put, all, empty};
 ghost use Rattle.linkstate.specs.Bytes.{two, bytesAt, bytesOfWords};
-ghost use Rattle.linkstate.specs.Kinds.{codes, applicationCodes};
+ghost use Rattle.linkstate.specs.Kinds.{linkCodes, applicationCodes};
 ghost use Rattle.linkstate.specs.Meaning.{row};
 ghost use Rattle.linkstate.specs.Export.{tlv, bytesOf};
-ghost use Rattle.set_bytes.specs.Sets.{inTlvs, front, setOf, topOf, lowCodes, highCodes, Fits, Short, rowRead, rowSize, rowsSize, frontSize, rowFor, codesFrom};
-
-// Places among the fourteen kinds, ascending by code: that of the SRLGs, the first after the ASLA TLVs, and the end.
-const SRLGS: usize = 5;
-
-const AFTER_ASLA: usize = 13;
-
-const END: usize = 14;
+ghost use Rattle.set_bytes.specs.Sets.{inTlvs, front, rowTlv, setOf, bandwidthOf, topOf, lowCodes, highCodes, RowFits, Fits, Short, rowRead, rowSize, rowsSize, frontSize, extendedCodes, middleCodes};
 
 // The value of a kind in run A, by its row of a grid.
 pub enum Row {
@@ -32,40 +25,6 @@ fn read_row(row: [usize; 2]) -> Row
         return Row::Absent;
     }
     Row::Present { place, len: row[1] }
-}
-
-// The code of a kind, by its place among the fourteen.
-fn code_at(i: usize) -> u16
-    requires { ⌜ i < 14 ⌝ }
-    ensures { λ r. ⌜ r ≡ getD codes i 0 ⌝ }
-{
-    if i < SRLGS {
-        return 1088 + (i as u16);
-    }
-    if i == SRLGS {
-        return 1096;
-    }
-    if i < AFTER_ASLA {
-        return 1108 + (i as u16);
-    }
-    1173
-}
-
-// The row of a kind, by its place among the fourteen: one of the link's three, or of a grid. SRLGs have none.
-fn row_at(l: &[[usize; 2]; 3], g: &[[usize; 2]; 10], i: usize) -> Row
-    requires { ⌜ (i < 14) × (i ≡ 5 → ⊥) ⌝ }
-    ensures { λ r. ⌜ r ≡ rowRead (rowFor (now (l .entry)) (now (g .entry)) (getD codes i 0)) ⌝ }
-{
-    if 5 < i {
-        return read_row(g[i - 4]);
-    }
-    if i == 0 {
-        return read_row(g[0]);
-    }
-    if i < 4 {
-        return read_row(l[i - 1]);
-    }
-    read_row(g[1])
 }
 
 // How many zero bytes stand in front of a value of run A.
@@ -131,12 +90,12 @@ fn front_size(g: &[[usize; 2]; 10]) -> usize
     1
 }
 
-// How many bytes the TLVs of all kinds have.
-fn kinds_size(l: &[[usize; 2]; 3], g: &[[usize; 2]; 10], n: usize) -> usize
-    requires { ⌜ (n ≤ 512) × Short (now l) × Short (now g) ⌝ }
-    ensures { λ r. ⌜ (r ≤ 28728) × ((a ns : List ℕ) → Fits a (now (l .entry)) → Fits a (now (g .entry)) → length ns ≡ n → r ≡ length (inTlvs (topOf a (now (l .entry)) (now (g .entry)) ns) (codesFrom 0 14))) ⌝ }
+// How many bytes the TLVs of a grid and of n SRLGs have.
+fn kinds_size(g: &[[usize; 2]; 10], n: usize) -> usize
+    requires { ⌜ (n ≤ 512) × Short (now g) ⌝ }
+    ensures { λ r. ⌜ (r ≤ 4613) × ((ns : List ℕ) → length ns ≡ n → r ≡ rowsSize (now (g .entry)) 10 + frontSize (now (g .entry)) + length (inTlvs (λ _. bytesOfWords ns) (1096 ∷ []))) ⌝ }
 {
-    link_size(l) + grid_size(g) + front_size(g) + srlgs_size(n)
+    grid_size(g) + front_size(g) + srlgs_size(n)
 }
 
 // Type and length of a TLV.
@@ -187,32 +146,50 @@ fn write_srlgs(srlgs: &[u32], out: &mut [u8], at: usize) -> usize
     at + 4 + size
 }
 
-// The TLVs of the kinds from one place to another, ascending; the place after them.
-fn write_kinds(
-    a: &[u8],
-    l: &[[usize; 2]; 3],
-    g: &[[usize; 2]; 10],
-    srlgs: &[u32],
-    from: usize,
-    to: usize,
-    out: &mut [u8],
-    at: usize,
-) -> usize
-    requires { ⌜ (from ≤ to) × (to ≤ 14) × Fits (now a) (now l) × Fits (now a) (now g) × (length (now srlgs) ≤ 512) × (at + length (inTlvs (topOf (now a) (now l) (now g) (now srlgs)) (codesFrom from to)) ≤ length (now out)) ⌝ }
-    ensures { λ r. ⌜ (r ≡ at + length (inTlvs (topOf (now (a .entry)) (now (l .entry)) (now (g .entry)) (now (srlgs .entry))) (codesFrom from to))) × (now (out .exit) ≡ put (now (out .entry)) at (inTlvs (topOf (now (a .entry)) (now (l .entry)) (now (g .entry)) (now (srlgs .entry))) (codesFrom from to))) ⌝ }
+// The TLV of a kind by its row, if there is a value; the place after it.
+fn write_kind(a: &[u8], row: [usize; 2], code: u16, out: &mut [u8], at: usize) -> usize
+    requires { ⌜ RowFits (now a) row × (at + length (rowTlv (now a) code row) ≤ length (now out)) ⌝ }
+    ensures { λ r. ⌜ (r ≡ at + length (rowTlv (now (a .entry)) code row)) × (now (out .exit) ≡ put (now (out .entry)) at (rowTlv (now (a .entry)) code row)) ⌝ }
+{
+    let Row::Present { place, len } = read_row(row) else {
+        return at;
+    };
+    write_row(a, place, len, code, out, at)
+}
+
+// The TLVs of the link's bandwidths, 1089 to 1091; the place after them.
+fn write_bandwidths(a: &[u8], l: &[[usize; 2]; 3], out: &mut [u8], at: usize) -> usize
+    requires { ⌜ Fits (now a) (now l) × (at + length (inTlvs (bandwidthOf (now a) (now l)) linkCodes) ≤ length (now out)) ⌝ }
+    ensures { λ r. ⌜ (r ≡ at + length (inTlvs (bandwidthOf (now (a .entry)) (now (l .entry))) linkCodes)) × (now (out .exit) ≡ put (now (out .entry)) at (inTlvs (bandwidthOf (now (a .entry)) (now (l .entry))) linkCodes)) ⌝ }
+{
+    let maximum = write_kind(a, l[0], 1089, out, at);
+    let reservable = write_kind(a, l[1], 1090, out, maximum);
+    write_kind(a, l[2], 1091, out, reservable)
+}
+
+// The TLVs of the kinds 1114 to 1120, ascending; the place after them.
+fn write_extended(a: &[u8], g: &[[usize; 2]; 10], out: &mut [u8], at: usize) -> usize
+    requires { ⌜ Fits (now a) (now g) × (at + length (inTlvs (setOf (now a) (now g) []) extendedCodes) ≤ length (now out)) ⌝ }
+    ensures { λ r. ⌜ (r ≡ at + length (inTlvs (setOf (now (a .entry)) (now (g .entry)) []) extendedCodes)) × (now (out .exit) ≡ put (now (out .entry)) at (inTlvs (setOf (now (a .entry)) (now (g .entry)) []) extendedCodes)) ⌝ }
 {
     let mut next = at;
-    for i in from..to {
-        if i == SRLGS {
-            next = write_srlgs(srlgs, out, next);
-            continue;
-        }
-        let Row::Present { place, len } = row_at(l, g, i) else {
+    for k in 0..7 {
+        let Row::Present { place, len } = read_row(g[2 + k]) else {
             continue;
         };
-        next = write_row(a, place, len, code_at(i), out, next);
+        next = write_row(a, place, len, 1114 + (k as u16), out, next);
     }
     next
+}
+
+// The TLVs of the kinds 1092 to 1120, ascending; the place after them.
+fn write_middle(a: &[u8], g: &[[usize; 2]; 10], srlgs: &[u32], out: &mut [u8], at: usize) -> usize
+    requires { ⌜ Fits (now a) (now g) × (length (now srlgs) ≤ 512) × (at + length (inTlvs (setOf (now a) (now g) (now srlgs)) middleCodes) ≤ length (now out)) ⌝ }
+    ensures { λ r. ⌜ (r ≡ at + length (inTlvs (setOf (now (a .entry)) (now (g .entry)) (now (srlgs .entry))) middleCodes)) × (now (out .exit) ≡ put (now (out .entry)) at (inTlvs (setOf (now (a .entry)) (now (g .entry)) (now (srlgs .entry))) middleCodes)) ⌝ }
+{
+    let metric = write_kind(a, g[1], 1092, out, at);
+    let shared = write_srlgs(srlgs, out, metric);
+    write_extended(a, g, out, shared)
 }
 
 // How many bytes the TLVs of an application's set have.
@@ -220,8 +197,7 @@ pub fn set_size(g: &[[usize; 2]; 10], srlgs: usize) -> usize
     requires { ⌜ (srlgs ≤ 512) × Short (now g) ⌝ }
     ensures { λ r. ⌜ (r ≤ 28728) × ((a ns : List ℕ) → Fits a (now (g .entry)) → length ns ≡ srlgs → r ≡ length (inTlvs (setOf a (now (g .entry)) ns) applicationCodes)) ⌝ }
 {
-    let l = [[0usize; 2]; 3];
-    kinds_size(&l, g, srlgs)
+    kinds_size(g, srlgs)
 }
 
 // Whether an application's set is empty.
@@ -237,8 +213,9 @@ pub fn write_set(a: &[u8], g: &[[usize; 2]; 10], srlgs: &[u32], out: &mut [u8], 
     requires { ⌜ Fits (now a) (now g) × (length (now srlgs) ≤ 512) × (at + length (inTlvs (setOf (now a) (now g) (now srlgs)) applicationCodes) ≤ length (now out)) ⌝ }
     ensures { λ r. ⌜ (r ≡ at + length (inTlvs (setOf (now (a .entry)) (now (g .entry)) (now (srlgs .entry))) applicationCodes)) × (now (out .exit) ≡ put (now (out .entry)) at (inTlvs (setOf (now (a .entry)) (now (g .entry)) (now (srlgs .entry))) applicationCodes)) ⌝ }
 {
-    let l = [[0usize; 2]; 3];
-    write_kinds(a, &l, g, srlgs, 0, END, out, at)
+    let first = write_kind(a, g[0], 1088, out, at);
+    let middle = write_middle(a, g, srlgs, out, first);
+    write_kind(a, g[9], 1173, out, middle)
 }
 
 // How many bytes the TLVs at the top of a run have, those before the ASLA TLVs and those after them.
@@ -246,7 +223,7 @@ pub fn top_size(l: &[[usize; 2]; 3], g: &[[usize; 2]; 10], srlgs: usize) -> usiz
     requires { ⌜ (srlgs ≤ 512) × Short (now l) × Short (now g) ⌝ }
     ensures { λ r. ⌜ (r ≤ 28728) × ((a ns : List ℕ) → Fits a (now (l .entry)) → Fits a (now (g .entry)) → length ns ≡ srlgs → r ≡ length (inTlvs (topOf a (now (l .entry)) (now (g .entry)) ns) lowCodes) + length (inTlvs (topOf a (now (l .entry)) (now (g .entry)) ns) highCodes)) ⌝ }
 {
-    kinds_size(l, g, srlgs)
+    link_size(l) + kinds_size(g, srlgs)
 }
 
 // The TLVs at the top of a run that come before the ASLA TLVs, ascending; the place after them.
@@ -261,7 +238,9 @@ pub fn write_top_low(
     requires { ⌜ Fits (now a) (now l) × Fits (now a) (now g) × (length (now srlgs) ≤ 512) × (at + length (inTlvs (topOf (now a) (now l) (now g) (now srlgs)) lowCodes) ≤ length (now out)) ⌝ }
     ensures { λ r. ⌜ (r ≡ at + length (inTlvs (topOf (now (a .entry)) (now (l .entry)) (now (g .entry)) (now (srlgs .entry))) lowCodes)) × (now (out .exit) ≡ put (now (out .entry)) at (inTlvs (topOf (now (a .entry)) (now (l .entry)) (now (g .entry)) (now (srlgs .entry))) lowCodes)) ⌝ }
 {
-    write_kinds(a, l, g, srlgs, 0, AFTER_ASLA, out, at)
+    let first = write_kind(a, g[0], 1088, out, at);
+    let bandwidths = write_bandwidths(a, l, out, first);
+    write_middle(a, g, srlgs, out, bandwidths)
 }
 
 // Those that come after the ASLA TLVs.
@@ -276,5 +255,5 @@ pub fn write_top_high(
     requires { ⌜ Fits (now a) (now l) × Fits (now a) (now g) × (length (now srlgs) ≤ 512) × (at + length (inTlvs (topOf (now a) (now l) (now g) (now srlgs)) highCodes) ≤ length (now out)) ⌝ }
     ensures { λ r. ⌜ (r ≡ at + length (inTlvs (topOf (now (a .entry)) (now (l .entry)) (now (g .entry)) (now (srlgs .entry))) highCodes)) × (now (out .exit) ≡ put (now (out .entry)) at (inTlvs (topOf (now (a .entry)) (now (l .entry)) (now (g .entry)) (now (srlgs .entry))) highCodes)) ⌝ }
 {
-    write_kinds(a, l, g, srlgs, AFTER_ASLA, END, out, at)
+    write_kind(a, g[9], 1173, out, at)
 }

@@ -6,9 +6,9 @@ use Prim.Native.Nat.{ℕ, zero, suc, _+_, _-_, _*_, _%_, _^_, _≤_, _<_}
 use native.Mathlib.Nat.{add-zero, zero-add}
 use native.Mathlib.Numerals.{add-one}
 use native.Mathlib.Omega.{arith}
-use borrow.Author.Tests.{eq-eqb, ne-eqb, eqb-true, eqb-false}
+use borrow.Author.Tests.{eq-eqb, ne-eqb, eqb-true, eqb-false, ltb-true, ltb-false}
 use lib.Bits.{bitOr, or-lt}
-use lib.Dec.{eqb}
+use lib.Dec.{eqb, ltb}
 use lib.ListN.{length, getD, set, length-set}
 use lib.Seq.{getD-set-same, getD-set-other}
 use Rattle.linkstate.specs.Lists.{numbers, sameRows}
@@ -22,7 +22,7 @@ use Rattle.set_bytes.specs.Sets.{setOf, Fits}
 use Rattle.set_marks.specs.Marks.{markOf}
 use Rattle.set_marks.proofs.Equal.{marks-same}
 use Rattle.set_groups.specs.Groups.{Group, group, added, join}
-use Rattle.set_groups.specs.Table.{Entry, Sound, entryGroup, tableGroups, withMember, Finds, Joined}
+use Rattle.set_groups.specs.Table.{Entry, Sound, entryGroup, tableGroups, withMember, NextMarked, Finds, Joined}
 
 -- ---- a member more
 
@@ -71,12 +71,35 @@ marks-differ a values g w mark h x e up p q ok apart = go (sameRows (row (setOf 
     go true f = absurd (apart (ok .marked ∙ marks-same a values h g x w up (ok .within) p f ∙ sym q))
     go false f = refl
 
-pub search-next : (p : ℕ → Bool) (i : ℕ) → ((j : ℕ) → j < i → p j ≡ false) → p i ≡ false → (j : ℕ) → j < i + 1 → p j ≡ false
-search-next p i all here j h = go (eqb j i) refl
+-- What holds of every number below i, and of i, holds of every number below the next.
+pub search-next : (P : ℕ → Type 0) (i : ℕ) → ((j : ℕ) → j < i → P j) → P i → (j : ℕ) → j < i + 1 → P j
+search-next P i all here j h = go (eqb j i) refl
   where
-    go : (b : Bool) → eqb j i ≡ b → p j ≡ false
-    go true e = ap p (eqb-true j i e) ∙ here
+    go : (b : Bool) → eqb j i ≡ b → P j
+    go true e = rw (eqb-true j i e) here
     go false e = let d = eqb-false j i e in all j (omega arith)
+
+-- No entry from a place on, and below i, has the mark.
+abbrev pub Unmarked : List (List ℕ) → ℕ → ℕ → ℕ → Type 0
+Unmarked heads mark from i = (j : ℕ) → j < i → from ≤ j → getD (getD heads j []) 3 0 ≡ mark → ⊥
+
+pub unmarked-next : (heads : List (List ℕ)) (mark from i : ℕ) → Unmarked heads mark from i → (getD (getD heads i []) 3 0 ≡ mark → ⊥) → Unmarked heads mark from (i + 1)
+unmarked-next heads mark from i all here = search-next (λ j. from ≤ j → getD (getD heads j []) 3 0 ≡ mark → ⊥) i all (λ h. here)
+
+-- Entries that a search by marks passes by have other sets.
+module _ (a values : List ℕ) (g : List (List ℕ)) (w : List ℕ) (mark count : ℕ) (grids : List (List (List ℕ))) (bits heads : List (List ℕ)) (up : ascending values ≡ true) (p : Within values w)
+    (q : mark ≡ markOf a values g w) (sound : Sound a values count grids bits heads) where
+  abbrev Differs : ℕ → Type 0
+  Differs j = sameRows (row (setOf a (getD grids j []) (picked values (getD bits j [])))) (row (setOf a g (picked values w))) ≡ false
+
+  pub passed-by : {from r : ℕ} → NextMarked heads mark from count r → ((j : ℕ) → j < from → Differs j) → (j : ℕ) → j < r → Differs j
+  passed-by {from} {r} m all j h = go (ltb j from) refl
+    where
+      go : (b : Bool) → ltb j from ≡ b → Differs j
+      go true e = all j (ltb-true j from e)
+      go false e =
+          let l = ltb-false j from e in
+          marks-differ a values g w mark (getD grids j []) (getD bits j []) (getD heads j []) up p q (sound .entry j (omega (arith, m .most))) (m .before j h l)
 
 -- ---- joining, entry by entry
 

@@ -39,6 +39,13 @@ tableGroups a values count grids bits heads = map (λ i. entryGroup a values (ge
 unfoldable pub withMember : List ℕ → ℕ → List ℕ
 withMember h n = asNumber (λ k. inNumber (getD h 0 0) k || eqb k n) ∷ asNumber (λ k. inNumber (getD h 1 0) k || eqb (user k) n) ∷ getD h 2 0 ∷ getD h 3 0 ∷ []
 
+-- r is the first entry from a place on whose head has the mark, or the number of entries where none has it.
+pub record NextMarked (heads : List (List ℕ)) (mark from count r : ℕ) : Type 0 where
+  pub above : from ≤ r
+  pub most : r ≤ count
+  pub before : (j : ℕ) → j < r → from ≤ j → getD (getD heads j []) 3 0 ≡ mark → ⊥
+  pub there : r < count → getD (getD heads r []) 3 0 ≡ mark
+
 -- r is the first entry with these values, or the number of entries where none has them.
 pub record Finds (a values : List ℕ) (vs : List (List ℕ)) (count : ℕ) (grids : List (List (List ℕ))) (bits : List (List ℕ)) (r : ℕ) : Type 0 where
   pub most : r ≤ count

@@ -13,7 +13,7 @@ ghost use Rattle.srlg_ranks.specs.Ranks.{picked, Within};
 ghost use Rattle.set_bytes.specs.Sets.{setOf, Fits};
 ghost use Rattle.set_marks.specs.Marks.{markOf};
 ghost use Rattle.set_groups.specs.Groups as Definitions;
-ghost use Rattle.set_groups.specs.Table.{Sound, tableGroups, withMember, Finds, Joined};
+ghost use Rattle.set_groups.specs.Table.{Sound, tableGroups, withMember, NextMarked, Finds, Joined};
 
 // The standard applications of a set, and n if it is one.
 fn with_standard(m: u64, n: usize) -> u64
@@ -60,9 +60,32 @@ fn same_entry(
     requires { ⌜ (ascending (now values) ≡ true) × (length (now values) ≤ 768) × Fits (now a) (now g) × Within (now values) w × (i < length (now grids)) × (i < length (now bits)) × Fits (now a) (getD (now grids) i []) × Within (now values) (getD (now bits) i []) ⌝ }
     ensures { λ r. ⌜ r ≡ sameRows (row (setOf (now (a .entry)) (getD (now (grids .entry)) i []) (picked (now (values .entry)) (getD (now (bits .entry)) i [])))) (row (setOf (now (a .entry)) (now (g .entry)) (picked (now (values .entry)) w))) ⌝ }
 {
-    let h = grids[i];
+    let h = &grids[i];
     let x = bits[i];
-    set_equal::same_sets(a, &h, g, x, w)
+    set_equal::same_sets(a, h, g, x, w)
+}
+
+// The first entry from a place on that has a mark, or the number of entries. Two entries a turn.
+fn next_marked(heads: &[[u64; 4]], mark: u64, from: usize, count: usize) -> usize
+    requires { ⌜ (from ≤ count) × (count ≤ length (now heads)) ⌝ }
+    ensures { λ r. ⌜ NextMarked (now (heads .entry)) mark from count r ⌝ }
+{
+    let mut i = from;
+    while i + 1 < count {
+        if heads[i][3] == mark {
+            return i;
+        }
+        if heads[i + 1][3] == mark {
+            return i + 1;
+        }
+        i = i + 2;
+    }
+    if i < count {
+        if heads[i][3] == mark {
+            return i;
+        }
+    }
+    count
 }
 
 // The first entry with the set of a grid and bits, which has the mark; or the number of entries.
@@ -80,12 +103,12 @@ fn find(
     requires { ⌜ (ascending (now values) ≡ true) × (length (now values) ≤ 768) × Fits (now a) (now g) × Within (now values) w × (mark ≡ markOf (now a) (now values) (now g) w) × Sound (now a) (now values) count (now grids) (now bits) (now heads) ⌝ }
     ensures { λ r. ⌜ Finds (now (a .entry)) (now (values .entry)) (row (setOf (now (a .entry)) (now (g .entry)) (picked (now (values .entry)) w))) count (now (grids .entry)) (now (bits .entry)) r ⌝ }
 {
-    for i in 0..count {
-        if heads[i][3] == mark {
-            if same_entry(a, values, g, w, grids, bits, i) {
-                return i;
-            }
+    let mut i = next_marked(heads, mark, 0, count);
+    while i < count {
+        if same_entry(a, values, g, w, grids, bits, i) {
+            return i;
         }
+        i = next_marked(heads, mark, i + 1, count);
     }
     count
 }

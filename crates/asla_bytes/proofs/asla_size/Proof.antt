@@ -1,5 +1,5 @@
 -- `asla_bytes::asla_size` meets its contract: head, masks and set. Assumes nothing.
-use Rattle.asla_bytes.proofs.Laws.{small, length-asla}
+use Rattle.asla_bytes.proofs.Laws.{small, length-rest, length-asla}
 use Rattle.set_bytes.specs.Sets.{setOf}
 use native.Mathlib.Omega.{arith}
 use denote.Ref.{now}
@@ -27,7 +27,7 @@ add-result-3 c = omega (arith, small _ _ (c .before .before .mask-size .ensures)
 
 returns : tie.Need-returns
 returns c = let a = c .before .before .before .args in
-    (omega (arith, small _ _ (c .before .before .mask-size .ensures), small _ _ (c .before .mask-size2 .ensures)), λ r ns s e. omega (arith, c .set-size .ensures .1 r ns s e, length-asla (a .standard) (a .user) (setOf r (now (a .g)) ns)))
+    (omega (arith, small _ _ (c .before .before .mask-size .ensures), small _ _ (c .before .mask-size2 .ensures)), λ r ns s e. omega (arith, c .set-size .ensures .1 r ns s e, length-asla (a .standard) (a .user) (setOf r (now (a .g)) ns), length-rest (a .standard) (a .user) (setOf r (now (a .g)) ns)))
 
 pub asla-size-spec : {M : Type 1} → statement M
 asla-size-spec =

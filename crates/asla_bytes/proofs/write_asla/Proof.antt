@@ -1,66 +1,64 @@
--- `asla_bytes::write_asla` meets its contract: the head with the length of the value, and the set. Assumes nothing.
-use Rattle.asla_bytes.proofs.Laws.{length-value, put-asla}
-use Rattle.asla_bytes.specs.Applications.{inNumbers}
+-- `asla_bytes::write_asla` meets its contract: masks and set, and in front of them what tells their length. Assumes nothing.
+use Rattle.asla_bytes.proofs.Laws.{length-rest, length-asla, put-asla}
+use Rattle.masks.proofs.Laws.{size-le}
+use Rattle.linkstate.specs.Masks.{inNumber}
 use Rattle.set_bytes.specs.Sets.{setOf}
+use Rattle.set_bytes.proofs.Sized.{set-small}
 use denote.Ref.{now}
-use Rattle.linkstate.specs.Export.{aslaValue}
-use Rattle.set_bytes.proofs.Laws.{length-tlv}
 use native.Mathlib.Omega.{arith}
-use mathlib.Core.Path.{refl}
 use borrow.Author.Needs.{needs}
 use Rattle.asla_bytes.proofs.write_asla.Statement.{statement}
 use Rattle.asla_bytes.proofs.write_asla.Tie as tie
 
-asla-size-requires : tie.Need-asla-size-requires
-asla-size-requires c κs = let p = c .before .before .before .pre in (p .1, λ k. p .0 k .short)
+add-write-rest : tie.Need-add-write-rest
+add-write-rest c = search needs
 
-sub-write-asla-head : tie.Need-sub-write-asla-head
-sub-write-asla-head c = let s = c .before .before .before .before in
+write-rest-requires : tie.Need-write-rest-requires
+write-rest-requires c κs = let s = c .before .before .before .before in
     let a = s .args in
-    omega (arith, c .asla-size .ensures .1 (now (a .a)) (now (a .srlgs)) (s .pre .0) refl, length-tlv 1122 (aslaValue (inNumbers (a .standard) (a .user)) (setOf (now (a .a)) (now (a .g)) (now (a .srlgs)))))
+    (s .pre .0, s .pre .1, omega (arith, length-asla (a .standard) (a .user) (setOf (now (a .a)) (now (a .g)) (now (a .srlgs)))))
 
-cast-write-asla-head : tie.Need-cast-write-asla-head
-cast-write-asla-head c = search needs
+sub-len : tie.Need-sub-len
+sub-len c = search needs
 
-write-asla-head-requires : tie.Need-write-asla-head-requires
-write-asla-head-requires c κs = let s = c .before .before .before .before .before in
+sub-len-2 : tie.Need-sub-len-2
+sub-len-2 c = search needs
+
+cast-write-front : tie.Need-cast-write-front
+cast-write-front c = let r = c .before .before in
+    let s = r .before .before .before .before .before in
     let a = s .args in
-    let p = inNumbers (a .standard) (a .user) in
     let f = setOf (now (a .a)) (now (a .g)) (now (a .srlgs)) in
-    omega (arith, length-tlv 1122 (aslaValue p f), length-value p f)
+    omega (arith, r .write-rest .ensures .0, length-rest (a .standard) (a .user) f, size-le (inNumber (a .standard)), size-le (inNumber (a .user)), set-small (now (a .a)) (now (a .g)) (now (a .srlgs)) (s .pre .0) (s .pre .1))
 
-write-set-requires : tie.Need-write-set-requires
-write-set-requires c κs = let h = c .before .before .before in
-    let s = h .before .before .before .before .before .before in
+write-front-requires : tie.Need-write-front-requires
+write-front-requires c κs = let r = c .before .before .before in
+    let s = r .before .before .before .before .before in
     let a = s .args in
-    let p = inNumbers (a .standard) (a .user) in
-    let f = setOf (now (a .a)) (now (a .g)) (now (a .srlgs)) in
-    (s .pre .0, s .pre .1, omega (arith, length-tlv 1122 (aslaValue p f), length-value p f, h .write-asla-head .ensures .0, h .write-asla-head .kept .1 .1 .1 .0))
+    omega (arith, r .write-rest .kept .1 .1 .1 .1 .1 .0, length-asla (a .standard) (a .user) (setOf (now (a .a)) (now (a .g)) (now (a .srlgs))))
 
 same-length : tie.Need-same-length
 same-length c = search needs
 
 returns : tie.Need-returns
-returns c = let h = c .before .before .before .before .before .before in
-    let s = h .before .before .before .before .before .before in
+returns c = let r = c .before .before .before .before .before .before in
+    let s = r .before .before .before .before .before in
     let a = s .args in
-    let p = inNumbers (a .standard) (a .user) in
     let f = setOf (now (a .a)) (now (a .g)) (now (a .srlgs)) in
-    let w = c .before .before .write-set .ensures in
-    let k = h .write-asla-head .ensures in
-    let n = h .before .before .asla-size .ensures .1 (now (a .a)) (now (a .srlgs)) (s .pre .0) refl in
-    let t = length-tlv 1122 (aslaValue p f) in
-    let v = length-value p f in
-    (omega arith, put-asla (now (a .out)) (a .at) p f _ _ _ _ (k .1) (w .1) (k .0) (omega arith) (s .pre .2))
+    let w = r .write-rest .ensures in (
+      omega (arith, w .0, length-asla (a .standard) (a .user) f),
+      put-asla (a .standard) (a .user) (now (a .out)) (a .at) f _ _ _ (w .1) (c .before .before .write-front .ensures) (omega (arith, w .0)) (s .pre .2),
+    )
 
 pub write-asla-spec : {M : Type 1} → statement M
 write-asla-spec =
     tie.close
     (tie.spec
-    asla-size-requires
-    sub-write-asla-head
-    cast-write-asla-head
-    write-asla-head-requires
-    write-set-requires
+    add-write-rest
+    write-rest-requires
+    sub-len
+    sub-len-2
+    cast-write-front
+    write-front-requires
     same-length
     returns)

@@ -12,8 +12,8 @@ use Rattle.group_bytes.proofs.entry_size.Tie as tie
 mul-g : tie.Need-mul-g
 mul-g c = search needs
 
-shared-slice-copy-out-g : tie.Need-shared-slice-copy-out-g
-shared-slice-copy-out-g c = search needs
+shared-slice-element-g : tie.Need-shared-slice-element-g
+shared-slice-element-g c = search needs
 
 mul-srlgs : tie.Need-mul-srlgs
 mul-srlgs c = search needs
@@ -43,11 +43,11 @@ index-2-user : tie.Need-index-2-user
 index-2-user c = search needs
 
 asla-size-requires : tie.Need-asla-size-requires
-asla-size-requires c κs = let b = c .before .before .before .before .before in
+asla-size-requires c κs = let b = c .before .before .before .before in
     (b .pre .0 .few (b .args .i) (b .pre .1), b .pre .0 .shortRows (b .args .i) (b .pre .1))
 
 returns : tie.Need-returns
-returns c = let b = c .before .before .before .before .before .before in
+returns c = let b = c .before .before .before .before .before in
     let i = b .args .i in
     let r = c .asla-size .ensures in
     (r .0, λ a values bits s. r .1 a (picked values (getD bits i [])) (s .entry i (b .pre .1) .fits) (s .entry i (b .pre .1) .counted) ∙ ap length (entry-is a values (now (b .args .grids)) bits (now (b .args .heads)) i _ refl))
@@ -57,7 +57,7 @@ entry-size-spec =
     tie.close
     (tie.spec
     mul-g
-    shared-slice-copy-out-g
+    shared-slice-element-g
     mul-srlgs
     index-1-srlgs
     index-2-srlgs

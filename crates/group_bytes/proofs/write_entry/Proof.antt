@@ -9,8 +9,8 @@ use Rattle.group_bytes.proofs.write_entry.Tie as tie
 mul-g : tie.Need-mul-g
 mul-g c = search needs
 
-shared-slice-copy-out-g : tie.Need-shared-slice-copy-out-g
-shared-slice-copy-out-g c = search needs
+shared-slice-element-g : tie.Need-shared-slice-element-g
+shared-slice-element-g c = search needs
 
 mul-w : tie.Need-mul-w
 mul-w c = search needs
@@ -42,10 +42,10 @@ index-2-user : tie.Need-index-2-user
 index-2-user c = search needs
 
 write-listed-requires : tie.Need-write-listed-requires
-write-listed-requires c κs = let b = c .before .before .before .before .before .before .before .before .before .before .before .before .before .before .before in
+write-listed-requires c κs = let b = c .before .before .before .before .before .before .before .before .before .before .before .before .before .before in
     let a = b .args in
     let p = b .pre in
-    let r = c .before .before .before .before .before .before .before .pick in
+    let r = c .before .before .before .before .before .before .pick in
     let e = p .1 .entry (a .i) (p .2) in (
       e .fits,
       omega (arith, r .ensures .0, r .kept .1 .1 .0, p .3 (a .i) (p .2)),
@@ -60,9 +60,9 @@ same-length-2 : tie.Need-same-length-2
 same-length-2 c = search needs
 
 returns : tie.Need-returns
-returns c = let b = c .before .before .before .before .before .before .before .before .before .before .before .before .before .before .before .before .before .before in
+returns c = let b = c .before .before .before .before .before .before .before .before .before .before .before .before .before .before .before .before .before in
     let a = b .args in
-    let r = c .before .before .before .before .before .before .before .before .before .before .pick .ensures in
+    let r = c .before .before .before .before .before .before .before .before .before .pick .ensures in
     let w = c .before .before .write-listed .ensures in
     listed-written (now (a .a)) (now (a .values)) (now (a .grids)) (now (a .bits)) (now (a .heads)) (a .i) _ _ (r .1) (a .at) _ (now (a .out)) _ (w .0) (w .1)
 
@@ -71,7 +71,7 @@ write-entry-spec =
     tie.close
     (tie.spec
     mul-g
-    shared-slice-copy-out-g
+    shared-slice-element-g
     mul-w
     shared-slice-copy-out-w
     pick-requires

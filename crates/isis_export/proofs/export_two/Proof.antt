@@ -14,20 +14,14 @@ slice-aggregate-export-with-2 c = search needs
 slice-aggregate-export-with-3 : tie.Need-slice-aggregate-export-with-3
 slice-aggregate-export-with-3 c = search needs
 
-slice-aggregate-export-with-4 : tie.Need-slice-aggregate-export-with-4
-slice-aggregate-export-with-4 c = search needs
-
-slice-aggregate-export-with-5 : tie.Need-slice-aggregate-export-with-5
-slice-aggregate-export-with-5 c = search needs
-
-slice-aggregate-export-with-6 : tie.Need-slice-aggregate-export-with-6
-slice-aggregate-export-with-6 c = search needs
-
 export-with-requires : tie.Need-export-with-requires
-export-with-requires c κs = let p = c .before .before .before .before .before .before .before .before .before .before .before .before .before .before .pre in (p .0, search needs, search needs, search needs, holds-of 2 _ _ _ _ (p .1) refl refl refl)
+export-with-requires c κs = let p = c .before .before .before .before .before .before .before .before .before .before .before .before .before .before .before .pre in (p .0, p .1, p .2, holds-of 2 _ _ _ _ (p .3) refl refl refl)
 
 same-length : tie.Need-same-length
 same-length c = search needs
+
+same-length-2 : tie.Need-same-length-2
+same-length-2 c = search needs
 
 returns : tie.Need-returns
 returns c = search needs
@@ -39,9 +33,7 @@ export-two-spec =
     slice-aggregate-export-with
     slice-aggregate-export-with-2
     slice-aggregate-export-with-3
-    slice-aggregate-export-with-4
-    slice-aggregate-export-with-5
-    slice-aggregate-export-with-6
     export-with-requires
     same-length
+    same-length-2
     returns)

@@ -1,92 +1,72 @@
 -- A turn enters the attribute at its position; what is left of the list is entered after it.
-use Rattle.isis_grids.proofs.Walks.{left-all, inside, rest-ok, next-stored, next-kept, next-none, fill-turn, fill-end}
+use Rattle.isis_grids.proofs.Walks.{left-all, inside, rest-ok, fill-turn, fill-end}
 use Rattle.linkstate.specs.Elements.{Element, elements, faults}
 use denote.Ref.{now}
 use mathlib.Core.List.{List}
 use Prim.Native.Nat.{_+_, _≤_, _-_}
 use mathlib.Core.Path.{_≡_, ap, _∙_}
-use Rattle.isis_grids.specs.Grid.{filled, unchecked}
+use Rattle.isis_grids.specs.Grid.{filledIn, unchecked}
+use Rattle.kinds.specs.Rules.{gridCodes}
 use Rattle.isis.specs.RunA.{attributesOf}
 use Rattle.linkstate.proofs.WalkLaws.{left}
 use Rattle.linkstate.specs.Replies.{accepted, runA}
 use Rattle.linkstate.specs.Lists.{each}
 use lib.ListN.{length}
 use native.Mathlib.Omega.{arith}
-use mathlib.Core.Logic.{⊎-elim}
 use borrow.Author.Needs.{needs}
 use Rattle.isis_grids.proofs.fill.Statement.{statement}
 use Rattle.isis_grids.proofs.fill.Tie as tie
 
 abbrev Inv-loop : tie.InvT-loop
-Inv-loop s base h₀ at₀ h at = (at ≤ length s) × (length h ≡ 10) × (faults runA unchecked (left 1 base s at) ≡ accepted) × (filled h (each attributesOf (left 1 base s at)) ≡ filled h₀ (each attributesOf (elements 1 base s)))
+Inv-loop g₀ s base at₀ g at = (at ≤ length s) × (faults runA unchecked (left 1 base s at) ≡ accepted) × (filledIn gridCodes g (each attributesOf (left 1 base s at)) ≡ filledIn gridCodes g₀ (each attributesOf (elements 1 base s)))
 
 abbrev μ-loop : tie.MeasureT-loop
-μ-loop s base h₀ at₀ h at = length s - at
+μ-loop g₀ s base at₀ g at = length s - at
 
 loop-holds : tie.Need-loop-holds Inv-loop μ-loop
-loop-holds c = let a = c .before .args in (omega arith, search needs, ap (faults runA unchecked) (left-all (a .base) (now (a .s))) ∙ c .before .pre .1, ap (λ (es : List Element). filled (a .g) (each attributesOf es)) (left-all (a .base) (now (a .s))))
+loop-holds c = let a = c .before .args in
+    (omega arith, ap (faults runA unchecked) (left-all (a .base) (now (a .s))) ∙ c .before .pre .1, ap (λ (es : List Element). filledIn gridCodes (now (a .g)) (each attributesOf es)) (left-all (a .base) (now (a .s))))
 
 add-n : tie.Need-add-n Inv-loop μ-loop
 add-n c = search needs
 
 shared-slice-read-n : tie.Need-shared-slice-read-n Inv-loop μ-loop
-shared-slice-read-n c = let a = c .before .before .before .before .args in let l = c .before .before .loop in omega (arith, inside unchecked (a .base) (now (a .s)) (l .at) (c .before .loop-test .taken) (l .inv .2))
+shared-slice-read-n c = let a = c .before .before .before .before .args in let l = c .before .before .loop in omega (arith, inside unchecked (a .base) (now (a .s)) (l .at) (c .before .loop-test .taken) (l .inv .1))
 
 cast-n : tie.Need-cast-n Inv-loop μ-loop
 cast-n c = omega (arith, c .shared-slice-known2 .given (c .before .before .loop .at + 1))
 
-shared-slice-read-row-of : tie.Need-shared-slice-read-row-of Inv-loop μ-loop
-shared-slice-read-row-of c = search needs
+shared-slice-read-enter : tie.Need-shared-slice-read-enter Inv-loop μ-loop
+shared-slice-read-enter c = omega (arith, c .before .before .before .loop-test .taken)
 
-row-of-requires : tie.Need-row-of-requires Inv-loop μ-loop
-row-of-requires c κs = search needs
+add-enter : tie.Need-add-enter Inv-loop μ-loop
+add-enter c = let a = c .before .before .before .before .before .before .args in let l = c .before .before .before .before .loop in omega (arith, c .before .before .before .before .before .before .pre .0, inside unchecked (a .base) (now (a .s)) (l .at) (c .before .before .before .loop-test .taken) (l .inv .1))
 
-mul-if2 : tie.Need-mul-if2 Inv-loop μ-loop
-mul-if2 c = search needs
+add-enter-2 : tie.Need-add-enter-2 Inv-loop μ-loop
+add-enter-2 c = let a = c .before .before .before .before .before .before .args in let l = c .before .before .before .before .loop in omega (arith, c .before .before .before .before .before .before .pre .0, inside unchecked (a .base) (now (a .s)) (l .at) (c .before .before .before .loop-test .taken) (l .inv .1))
 
-index-1-if2 : tie.Need-index-1-if2 Inv-loop μ-loop
-index-1-if2 c = search needs
-
-index-2-if2 : tie.Need-index-2-if2 Inv-loop μ-loop
-index-2-if2 c = search needs
-
-add-t21 : tie.Need-add-t21 Inv-loop μ-loop
-add-t21 c = search needs
-
-add-t22 : tie.Need-add-t22 Inv-loop μ-loop
-add-t22 c = let a = c .before .before .before .before .before .before .before .before .before .args in let l = c .before .before .before .before .before .before .before .loop in omega (arith, inside unchecked (a .base) (now (a .s)) (l .at) (c .before .before .before .before .before .before .loop-test .taken) (l .inv .2))
-
-mul-h : tie.Need-mul-h Inv-loop μ-loop
-mul-h c = search needs
-
-array-set-from-h : tie.Need-array-set-from-h Inv-loop μ-loop
-array-set-from-h c = search needs
+enter-requires : tie.Need-enter-requires Inv-loop μ-loop
+enter-requires c κs = search needs
 
 add-at : tie.Need-add-at Inv-loop μ-loop
-add-at c = search needs
+add-at c = let a = c .before .before .before .before .before .before .before .args in let l = c .before .before .before .before .before .loop in omega (arith, c .before .before .before .before .before .before .before .pre .0, inside unchecked (a .base) (now (a .s)) (l .at) (c .before .before .before .before .loop-test .taken) (l .inv .1))
 
 add-at-2 : tie.Need-add-at-2 Inv-loop μ-loop
-add-at-2 c = let a = c .before .before .before .before .before .before .before .args in let l = c .before .before .before .before .before .loop in omega (arith, inside unchecked (a .base) (now (a .s)) (l .at) (c .before .before .before .before .loop-test .taken) (l .inv .2))
+add-at-2 c = let a = c .before .before .before .before .before .before .before .args in let l = c .before .before .before .before .before .loop in omega (arith, c .before .before .before .before .before .before .before .pre .0, inside unchecked (a .base) (now (a .s)) (l .at) (c .before .before .before .before .loop-test .taken) (l .inv .1))
 
 loop-less : tie.Need-loop-less Inv-loop μ-loop
-loop-less c = search needs
+loop-less c = let a = c .before .before .before .before .before .before .before .args in let l = c .before .before .before .before .before .loop in omega (arith, c .before .before .before .before .loop-test .taken, inside unchecked (a .base) (now (a .s)) (l .at) (c .before .before .before .before .loop-test .taken) (l .inv .1))
 
 loop-again : tie.Need-loop-again Inv-loop μ-loop
 loop-again c = let a = c .before .before .before .before .before .before .before .args in
     let l = c .before .before .before .before .before .loop in
     let s = now (a .s) in
     let here = c .before .before .before .before .loop-test .taken in
-    let ok = l .inv .2 in
-    let k = c .before .row-of .result in
-    let row = c .before .row-of .ensures in
-    let f = fill-turn (a .base) s (l .at) here ok (l .h) k row (c .if1 .h)
-    (⊎-elim (λ w. w .3 ∙ next-stored (a .base) s (l .at) here ok (l .h) k row (w .2 .taken))
-    (⊎-elim (λ w. w .3 ∙ next-kept (a .base) s (l .at) here ok (l .h) k row (w .2 .left))
-    (λ w. w .1 ∙ next-none (a .base) s (l .at) here ok (l .h) k row (omega (arith, w .0 .left, l .inv .1)))) (c .if1 .came)) in
-    (inside unchecked (a .base) s (l .at) here ok, f .0 ∙ l .inv .1, rest-ok unchecked (a .base) s (l .at) here ok, f .1 ∙ l .inv .3)
+    let ok = l .inv .1 in
+    (inside unchecked (a .base) s (l .at) here ok, rest-ok unchecked (a .base) s (l .at) here ok, fill-turn (a .base) s (l .at) here ok gridCodes (l .g) _ _ (omega arith) (c .enter .ensures) ∙ l .inv .2)
 
 returns : tie.Need-returns Inv-loop μ-loop
-returns c = let a = c .before .before .before .args in let l = c .before .loop in fill-end (a .base) (now (a .s)) (l .at) (l .h) (c .loop-test .left) ∙ l .inv .3
+returns c = let a = c .before .before .before .args in let l = c .before .loop in fill-end (a .base) (now (a .s)) (l .at) gridCodes (l .g) (c .loop-test .left) ∙ l .inv .2
 
 pub fill-spec : {M : Type 1} → statement M
 fill-spec =
@@ -98,15 +78,10 @@ fill-spec =
     add-n
     shared-slice-read-n
     cast-n
-    shared-slice-read-row-of
-    row-of-requires
-    mul-if2
-    index-1-if2
-    index-2-if2
-    add-t21
-    add-t22
-    mul-h
-    array-set-from-h
+    shared-slice-read-enter
+    add-enter
+    add-enter-2
+    enter-requires
     add-at
     add-at-2
     loop-less

@@ -1,7 +1,7 @@
 -- None where there is no run to have one; else the different SRLGs of the subject, ascending, answered from a list of their own.
 use Rattle.linkstate.specs.Questions.{srlgAnswer}
 use Rattle.replies.specs.Told.{subjectOf}
-use Rattle.isis_link.proofs.Laws.{no-srlgs}
+use Rattle.isis_link.proofs.Laws.{none-there}
 use Prim.Native.Nat.{ℕ}
 use mathlib.Core.List.{List}
 use mathlib.Core.Path.{ap, _∙_}
@@ -10,7 +10,7 @@ use Rattle.isis_link.proofs.answer_srlg.Statement.{statement}
 use Rattle.isis_link.proofs.answer_srlg.Tie as tie
 
 returns : tie.Need-returns
-returns c = let q = c .before .before .before .before .args in λ a. no-srlgs a (q .b .now) (q .c .now) (subjectOf (q .whom)) (q .list .now) (c .if1 .taken)
+returns c = let q = c .before .before .before .before .args in λ a. none-there a (q .b .now) (q .c .now) (subjectOf (q .whom)) (q .list .now) (c .if1 .taken)
 
 slice-aggregate-srlgs-of : tie.Need-slice-aggregate-srlgs-of
 slice-aggregate-srlgs-of c = search needs

@@ -1,20 +1,23 @@
--- The legacy entry, then those of run B.
+-- None where there is no number; else the legacy entry, then those of run B.
 use denote.Ref.{now}
 use native.Mathlib.Omega.{arith}
 use Rattle.isis_srlg_index.specs.Index.{givesAll, gets}
 use Rattle.linkstate.specs.Elements.{elements}
-use Rattle.isis_srlg_index.proofs.Applications.{values-ascend, values-most, live-in, legacy-in, gets-all, indexed}
+use Rattle.isis_srlg_index.proofs.Applications.{values-ascend, values-most, live-in, legacy-in, gets-all, indexed, no-entries}
 use borrow.Author.Needs.{needs}
 use Rattle.isis_srlg_index.proofs.index_srlgs.Statement.{statement}
 use Rattle.isis_srlg_index.proofs.index_srlgs.Tie as tie
+
+returns : tie.Need-returns
+returns c = let a = c .before .before .before .before .args in let p = c .before .before .before .before .pre in indexed (now (a .b)) (now (a .c)) (now (a .values)) (a .g) (p .0) (p .1) _ _ _ (no-entries _ _ _ _ (omega arith))
 
 legacy-used-requires : tie.Need-legacy-used-requires
 legacy-used-requires c κs = search needs
 
 add-legacy-requires : tie.Need-add-legacy-requires
 add-legacy-requires c κs =
-    let a = c .before .before .before .before .before .before .args in
-    let p = c .before .before .before .before .before .before .pre in
+    let a = c .before .before .before .before .before .before .before .args in
+    let p = c .before .before .before .before .before .before .before .pre in
     let b = now (a .b) in
     let s = now (a .c) in
     let values = now (a .values) in
@@ -22,8 +25,8 @@ add-legacy-requires c κs =
 
 add-entries-requires : tie.Need-add-entries-requires
 add-entries-requires c κs =
-    let a = c .before .before .before .before .before .before .before .before .before .before .before .args in
-    let p = c .before .before .before .before .before .before .before .before .before .before .before .pre in
+    let a = c .before .before .before .before .before .before .before .before .before .before .before .before .args in
+    let p = c .before .before .before .before .before .before .before .before .before .before .before .before .pre in
     let b = now (a .b) in
     let s = now (a .c) in
     let values = now (a .values) in
@@ -36,10 +39,10 @@ same-length c = search needs
 same-length-2 : tie.Need-same-length-2
 same-length-2 c = search needs
 
-returns : tie.Need-returns
-returns c =
-    let a = c .before .before .before .before .before .before .before .before .before .before .before .before .before .before .args in
-    let p = c .before .before .before .before .before .before .before .before .before .before .before .before .before .before .pre in
+returns-2 : tie.Need-returns-2
+returns-2 c =
+    let a = c .before .before .before .before .before .before .before .before .before .before .before .before .before .before .before .args in
+    let p = c .before .before .before .before .before .before .before .before .before .before .before .before .before .before .before .pre in
     let b = now (a .b) in
     let s = now (a .c) in
     let values = now (a .values) in
@@ -51,9 +54,10 @@ pub index-srlgs-spec : {M : Type 1} → statement M
 index-srlgs-spec =
     tie.close
     (tie.spec
+    returns
     legacy-used-requires
     add-legacy-requires
     add-entries-requires
     same-length
     same-length-2
-    returns)
+    returns-2)

@@ -35,7 +35,7 @@ returns : tie.Need-returns
 returns c =
     let h = c .before .before .before .before .before .before in
     let a = h .before .before .before .before in
-    from-legacy (now (a .args .b)) (now (a .args .c)) _ _ _ _ (application-l _ _ (sym (h .how-named .ensures (now (a .args .c))) ∙ c .before .before .before .before .enum-told .given .1)) (c .before .before .words-into .ensures) (a .pre .0 .shortC)
+    from-legacy (now (a .args .b)) (now (a .args .c)) _ _ _ _ (application-l _ _ (sym (h .how-named .ensures (now (a .args .c))) ∙ c .before .before .before .before .enum-told .given .1)) (c .before .before .words-into .ensures) (a .pre .0 .shortC) (a .pre .2)
 
 same-length-2 : tie.Need-same-length-2
 same-length-2 c = search needs
@@ -45,7 +45,7 @@ returns-2 c =
     let h = c .before .before .before .before .before .before in
     let a = h .before .before .before .before in
     let w = c .before .before .collect .ensures in
-    collected _ _ _ _ _ (application-named _ _ (sym (h .how-named .ensures (now (a .args .c))) ∙ c .before .before .before .before .enum-told2 .given .1)) (length (now (a .args .b))) (w .0 (now (a .args .c))) (w .1) (a .pre .0 .shortB)
+    collected _ _ _ _ _ (application-named _ _ (sym (h .how-named .ensures (now (a .args .c))) ∙ c .before .before .before .before .enum-told2 .given .1)) (length (now (a .args .b))) (w .0 (now (a .args .c))) (w .1) (a .pre .0 .shortB) (a .pre .1)
 
 same-length-3 : tie.Need-same-length-3
 same-length-3 c = search needs
@@ -55,7 +55,7 @@ returns-3 c =
     let h = c .before .before .before .before .before .before in
     let a = h .before .before .before .before in
     let w = c .before .before .collect2 .ensures in
-    collected _ _ _ _ _ (application-general _ _ (sym (h .how-named .ensures (now (a .args .c))) ∙ c .before .before .before .before .enum-told3 .given .1)) (length (now (a .args .b))) (w .0 (now (a .args .c))) (w .1) (a .pre .0 .shortB)
+    collected _ _ _ _ _ (application-general _ _ (sym (h .how-named .ensures (now (a .args .c))) ∙ c .before .before .before .before .enum-told3 .given .1)) (length (now (a .args .b))) (w .0 (now (a .args .c))) (w .1) (a .pre .0 .shortB) (a .pre .1)
 
 pub application-words-spec : {M : Type 1} → statement M
 application-words-spec =

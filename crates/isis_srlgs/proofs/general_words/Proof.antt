@@ -16,7 +16,7 @@ returns : tie.Need-returns
 returns c =
     let a = c .before .before .before .before .before .before .before in
     let w = c .before .before .collect .ensures in
-    collected _ _ _ _ _ (general-selected 0 _) (length (now (a .args .b))) (w .0 (now (a .args .c))) (w .1) (a .pre .0 .shortB)
+    collected _ _ _ _ _ (general-selected 0 _) (length (now (a .args .b))) (w .0 (now (a .args .c))) (w .1) (a .pre .0 .shortB) (a .pre .1)
 
 pub general-words-spec : {M : Type 1} → statement M
 general-words-spec = tie.close (tie.spec collect-requires same-length returns)

@@ -38,7 +38,7 @@ returns c =
     let a = h .before .before .before .before in
     let w = c .before .before .before .collect .ensures in
     let e = sym (h .how-named .ensures (now (a .args .c))) ∙ c .before .before .before .before .before .enum-told3 .given .1 in
-    collected _ _ _ _ _ (rsvp-te-carried _ e _ (w .0 (now (a .args .c)) .0) (omega arith)) (length (now (a .args .b))) (w .0 (now (a .args .c))) (w .1) (a .pre .0 .shortB)
+    collected _ _ _ _ _ (rsvp-te-carried _ e _ (w .0 (now (a .args .c)) .0) (omega arith)) (length (now (a .args .b))) (w .0 (now (a .args .c))) (w .1) (a .pre .0 .shortB) (a .pre .1)
 
 words-into-requires-3 : tie.Need-words-into-requires-3
 words-into-requires-3 c κs = search needs
@@ -50,7 +50,7 @@ returns-2 : tie.Need-returns-2
 returns-2 c =
     let h = c .before .before .before .before .before .before in
     let a = h .before .before .before .before in
-    from-legacy (now (a .args .b)) (now (a .args .c)) _ _ _ _ (rsvp-te-l _ (sym (h .how-named .ensures (now (a .args .c))) ∙ c .before .before .before .before .enum-told .given .1)) (c .before .before .words-into .ensures) (a .pre .0 .shortC)
+    from-legacy (now (a .args .b)) (now (a .args .c)) _ _ _ _ (rsvp-te-l _ (sym (h .how-named .ensures (now (a .args .c))) ∙ c .before .before .before .before .enum-told .given .1)) (c .before .before .words-into .ensures) (a .pre .0 .shortC) (a .pre .2)
 
 same-length-3 : tie.Need-same-length-3
 same-length-3 c = search needs
@@ -59,7 +59,7 @@ returns-3 : tie.Need-returns-3
 returns-3 c =
     let h = c .before .before .before .before .before .before in
     let a = h .before .before .before .before in
-    from-legacy (now (a .args .b)) (now (a .args .c)) _ _ _ _ (rsvp-te-not _ (sym (h .how-named .ensures (now (a .args .c))) ∙ c .before .before .before .before .enum-told2 .given .1)) (c .before .before .words-into2 .ensures) (a .pre .0 .shortC)
+    from-legacy (now (a .args .b)) (now (a .args .c)) _ _ _ _ (rsvp-te-not _ (sym (h .how-named .ensures (now (a .args .c))) ∙ c .before .before .before .before .enum-told2 .given .1)) (c .before .before .words-into2 .ensures) (a .pre .0 .shortC) (a .pre .2)
 
 same-length-4 : tie.Need-same-length-4
 same-length-4 c = search needs
@@ -73,7 +73,7 @@ returns-4 c =
     let l = c .before .before .words-into3 .ensures in
     let e = sym (h .how-named .ensures (now (a .args .c))) ∙ k .before .before .enum-told3 .given .1 in
     from-legacy (now (a .args .b)) (now (a .args .c)) _ _ _ _ (rsvp-te-none _ e _ (w .0) (omega arith))
-    (l .0, nothing-then (now (a .args .out)) _ _ _ _ _ (omega arith) (w .0) (w .1) (l .1)) (a .pre .0 .shortC)
+    (l .0, nothing-then (now (a .args .out)) _ _ _ _ _ (omega arith) (w .0) (w .1) (l .1)) (a .pre .0 .shortC) (a .pre .2)
 
 pub rsvp-te-words-spec : {M : Type 1} → statement M
 rsvp-te-words-spec =

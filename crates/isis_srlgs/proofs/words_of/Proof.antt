@@ -30,7 +30,7 @@ enum-known-whom-2 : tie.Need-enum-known-whom-2
 enum-known-whom-2 c = search needs
 
 add-application-words : tie.Need-add-application-words
-add-application-words c = omega (arith, user-low _ _ (c .before .whom2 .given .1) (c .before .before .before .before .before .before .pre .2))
+add-application-words c = omega (arith, user-low _ _ (c .before .whom2 .given .1) (c .before .before .before .before .before .before .pre .3))
 
 application-words-requires-2 : tie.Need-application-words-requires-2
 application-words-requires-2 c κs = search needs

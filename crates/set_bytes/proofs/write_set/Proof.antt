@@ -1,22 +1,53 @@
--- `set_bytes::write_set` meets its contract: no bandwidths, and all kinds. Assumes nothing.
-use Rattle.set_bytes.proofs.Laws.{none-fit, set-is, same-room, same-write}
+-- `set_bytes::write_set` meets its contract: the first kind, those in the middle, and the last. Assumes nothing.
+use Rattle.set_bytes.proofs.Laws.{set-is, first-room, second-room, third-room, three-write}
 use denote.Ref.{now}
-use native.Mathlib.Omega.{arith}
 use borrow.Author.Needs.{needs}
 use Rattle.set_bytes.proofs.write_set.Statement.{statement}
 use Rattle.set_bytes.proofs.write_set.Tie as tie
 
-write-kinds-requires : tie.Need-write-kinds-requires
-write-kinds-requires c κs = let s = c .before .before .before .before .before in
+element-copy-out-write-kind : tie.Need-element-copy-out-write-kind
+element-copy-out-write-kind c = search needs
+
+write-kind-requires : tie.Need-write-kind-requires
+write-kind-requires c κs = let s = c .before .before .before .before .before in
     let a = s .args in
-    (omega arith, omega arith, none-fit (now (a .a)), s .pre .0, s .pre .1, same-room _ _ (set-is (now (a .a)) (now (a .g)) (now (a .srlgs))) (now (a .out)) (a .at) (s .pre .2))
+    (s .pre .0 0, first-room (now (a .out)) (a .at) (set-is (now (a .a)) (now (a .g)) (now (a .srlgs))) (s .pre .2))
+
+write-middle-requires : tie.Need-write-middle-requires
+write-middle-requires c κs = let s = c .before .before .before .before .before .before .before .before .before in
+    let a = s .args in
+    let one = c .before .before .before .write-kind in
+    (s .pre .0, s .pre .1, second-room (now (a .out)) (a .at) (set-is (now (a .a)) (now (a .g)) (now (a .srlgs))) (s .pre .2) (one .kept .1 .1 .1 .0) (one .ensures))
+
+element-copy-out-write-kind-2 : tie.Need-element-copy-out-write-kind-2
+element-copy-out-write-kind-2 c = search needs
+
+write-kind-requires-2 : tie.Need-write-kind-requires-2
+write-kind-requires-2 c κs = let s = c .before .before .before .before .before .before .before .before .before .before .before .before .before .before in
+    let a = s .args in
+    let one = c .before .before .before .before .before .before .before .before .write-kind in
+    let two = c .before .before .before .before .write-middle in
+    (s .pre .0 9, third-room (now (a .out)) (a .at) (set-is (now (a .a)) (now (a .g)) (now (a .srlgs))) (s .pre .2) (one .kept .1 .1 .1 .0) (one .ensures) (two .kept .1 .1 .1 .0) (two .ensures))
 
 same-length : tie.Need-same-length
 same-length c = search needs
 
 returns : tie.Need-returns
-returns c = let a = c .before .before .before .before .before .before .before .before .args in
-    same-write _ _ (set-is (now (a .a)) (now (a .g)) (now (a .srlgs))) (now (a .out)) (a .at) _ _ (c .before .before .write-kinds .ensures)
+returns c = let s = c .before .before .before .before .before .before .before .before .before .before .before .before .before .before .before .before .before in
+    let a = s .args in
+    let one = c .before .before .before .before .before .before .before .before .before .before .before .write-kind in
+    let two = c .before .before .before .before .before .before .before .write-middle in
+    let three = c .before .before .write-kind2 in
+    three-write (now (a .out)) (a .at) (set-is (now (a .a)) (now (a .g)) (now (a .srlgs))) (s .pre .2) (one .kept .1 .1 .1 .0) (one .ensures) (two .kept .1 .1 .1 .0) (two .ensures) (three .ensures)
 
 pub write-set-spec : {M : Type 1} → statement M
-write-set-spec = tie.close (tie.spec write-kinds-requires same-length returns)
+write-set-spec =
+    tie.close
+    (tie.spec
+    element-copy-out-write-kind
+    write-kind-requires
+    write-middle-requires
+    element-copy-out-write-kind-2
+    write-kind-requires-2
+    same-length
+    returns)

@@ -1,5 +1,5 @@
--- `set_groups::find` meets its contract: no entry before the loop's place has the set.
-use Rattle.set_groups.proofs.Laws.{marks-differ, search-next}
+-- `set_groups::find` meets its contract: no entry before the loop's place has the set. Assumes nothing.
+use Rattle.set_groups.proofs.Laws.{search-next, passed-by}
 use Rattle.set_bytes.specs.Sets.{setOf}
 use Rattle.srlg_ranks.specs.Ranks.{picked}
 use Rattle.linkstate.specs.Lists.{sameRows}
@@ -10,7 +10,6 @@ use native.Mathlib.Omega.{arith}
 use Prim.Native.Nat.{ℕ, _-_, _≤_, _<_}
 use mathlib.Core.Bool.{false}
 use mathlib.Core.List.{[]}
-use mathlib.Core.Logic.{⊎-elim}
 use mathlib.Core.Path.{_≡_, sym, _∙_}
 use Rattle.set_groups.proofs.find.Statement.{statement}
 use Rattle.set_groups.proofs.find.Tie as tie
@@ -22,43 +21,42 @@ Inv-loop a values g w mark count grids bits heads i₀ i = (i ≤ count) × ((j 
 abbrev μ-loop : tie.MeasureT-loop
 μ-loop a values g w mark count grids bits heads i₀ i = count - i
 
+next-marked-requires : tie.Need-next-marked-requires Inv-loop μ-loop
+next-marked-requires c κs = (omega arith, c .before .before .pre .5 .headRoom)
+
 loop-holds : tie.Need-loop-holds Inv-loop μ-loop
-loop-holds c = (omega arith, λ j h. absurd (omega arith))
-
-mul-if1 : tie.Need-mul-if1 Inv-loop μ-loop
-mul-if1 c = search needs
-
-index-1-if1 : tie.Need-index-1-if1 Inv-loop μ-loop
-index-1-if1 c = let k = c .before .before .before .before .pre .5 .headRoom in omega arith
-
-index-2-if1 : tie.Need-index-2-if1 Inv-loop μ-loop
-index-2-if1 c = search needs
+loop-holds c = let s = c .before .before .before in
+    let a = s .args in
+    let m = c .next-marked .ensures in
+    (m .most, passed-by (now (a .a)) (now (a .values)) (now (a .g)) (a .w) (a .mark) (a .count) (now (a .grids)) (now (a .bits)) (now (a .heads)) (s .pre .0) (s .pre .3) (s .pre .4) (s .pre .5) m (λ j h. absurd (omega arith)))
 
 same-entry-requires : tie.Need-same-entry-requires Inv-loop μ-loop
-same-entry-requires c κs = let p = c .before .before .before .before .before .before .pre in
-    let i = c .before .before .before .loop .i in
-    let e = p .5 .entry i (omega arith) in
+same-entry-requires c κs = let p = c .before .before .before .before .before .pre in
+    let e = p .5 .entry (c .before .loop .i) (omega arith) in
     (p .0, p .1, p .2, p .3, omega (arith, p .5 .gridRoom), omega (arith, p .5 .bitRoom), e .fits, e .within)
 
 returns : tie.Need-returns Inv-loop μ-loop
-returns c = let l = c .before .before .before .before .before .loop in
-    record { most = omega arith; before = l .inv .1; there = λ h. sym (c .before .same-entry .ensures) ∙ c .if2 .taken }
+returns c = let l = c .before .before .before .loop in
+    record { most = omega arith; before = l .inv .1; there = λ h. sym (c .before .same-entry .ensures) ∙ c .if1 .taken }
 
-add-i : tie.Need-add-i Inv-loop μ-loop
-add-i c = search needs
+add-next-marked : tie.Need-add-next-marked Inv-loop μ-loop
+add-next-marked c = search needs
+
+next-marked-requires-2 : tie.Need-next-marked-requires-2 Inv-loop μ-loop
+next-marked-requires-2 c κs = (omega arith, c .before .before .before .before .before .before .before .pre .5 .headRoom)
 
 loop-less : tie.Need-loop-less Inv-loop μ-loop
-loop-less c = search needs
+loop-less c = let m = c .next-marked2 .ensures in omega (arith, m .above, m .most)
 
 loop-again : tie.Need-loop-again Inv-loop μ-loop
-loop-again c = let l = c .before .before .before .loop in
-    let b = c .before .before .before .before .before .before in
-    let a = b .args in (
-      omega arith,
-      search-next (λ j. sameRows (row (setOf (now (a .a)) (getD (now (a .grids)) j []) (picked (now (a .values)) (getD (now (a .bits)) j [])))) (row (setOf (now (a .a)) (now (a .g)) (picked (now (a .values)) (a .w))))) (l .i) (l .inv .1)
-          (⊎-elim (λ x. sym (x .1 .ensures) ∙ x .2 .left)
-          (λ x. marks-differ (now (a .a)) (now (a .values)) (now (a .g)) (a .w) (a .mark) (getD (now (a .grids)) (l .i) []) (getD (now (a .bits)) (l .i) []) (getD (now (a .heads)) (l .i) []) (b .pre .0) (b .pre .3) (b .pre .4) (b .pre .5 .entry (l .i) (omega arith)) (x .left))
-          (c .if1 .came)),
+loop-again c = let l = c .before .before .before .before in
+    let s = l .before .before .before .before in
+    let a = s .args in
+    let m = c .next-marked2 .ensures in
+    let other = sym (c .before .before .same-entry .ensures) ∙ c .before .if1 .left in (
+      m .most,
+      passed-by (now (a .a)) (now (a .values)) (now (a .g)) (a .w) (a .mark) (a .count) (now (a .grids)) (now (a .bits)) (now (a .heads)) (s .pre .0) (s .pre .3) (s .pre .4) (s .pre .5) m
+          (search-next (λ j. sameRows (row (setOf (now (a .a)) (getD (now (a .grids)) j []) (picked (now (a .values)) (getD (now (a .bits)) j [])))) (row (setOf (now (a .a)) (now (a .g)) (picked (now (a .values)) (a .w)))) ≡ false) (l .loop .i) (l .loop .inv .1) other),
     )
 
 returns-2 : tie.Need-returns-2 Inv-loop μ-loop
@@ -71,13 +69,12 @@ find-spec =
     (tie.spec
     Inv-loop
     μ-loop
+    next-marked-requires
     loop-holds
-    mul-if1
-    index-1-if1
-    index-2-if1
     same-entry-requires
     returns
-    add-i
+    add-next-marked
+    next-marked-requires-2
     loop-less
     loop-again
     returns-2)
