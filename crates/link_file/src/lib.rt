@@ -1,228 +1,36 @@
 // The text of a file of links. A line begins with A, B, C or BGP-LS and goes on with the bytes of that run in hex, or it names a link, 'link NAME'. '#' begins a comment.
 // The text is lent as blocks of 4,096 characters, with its length.
+ghost use mathlib.Core.Path.{_≡_};
 ghost use Prim.Native.Nat.{_+_, _≤_};
+ghost use lib.ListN.{length};
+ghost use Rattle.link_file.specs.Texts.{upTo, charAt, textFrom, partOf, shownAs, endsName, shownName, nameAt, WroteFront};
+ghost use Rattle.link_file.specs.Questions.{beginning, ofLink, ofRun, byteOf, verdictOn, partAt, runBytes, Decoded};
+ghost use Rattle.link_file.specs.Reader.{ended, firstMode, keptByte};
+use link_chars::Event;
+use link_chars::Mode;
+use link_chars::Why;
+use link_chars::read_char;
 
-// Where in a line the reader is: before its first word, in a word (by number, see `word_after`), between two bytes of a run, behind the first digit of a byte, in a link's name, or in a comment.
-pub enum Mode {
-    Start,
-    Word(u8),
-    Bytes(u8),
-    Half(u8, u8),
-    Name,
-    Comment,
-}
-
-// What a character completes: nothing, a byte of a run, the name of a run or the word 'link' at a line's front; or why it is wrong.
-pub enum Event {
-    Nothing,
-    Byte(u8, u8),
-    Begin(u8),
-    Link,
-    Wrong(Why),
-}
-
-pub enum Why {
-    NoWord,
-    NoDigit,
-    HalfByte,
-}
-
-pub struct Step {
-    pub mode: Mode,
-    pub event: Event,
-}
-
-// The word that a character makes of a word: 1 A, 2 B, 3 C, 8 BGP-LS, 12 link, between them their beginnings; 0 where it is none.
-fn word_after(word: u8, c: u8) -> u8 {
-    match word {
-        0 => match c {
-            b'A' => 1,
-            b'B' => 2,
-            b'C' => 3,
-            b'l' => 9,
-            _ => 0,
-        },
-        2 => if c == b'G' { 4 } else { 0 },
-        4 => if c == b'P' { 5 } else { 0 },
-        5 => if c == b'-' { 6 } else { 0 },
-        6 => if c == b'L' { 7 } else { 0 },
-        7 => if c == b'S' { 8 } else { 0 },
-        9 => if c == b'i' { 10 } else { 0 },
-        10 => if c == b'n' { 11 } else { 0 },
-        11 => if c == b'k' { 12 } else { 0 },
-        _ => 0,
-    }
-}
-
-fn is_blank(c: u8) -> bool {
-    c == b' ' || c == b'\t' || c == b'\r'
-}
-
-fn wrong(why: Why) -> Step {
-    Step {
-        mode: Mode::Comment,
-        event: Event::Wrong(why),
-    }
-}
-
-// The same mode goes on, and nothing is complete.
-fn in_mode(mode: Mode) -> Step {
-    Step {
-        mode,
-        event: Event::Nothing,
-    }
-}
-
-fn at_start(c: u8) -> Step {
-    if c == b'\n' {
-        return in_mode(Mode::Start);
-    }
-    if is_blank(c) {
-        return in_mode(Mode::Start);
-    }
-    if c == b'#' {
-        return in_mode(Mode::Comment);
-    }
-    let word = word_after(0, c);
-    if word == 0 {
-        return wrong(Why::NoWord);
-    }
-    in_mode(Mode::Word(word))
-}
-
-// The mode behind a whole word that ends before c: in a run's bytes or in a name, unless c ends the line.
-fn behind_word(c: u8, mode: Mode) -> Mode {
-    if c == b'\n' {
-        return Mode::Start;
-    }
-    if c == b'#' {
-        return Mode::Comment;
-    }
-    mode
-}
-
-fn word_ends(word: u8, c: u8) -> Step {
-    match word {
-        1 => Step {
-            mode: behind_word(c, Mode::Bytes(0)),
-            event: Event::Begin(0),
-        },
-        2 => Step {
-            mode: behind_word(c, Mode::Bytes(1)),
-            event: Event::Begin(1),
-        },
-        3 => Step {
-            mode: behind_word(c, Mode::Bytes(2)),
-            event: Event::Begin(2),
-        },
-        8 => Step {
-            mode: behind_word(c, Mode::Bytes(3)),
-            event: Event::Begin(3),
-        },
-        12 => Step {
-            mode: behind_word(c, Mode::Name),
-            event: Event::Link,
-        },
-        _ => wrong(Why::NoWord),
-    }
-}
-
-fn in_word(word: u8, c: u8) -> Step {
-    if c == b'\n' {
-        return word_ends(word, c);
-    }
-    if c == b'#' {
-        return word_ends(word, c);
-    }
-    if is_blank(c) {
-        return word_ends(word, c);
-    }
-    let next = word_after(word, c);
-    if next == 0 {
-        return wrong(Why::NoWord);
-    }
-    in_mode(Mode::Word(next))
-}
-
-fn in_bytes(run: u8, c: u8) -> Step {
-    if c == b'\n' {
-        return in_mode(Mode::Start);
-    }
-    if c == b'#' {
-        return in_mode(Mode::Comment);
-    }
-    if is_blank(c) {
-        return in_mode(Mode::Bytes(run));
-    }
-    let d = link_text::digit_of(c);
-    if d < 16 {
-        return in_mode(Mode::Half(run, d));
-    }
-    wrong(Why::NoDigit)
-}
-
-fn in_half(run: u8, high: u8, c: u8) -> Step {
-    let low = link_text::digit_of(c);
-    if low < 16 {
-        if high < 16 {
-            return Step {
-                mode: Mode::Bytes(run),
-                event: Event::Byte(run, link_text::byte_of(high, low)),
-            };
-        }
-    }
-    if c == b'\n' {
-        return wrong(Why::HalfByte);
-    }
-    if c == b'#' {
-        return wrong(Why::HalfByte);
-    }
-    if is_blank(c) {
-        return wrong(Why::HalfByte);
-    }
-    wrong(Why::NoDigit)
-}
-
-// One character more.
-pub fn read_char(mode: Mode, c: u8) -> Step {
-    match mode {
-        Mode::Start => at_start(c),
-        Mode::Word(word) => in_word(word, c),
-        Mode::Bytes(run) => in_bytes(run, c),
-        Mode::Half(run, high) => in_half(run, high, c),
-        Mode::Name => {
-            if c == b'\n' {
-                return in_mode(Mode::Start);
-            }
-            in_mode(Mode::Name)
-        }
-        Mode::Comment => {
-            if c == b'\n' {
-                return in_mode(Mode::Start);
-            }
-            in_mode(Mode::Comment)
-        }
-    }
+// An offset within the longest text, 2,097,152 characters.
+fn at_most(i: usize) -> usize
+    ensures { λ r. ⌜ (r ≡ upTo i) × (r ≤ 2097152) ⌝ }
+{
+    if i < 2097152 { i } else { 2097152 }
 }
 
 // The character at an offset of a text of n characters; behind them the last line ends.
-pub fn char_at(text: &[[u8; 4096]], n: usize, i: usize) -> u8 {
+pub fn char_at(text: &[[u8; 4096]], n: usize, i: usize) -> u8
+    ensures { λ r. ⌜ r ≡ charAt (now (text .entry)) n i ⌝ }
+{
     let k = i / 4096;
     let j = i % 4096;
-    if n <= i {
+    if at_most(n) <= i {
         return b'\n';
     }
     if text.len() <= k {
         return b'\n';
     }
     text[k][j]
-}
-
-// An offset within the longest text, 2,097,152 characters.
-fn at_most(i: usize) -> usize
-    ensures { λ r. ⌜ r ≤ 2097152 ⌝ }
-{
-    if i < 2097152 { i } else { 2097152 }
 }
 
 // What the check of a text found: how many links and runs begin in it, or the first wrong character, by its line and offset.
@@ -233,7 +41,7 @@ pub enum Verdict {
 
 // How many lines an event begins: one for a run or a link.
 fn begins(event: Event) -> usize
-    ensures { λ r. ⌜ r ≤ 1 ⌝ }
+    ensures { λ r. ⌜ (r ≡ beginning event) × (r ≤ 1) ⌝ }
 {
     match event {
         Event::Nothing => 0,
@@ -244,8 +52,17 @@ fn begins(event: Event) -> usize
     }
 }
 
+// 1 for the end of a line.
+fn is_end(c: u8) -> usize
+    ensures { λ r. ⌜ (r ≡ ended c) × (r ≤ 1) ⌝ }
+{
+    if c == b'\n' { 1 } else { 0 }
+}
+
 // Reads a text of n characters to its end.
-pub fn check_text(text: &[[u8; 4096]], n: usize) -> Verdict {
+pub fn check_text(text: &[[u8; 4096]], n: usize) -> Verdict
+    ensures { λ r. ⌜ r ≡ verdictOn (textFrom (now (text .entry)) n 0) ⌝ }
+{
     let mut mode = Mode::Start;
     let mut line: usize = 1;
     let mut begun: usize = 0;
@@ -267,13 +84,6 @@ pub fn check_text(text: &[[u8; 4096]], n: usize) -> Verdict {
     Verdict::Fine { begun }
 }
 
-// 1 for the end of a line.
-fn is_end(c: u8) -> usize
-    ensures { λ r. ⌜ r ≤ 1 ⌝ }
-{
-    if c == b'\n' { 1 } else { 0 }
-}
-
 // A part of a text that belongs to one link: up to where the next one is named, or past the end; whether it has lines of A, B or C, and lines of BGP-LS.
 pub struct Section {
     pub to: usize,
@@ -282,11 +92,15 @@ pub struct Section {
 }
 
 // The mode at the front of a part: the first begins a line, the others a name.
-fn first_mode(from: usize) -> Mode {
+fn first_mode(from: usize) -> Mode
+    ensures { λ r. ⌜ r ≡ firstMode from ⌝ }
+{
     if from == 0 { Mode::Start } else { Mode::Name }
 }
 
-fn begins_link(event: Event) -> bool {
+fn begins_link(event: Event) -> bool
+    ensures { λ r. ⌜ r ≡ ofLink event ⌝ }
+{
     match event {
         Event::Nothing => false,
         Event::Byte(_, _) => false,
@@ -296,7 +110,9 @@ fn begins_link(event: Event) -> bool {
     }
 }
 
-fn begins_run(event: Event) -> bool {
+fn begins_run(event: Event) -> bool
+    ensures { λ r. ⌜ r ≡ ofRun event ⌝ }
+{
     match event {
         Event::Nothing => false,
         Event::Byte(_, _) => false,
@@ -307,7 +123,9 @@ fn begins_run(event: Event) -> bool {
 }
 
 // The part that begins at an offset.
-pub fn section_at(text: &[[u8; 4096]], n: usize, from: usize) -> Section {
+pub fn section_at(text: &[[u8; 4096]], n: usize, from: usize) -> Section
+    ensures { λ r. ⌜ r ≡ partAt from (textFrom (now (text .entry)) n from) ⌝ }
+{
     let mut mode = first_mode(from);
     let mut link = false;
     let mut run = false;
@@ -331,7 +149,7 @@ pub fn section_at(text: &[[u8; 4096]], n: usize, from: usize) -> Section {
 // A byte of the run goes to the k-th place, if there is one; answers how many bytes the run has then.
 fn keep_byte(out: &mut [u8], k: usize, run: u8, event: Event) -> usize
     requires { ⌜ k ≤ 2097152 ⌝ }
-    ensures { λ r. ⌜ r ≤ k + 1 ⌝ }
+    ensures { λ r. ⌜ (r ≡ k + length (byteOf run event)) × (now (out .exit) ≡ keptByte (now (out .entry)) k (byteOf run event)) ⌝ }
 {
     match event {
         Event::Byte(of, b) => {
@@ -359,7 +177,9 @@ pub fn decode(
     to: usize,
     run: u8,
     out: &mut [u8],
-) -> usize {
+) -> usize
+    ensures { λ r. ⌜ Decoded (runBytes run from (partOf (now (text .entry)) n from to)) (now (out .entry)) r (now (out .exit)) ⌝ }
+{
     let mut mode = first_mode(from);
     let mut k: usize = 0;
     let mut i = from;
@@ -376,12 +196,16 @@ pub fn decode(
 }
 
 // Whether a character ends a link's name.
-fn ends_name(c: u8) -> bool {
-    c == b'\n' || c == b'\r' || c == b'#'
+fn ends_name(c: u8) -> bool
+    ensures { λ r. ⌜ r ≡ endsName c ⌝ }
+{
+    (c == b'\n') | (c == b'\r') | (c == b'#')
 }
 
 // A character as a terminal can show it.
-pub fn shown(c: u8) -> u8 {
+pub fn shown(c: u8) -> u8
+    ensures { λ r. ⌜ r ≡ shownAs c ⌝ }
+{
     if c < 32 {
         return b'?';
     }
@@ -391,11 +215,13 @@ pub fn shown(c: u8) -> u8 {
     c
 }
 
-// The name of the link whose part begins at an offset, written into a line: at most 80 characters.
-pub fn add_name(text: &[[u8; 4096]], n: usize, from: usize, line: &mut [u8], at: usize) -> usize {
+// The name that begins at an offset, written into a line: at most 80 characters.
+fn add_shown(text: &[[u8; 4096]], n: usize, first: usize, line: &mut [u8], at: usize) -> usize
+    requires { ⌜ first ≤ 2097153 ⌝ }
+    ensures { λ r. ⌜ WroteFront (now (line .entry)) at (shownName (now (text .entry)) n first 80) r (now (line .exit)) ⌝ }
+{
     let mut end = at;
     let mut k: usize = 0;
-    let first = at_most(from) + 1;
     while k < 80 {
         let c = char_at(text, n, first + k);
         if ends_name(c) {
@@ -406,4 +232,15 @@ pub fn add_name(text: &[[u8; 4096]], n: usize, from: usize, line: &mut [u8], at:
         k += 1;
     }
     end
+}
+
+// The name of the link whose part begins at an offset, written into a line.
+pub fn add_name(text: &[[u8; 4096]], n: usize, from: usize, line: &mut [u8], at: usize) -> usize
+    ensures { λ r. ⌜ WroteFront (now (line .entry)) at (nameAt (now (text .entry)) n from) r (now (line .exit)) ⌝ }
+{
+    let front = at_most(from);
+    if ends_name(char_at(text, n, front)) {
+        return at;
+    }
+    add_shown(text, n, front + 1, line, at)
 }

@@ -1,14 +1,18 @@
 // What a link or a BGP-LS run gives each subject, asked through the proved entries, and the groups of named applications with equal sets.
 // `link` says which of the two is lent: a link as its runs A, B and C, or a BGP-LS run in the place of A.
 // A subject is a number: an application's, standard 0 to 63 and user from 64 on, or 128 for the general set.
-ghost use Prim.Native.Nat.{_<_, _≤_};
-ghost use lib.ListN.{length};
+ghost use mathlib.Core.Path.{_≡_};
+ghost use Rattle.linkstate.specs.Questions.{value, listNamed};
+ghost use Rattle.replies.specs.Told.{subjectOf, toldReading, toldAnswer, toldNamed};
+ghost use Rattle.link_groups.specs.Groups.{source, subject, codeAt, countIn, counted, AskedSrlgs, leadIn, isLead};
 use replies::Answer;
 use replies::Named;
 use replies::Reading;
 use replies::Subject;
 
-pub fn subject_of(n: u32) -> Subject {
+pub fn subject_of(n: u32) -> Subject
+    ensures { λ r. ⌜ subjectOf r ≡ subject n ⌝ }
+{
     if n < 64 {
         return Subject::Standard(n);
     }
@@ -26,14 +30,18 @@ pub fn value_of<'a, 'b, 'c>(
     c: &'c [u8],
     n: u32,
     code: usize,
-) -> &'a [u8] {
+) -> &'a [u8]
+    ensures { λ r. ⌜ now r ≡ value (source link (now (a .entry)) (now (b .entry)) (now (c .entry))) (subject n) code ⌝ }
+{
     if link {
         return isis_link::value(a, b, c, subject_of(n), code);
     }
     bgpls_reader::value(a, subject_of(n), code)
 }
 
-fn count_in(reading: Reading) -> usize {
+fn count_in(reading: Reading) -> usize
+    ensures { λ r. ⌜ r ≡ countIn (toldReading reading) ⌝ }
+{
     match reading {
         Reading::Number(_) => 0,
         Reading::Pair(_, _) => 0,
@@ -46,7 +54,9 @@ fn count_in(reading: Reading) -> usize {
     }
 }
 
-fn count_of(answer: Answer) -> usize {
+fn count_of(answer: Answer) -> usize
+    ensures { λ r. ⌜ r ≡ counted (toldAnswer answer) ⌝ }
+{
     match answer {
         Answer::Absent => 0,
         Answer::Found(reading) => count_in(reading),
@@ -56,16 +66,8 @@ fn count_of(answer: Answer) -> usize {
 
 // How many SRLGs a subject has; they stand at the front of the list.
 pub fn srlgs_of(link: bool, a: &[u8], b: &[u8], c: &[u8], n: u32, list: &mut [u32]) -> usize
-    ensures { λ r. ⌜ r ≤ length (now (list .entry)) ⌝ }
+    ensures { λ r. ⌜ AskedSrlgs (source link (now (a .entry)) (now (b .entry)) (now (c .entry))) (subject n) (now (list .entry)) r (now (list .exit)) ⌝ }
 {
-    let k = ask_srlgs(link, a, b, c, n, list);
-    if list.len() < k {
-        return 0;
-    }
-    k
-}
-
-fn ask_srlgs(link: bool, a: &[u8], b: &[u8], c: &[u8], n: u32, list: &mut [u32]) -> usize {
     if link {
         return count_of(isis_link::ask(a, b, c, subject_of(n), 1096, list));
     }
@@ -73,7 +75,9 @@ fn ask_srlgs(link: bool, a: &[u8], b: &[u8], c: &[u8], n: u32, list: &mut [u32])
 }
 
 // The applications that are named.
-pub fn named_in(link: bool, a: &[u8], b: &[u8], c: &[u8]) -> Named {
+pub fn named_in(link: bool, a: &[u8], b: &[u8], c: &[u8]) -> Named
+    ensures { λ r. ⌜ toldNamed r ≡ listNamed (source link (now (a .entry)) (now (b .entry)) (now (c .entry))) ⌝ }
+{
     if link {
         return isis_link::named(a, b, c);
     }
@@ -81,7 +85,9 @@ pub fn named_in(link: bool, a: &[u8], b: &[u8], c: &[u8]) -> Named {
 }
 
 // The kinds of applications, in the order of their codes.
-pub fn code_of(k: usize) -> usize {
+pub fn code_of(k: usize) -> usize
+    ensures { λ r. ⌜ r ≡ codeAt k ⌝ }
+{
     match k {
         0 => 1088,
         1 => 1092,
@@ -163,7 +169,9 @@ fn same_set(
 }
 
 // The first application of the group that n is in, from a table of such; 128 where it is not named.
-pub fn lead_of(leads: &[u32; 128], n: u32) -> u32 {
+pub fn lead_of(leads: &[u32; 128], n: u32) -> u32
+    ensures { λ r. ⌜ r ≡ leadIn (now (leads .entry)) n ⌝ }
+{
     if n < 128 {
         return leads[n as usize];
     }
@@ -171,7 +179,9 @@ pub fn lead_of(leads: &[u32; 128], n: u32) -> u32 {
 }
 
 // Whether n is the first of its group.
-pub fn is_lead(leads: &[u32; 128], n: u32) -> bool {
+pub fn is_lead(leads: &[u32; 128], n: u32) -> bool
+    ensures { λ r. ⌜ r ≡ isLead (now (leads .entry)) n ⌝ }
+{
     if n < 128 {
         return leads[n as usize] == n;
     }

@@ -2,9 +2,9 @@
 ghost use mathlib.Core.Path.{_≡_};
 ghost use Prim.Native.Nat.{_+_, _<_, _≤_};
 ghost use lib.ListN.{length};
+use link_chars::Why;
 use link_file::Section;
 use link_file::Verdict;
-use link_file::Why;
 use link_text::add_decimal;
 use link_text::add_text;
 use link_text::pad_to;

@@ -2,6 +2,8 @@
 ghost use mathlib.Core.Path.{_≡_};
 ghost use Prim.Native.Nat.{_<_, _≤_};
 ghost use lib.ListN.{length};
+ghost use Rattle.link_text.specs.Text.{Wrote};
+ghost use Rattle.show_lines.specs.Lines.{bytesInHex, inSets};
 use libc::STDOUT_FILENO;
 use link_text::add_hex;
 use link_text::add_text;
@@ -16,7 +18,9 @@ pub fn say_line(line: &mut [u8], at: usize) {
 }
 
 // Bytes in hex, a blank before each.
-pub fn add_bytes(line: &mut [u8], at: usize, s: &[u8]) -> usize {
+pub fn add_bytes(line: &mut [u8], at: usize, s: &[u8]) -> usize
+    ensures { λ r. ⌜ Wrote (now (line .entry)) at (bytesInHex (now (s .entry))) r (now (line .exit)) ⌝ }
+{
     let mut end = at;
     let mut i = 0;
     while i < s.len() {
@@ -63,6 +67,7 @@ fn say_some_bytes(line: &mut [u8], at: usize, column: usize, s: &[u8]) {
 // Whether an application, 0 to 127, is in two sets.
 pub fn is_in(standard: u64, user: u64, n: u32) -> bool
     requires { ⌜ n < 128 ⌝ }
+    ensures { λ r. ⌜ r ≡ inSets standard user n ⌝ }
 {
     if n < 64 {
         return masks::has(standard, n);

@@ -2,11 +2,11 @@
 // What is lent, and the numbers of subjects, are as in `link_groups`.
 ghost use Prim.Native.Nat.{_<_, _≤_};
 ghost use lib.ListN.{length};
+use link_elements::Spot;
 use link_groups::srlgs_of;
 use link_groups::value_of;
 use link_sources::How;
 use link_sources::Source;
-use link_sources::Spot;
 use link_text::add_decimal;
 use link_text::add_text;
 use link_text::pad_to;
@@ -62,7 +62,7 @@ fn add_range(line: &mut [u8], at: usize, least: u32, most: u32) -> usize {
     let a = add_decimal(line, at, (least % 16777216) as u64);
     let b = add_text(line, a, b" to ");
     let flag = least / 2147483648 * 2147483648;
-    link_words::add_number(line, b, 1114, most % 16777216 + flag)
+    link_values::add_number(line, b, 1114, most % 16777216 + flag)
 }
 
 // What stands in the value's column.
@@ -75,14 +75,14 @@ fn add_value(line: &mut [u8], at: usize, code: usize, v: &[u8]) -> usize {
         1115 => add_range(
             line,
             at,
-            link_words::word_at(v, 0),
-            link_words::word_at(v, 4),
+            link_values::word_at(v, 0),
+            link_values::word_at(v, 4),
         ),
         1173 => {
             let a = add_decimal(line, at, (v.len() / 4) as u64);
             add_text(line, a, b" words of 32 bits:")
         }
-        _ => link_words::add_number(line, at, code, link_words::number_of(v)),
+        _ => link_values::add_number(line, at, code, link_values::number_of(v)),
     }
 }
 
@@ -104,7 +104,7 @@ fn say_priority(line: &mut [u8], v: &[u8], i: usize)
     let a = pad_to(line, 0, 24);
     let b = add_decimal(line, a, i as u64);
     let c = add_text(line, b, b": ");
-    let d = link_words::add_bandwidth(line, c, link_words::word_at(v, i * 4));
+    let d = link_values::add_bandwidth(line, c, link_values::word_at(v, i * 4));
     say_line(line, d);
 }
 
@@ -129,7 +129,7 @@ fn add_listed(line: &mut [u8], at: usize, x: u32, hex: bool) -> usize {
 
 fn add_item(line: &mut [u8], at: usize, x: u32, hex: bool) -> usize {
     if hex {
-        return link_words::add_word(line, at, x);
+        return link_values::add_word(line, at, x);
     }
     add_decimal(line, at, x as u64)
 }
@@ -139,7 +139,7 @@ fn say_words(line: &mut [u8], v: &[u8]) {
     let mut end: usize = 0;
     let mut i: usize = 0;
     while i < v.len() / 4 {
-        end = add_listed(line, end, link_words::word_at(v, i * 4), true);
+        end = add_listed(line, end, link_values::word_at(v, i * 4), true);
         i += 1;
     }
     say_line(line, end);
@@ -274,6 +274,7 @@ fn add_how(line: &mut [u8], at: usize, link: bool, code: usize, how: How, holder
         How::Legacy => add_legacy(line, at, code),
         How::Carried => add_holder(line, at, link, code, holder),
         How::Top => add_text(line, at, b"top level"),
+        How::Refused => at,
     }
 }
 
@@ -314,6 +315,7 @@ fn add_why_not(
         ),
         How::Carried => add_text(line, at, b"none"),
         How::Top => add_text(line, at, b"none at the top level"),
+        How::Refused => at,
     }
 }
 

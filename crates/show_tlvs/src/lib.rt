@@ -77,7 +77,7 @@ fn say_list(line: &mut [u8], s: &[u8], base: usize)
 {
     let mut at = 0;
     while at < s.len() {
-        let next = link_sources::end_of(s, Run::BgpLs, at);
+        let next = link_elements::end_of(s, Run::BgpLs, at);
         if next - at < 4 {
             return;
         }
@@ -166,7 +166,7 @@ pub fn say_tlvs(line: &mut [u8], s: &[u8])
 {
     let mut at = 0;
     while at < s.len() {
-        let next = link_sources::end_of(s, Run::BgpLs, at);
+        let next = link_elements::end_of(s, Run::BgpLs, at);
         if next - at < 4 {
             return;
         }

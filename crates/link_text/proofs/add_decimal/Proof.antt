@@ -1,5 +1,8 @@
 -- `link_text::add_decimal` meets its contract.
 -- Assumes nothing.
+use mathlib.Core.Path.{_∙_}
+use native.Mathlib.Omega.{arith}
+use Rattle.link_text.proofs.Laws.{decimal-is}
 use borrow.Author.Needs.{needs}
 use Rattle.link_text.proofs.add_decimal.Statement.{statement}
 use Rattle.link_text.proofs.add_decimal.Tie as tie
@@ -20,8 +23,9 @@ same-length : tie.Need-same-length
 same-length c = search needs
 
 returns : tie.Need-returns
-returns c = let d = c .before .before .before .before .before .decimal in
-    record { count = d .result; fewest = d .ensures .1 .0; wrote = rw (d .ensures .1 .1) at (c .before .before .add-text .ensures) }
+returns c =
+    let d = c .before .before .before .before .before .decimal in
+    rw (d .ensures .1 .1 ∙ decimal-is (c .before .before .before .before .before .before .before .before .args .n) (d .result) (omega arith) (d .ensures .1 .0)) at (c .before .before .add-text .ensures)
 
 pub add-decimal-spec : {M : Type 1} → statement M
 add-decimal-spec =

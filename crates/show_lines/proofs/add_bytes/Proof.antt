@@ -1,5 +1,7 @@
--- `show_lines::add_bytes` is safe and ends.
+-- `show_lines::add_bytes` meets its contract.
 -- Assumes nothing.
+use denote.Ref.{now}
+use Rattle.show_lines.proofs.Laws.{Written, none-yet, one-more, all-of}
 use borrow.Author.Needs.{needs}
 use Prim.Native.Nat.{_-_, _≤_}
 use mathlib.Core.Path.{_≡_}
@@ -8,13 +10,13 @@ use Rattle.show_lines.proofs.add_bytes.Statement.{statement}
 use Rattle.show_lines.proofs.add_bytes.Tie as tie
 
 abbrev Inv-loop : tie.InvT-loop
-Inv-loop line₀ at s end₀ i₀ t7 line end i = (i ≤ length s) × (length line ≡ length line₀)
+Inv-loop line₀ at s end₀ i₀ t7 line end i = (i ≤ length s) × (length line ≡ length line₀) × Written line₀ end₀ s i end line
 
 abbrev μ-loop : tie.MeasureT-loop
 μ-loop line₀ at s end₀ i₀ t7 line end i = length s - i
 
 loop-holds : tie.Need-loop-holds Inv-loop μ-loop
-loop-holds c = search needs
+loop-holds c = let a = c .before .before .args in (search needs, search needs, none-yet (now (a .line)) (a .at) (now (a .s)))
 
 slice-aggregate-add-text : tie.Need-slice-aggregate-add-text Inv-loop μ-loop
 slice-aggregate-add-text c = search needs
@@ -35,13 +37,13 @@ loop-less : tie.Need-loop-less Inv-loop μ-loop
 loop-less c = search needs
 
 loop-again : tie.Need-loop-again Inv-loop μ-loop
-loop-again c = search needs
+loop-again c = let l = c .before .before .before .before .before .before .before .before .before .before .before .loop in (search needs, search needs, one-more (now (c .before .before .before .before .before .before .before .before .before .before .before .before .before .before .args .s)) (l .i) (c .before .before .before .before .before .before .before .before .before .before .loop-test .taken) (l .inv .2) (c .before .before .before .before .before .before .before .add-text .ensures) (c .before .before .add-hex .ensures))
 
 same-length : tie.Need-same-length Inv-loop μ-loop
 same-length c = search needs
 
 returns : tie.Need-returns Inv-loop μ-loop
-returns c = search needs
+returns c = let l = c .before .loop in all-of (now (c .before .before .before .before .args .s)) (l .i) (c .loop-test .left) (l .inv .2)
 
 pub add-bytes-spec : {M : Type 1} → statement M
 add-bytes-spec =

@@ -1,0 +1,54 @@
+-- Each arm is one test of the definitions.
+use Rattle.link_elements.proofs.Tests.{passes-names, passes-l, passes-carries, passes-general}
+use borrow.Author.Needs.{needs}
+use Rattle.link_elements.proofs.passes.Statement.{statement}
+use Rattle.link_elements.proofs.passes.Tie as tie
+
+enum-known-test : tie.Need-enum-known-test
+enum-known-test c = search needs
+
+names-requires : tie.Need-names-requires
+names-requires c κs = search needs
+
+enum-known-test-2 : tie.Need-enum-known-test-2
+enum-known-test-2 c = search needs
+
+names-requires-2 : tie.Need-names-requires-2
+names-requires-2 c κs = search needs
+
+enum-known-test-3 : tie.Need-enum-known-test-3
+enum-known-test-3 c = search needs
+
+names-requires-3 : tie.Need-names-requires-3
+names-requires-3 c κs = search needs
+
+enum-told : tie.Need-enum-told
+enum-told c = search needs
+
+returns : tie.Need-returns
+returns c = passes-names _ _ _ _ _ _ _ (c .names .ensures) (c .before .before .test .given .1)
+
+returns-2 : tie.Need-returns-2
+returns-2 c = passes-l _ _ _ _ _ _ _ (c .names2 .ensures) (c .before .before .test2 .given .1)
+
+returns-3 : tie.Need-returns-3
+returns-3 c = passes-carries _ _ _ _ _ _ _ (c .names3 .ensures) (c .before .before .test3 .given .1)
+
+returns-4 : tie.Need-returns-4
+returns-4 c = passes-general _ _ _ _ _ (c .enum-told .given .1)
+
+pub passes-spec : {M : Type 1} → statement M
+passes-spec =
+    tie.close
+    (tie.spec
+    enum-known-test
+    names-requires
+    enum-known-test-2
+    names-requires-2
+    enum-known-test-3
+    names-requires-3
+    enum-told
+    returns
+    returns-2
+    returns-3
+    returns-4)

@@ -1,0 +1,10 @@
+pub mod Named
+pub mod Carried
+pub mod Rules
+pub mod Sources
+pub mod Taken
+pub mod Held
+pub mod Telling
+pub mod TellingB
+pub mod TellingRun
+pub mod Vectors

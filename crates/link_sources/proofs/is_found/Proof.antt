@@ -1,0 +1,20 @@
+-- By the case.
+use Rattle.link_sources.proofs.Sources.{found-at, found-nowhere}
+use borrow.Author.Needs.{needs}
+use Rattle.link_sources.proofs.is_found.Statement.{statement}
+use Rattle.link_sources.proofs.is_found.Tie as tie
+
+enum-told : tie.Need-enum-told
+enum-told c = search needs
+
+enum-told-2 : tie.Need-enum-told-2
+enum-told-2 c = search needs
+
+returns : tie.Need-returns
+returns c = found-at _ _ (c .enum-told .given .1)
+
+returns-2 : tie.Need-returns-2
+returns-2 c = found-nowhere _ (c .enum-told2 .given .1)
+
+pub is-found-spec : {M : Type 1} → statement M
+is-found-spec = tie.close (tie.spec enum-told enum-told-2 returns returns-2)
