@@ -30,7 +30,7 @@ use Rattle.link_chars.specs.Steps.{endsWord, atStart, eventOf, wordEnds, inWord
 use Rattle.link_file.specs.declared.Verdict.{Verdict}
 use Rattle.link_file.specs.declared.Verdict.the-variants as Verdicts
 use Rattle.link_file.specs.declared.Section.{Section}
-use Rattle.link_file.specs.Texts.{upTo, charAt, chars, textFrom, partOf, shownAs, endsName, untilEnd, shownName, nameAt, front, WroteFront}
+use Rattle.link_file.specs.Texts.{upTo, charAt, chars, textFrom, partOf, endsIn, lineAt, shownAs, endsName, untilEnd, shownName, nameAt, front, WroteFront}
 use Rattle.link_file.specs.Lines.{Item, itemsOf}
 use Rattle.link_file.specs.Questions.{beginning, wrongOr, verdictOf, verdictOn, ofLink, ofRun, linkOr, section, sectionOf, partAt, byteOf, bytesOf, runBytes, Decoded}
 use Rattle.link_file.specs.Reader.{note, ended, itemsFrom, firstMode, keptByte}
@@ -457,6 +457,22 @@ pub writing-next : {line₀ : List ℕ} {at : ℕ} {all line : List ℕ} {end : 
 writing-next {line = line} {end = end} w then to c cs x e =
     let t = next line then end to c cs x in
     record { level = t .0 ∙ w .level; same-end = t .1 ∙ rw e at (w .same-end); same-line = t .2 ∙ rw e at (w .same-line) }
+
+-- ---- lines counted
+
+module _ (blocks : List (List ℕ)) (n : ℕ) where
+  pub lines-begin : (at end : ℕ) → end ≡ upTo at → 1 + endsIn (chars blocks n 0 (end - 0)) ≡ lineAt blocks n at
+  unfolding lineAt
+  lines-begin at end e = let t : end - 0 ≡ upTo at = omega arith in rw t
+
+  pub lines-next : (i end line c e whole : ℕ) → i < end → c ≡ charAt blocks n i → e ≡ ended c → line + endsIn (chars blocks n i (end - i)) ≡ whole
+      → (line + e) + endsIn (chars blocks n (i + 1) (end - (i + 1))) ≡ whole
+  unfolding endsIn ended
+  lines-next i end line c e whole h f g w = let v = rw (chars-next blocks n i end h, ← f, ← g) at w in omega arith
+
+  pub lines-end : (i end line whole : ℕ) → end ≤ i → line + endsIn (chars blocks n i (end - i)) ≡ whole → line ≡ whole
+  unfolding endsIn
+  lines-end i end line whole h w = let v = rw (chars-none blocks n i end h) at w in omega arith
 
 -- ---- where a name begins
 

@@ -36,6 +36,14 @@ abbrev pub Full : List (List ℕ) → Type 0
 Full [] = Unit {0}
 Full (b ∷ bs) = (length b ≡ 4096) × Full bs
 
+-- How many lines end in a text; and the number of the line that an offset is in, the first being 1.
+unfoldable pub endsIn : List ℕ → ℕ
+endsIn [] = 0
+endsIn (c ∷ cs) = cond (eqb c 10) 1 0 + endsIn cs
+
+unfoldable pub lineAt : List (List ℕ) → ℕ → ℕ → ℕ
+lineAt blocks n at = 1 + endsIn (chars blocks n 0 (upTo at))
+
 -- A character as a terminal can show it.
 unfoldable pub shownAs : ℕ → ℕ
 shownAs c = cond (ltb c 32) 63 (cond (ltb 126 c) 63 c)

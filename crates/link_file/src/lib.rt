@@ -3,7 +3,7 @@
 ghost use mathlib.Core.Path.{_≡_};
 ghost use Prim.Native.Nat.{_+_, _≤_};
 ghost use lib.ListN.{length};
-ghost use Rattle.link_file.specs.Texts.{upTo, charAt, textFrom, partOf, shownAs, endsName, shownName, nameAt, WroteFront};
+ghost use Rattle.link_file.specs.Texts.{upTo, charAt, textFrom, partOf, lineAt, shownAs, endsName, shownName, nameAt, WroteFront};
 ghost use Rattle.link_file.specs.Questions.{beginning, ofLink, ofRun, byteOf, verdictOn, partAt, runBytes, Decoded};
 ghost use Rattle.link_file.specs.Reader.{ended, firstMode, keptByte};
 use link_chars::Event;
@@ -57,6 +57,20 @@ fn is_end(c: u8) -> usize
     ensures { λ r. ⌜ (r ≡ ended c) × (r ≤ 1) ⌝ }
 {
     if c == b'\n' { 1 } else { 0 }
+}
+
+// The number of the line that an offset of a text of n characters is in.
+pub fn line_at(text: &[[u8; 4096]], n: usize, at: usize) -> usize
+    ensures { λ r. ⌜ r ≡ lineAt (now (text .entry)) n at ⌝ }
+{
+    let mut line: usize = 1;
+    let mut i: usize = 0;
+    let end = at_most(at);
+    while i < end {
+        line += is_end(char_at(text, n, i));
+        i += 1;
+    }
+    line
 }
 
 // Reads a text of n characters to its end.

@@ -2,9 +2,13 @@
 // `link` says which of the two is lent: a link as its runs A, B and C, or a BGP-LS run in the place of A.
 // A subject is a number: an application's, standard 0 to 63 and user from 64 on, or 128 for the general set.
 ghost use mathlib.Core.Path.{_≡_};
+ghost use mathlib.Core.List.{List};
+ghost use Prim.Native.Nat.{ℕ, _-_, _<_, _≤_};
+ghost use lib.ListN.{length, getD, take};
+ghost use Rattle.linkstate.specs.Lists.{sameBytes};
 ghost use Rattle.linkstate.specs.Questions.{value, listNamed};
 ghost use Rattle.replies.specs.Told.{subjectOf, toldReading, toldAnswer, toldNamed};
-ghost use Rattle.link_groups.specs.Groups.{source, subject, codeAt, countIn, counted, AskedSrlgs, leadIn, isLead};
+ghost use Rattle.link_groups.specs.Groups.{source, subject, codeAt, countIn, counted, AskedSrlgs, leadIn, isLead, sameValue, sameValues, srlgsWithin, sameSets, seek, shares, leadOf};
 use replies::Answer;
 use replies::Named;
 use replies::Reading;
@@ -103,7 +107,9 @@ pub fn code_of(k: usize) -> usize
     }
 }
 
-fn same_value(link: bool, a: &[u8], b: &[u8], c: &[u8], m: u32, n: u32, code: usize) -> bool {
+fn same_value(link: bool, a: &[u8], b: &[u8], c: &[u8], m: u32, n: u32, code: usize) -> bool
+    ensures { λ r. ⌜ r ≡ sameValue (source link (now (a .entry)) (now (b .entry)) (now (c .entry))) (subject m) (subject n) code ⌝ }
+{
     octets::same(
         value_of(link, a, b, c, m, code),
         value_of(link, a, b, c, n, code),
@@ -111,7 +117,9 @@ fn same_value(link: bool, a: &[u8], b: &[u8], c: &[u8], m: u32, n: u32, code: us
 }
 
 // Whether two subjects have equal values of every kind but SRLG.
-fn same_values(link: bool, a: &[u8], b: &[u8], c: &[u8], m: u32, n: u32) -> bool {
+fn same_values(link: bool, a: &[u8], b: &[u8], c: &[u8], m: u32, n: u32) -> bool
+    ensures { λ r. ⌜ r ≡ sameValues (source link (now (a .entry)) (now (b .entry)) (now (c .entry))) (subject m) (subject n) ⌝ }
+{
     let mut k: usize = 0;
     while k < 11 {
         if !same_value(link, a, b, c, m, n, code_of(k)) {
@@ -122,7 +130,10 @@ fn same_values(link: bool, a: &[u8], b: &[u8], c: &[u8], m: u32, n: u32) -> bool
     true
 }
 
-fn same_words(x: &[u32], y: &[u32]) -> bool {
+// Whether two lists of numbers are the same.
+fn same_words(x: &[u32], y: &[u32]) -> bool
+    ensures { λ r. ⌜ r ≡ sameBytes (now (x .entry)) (now (y .entry)) ⌝ }
+{
     if x.len() != y.len() {
         return false;
     }
@@ -136,6 +147,15 @@ fn same_words(x: &[u32], y: &[u32]) -> bool {
     true
 }
 
+// Whether the first k numbers of a list and the first l of another are the same.
+fn same_fronts(xs: &[u32], k: usize, ys: &[u32], l: usize) -> bool
+    requires { ⌜ (k ≤ length (now xs)) × (l ≤ length (now ys)) ⌝ }
+    ensures { λ r. ⌜ r ≡ sameBytes (take k (now (xs .entry))) (take l (now (ys .entry))) ⌝ }
+{
+    same_words(&xs[0..k], &ys[0..l])
+}
+
+// Whether two subjects have the same SRLGs; the lists are room for them.
 fn same_srlgs(
     link: bool,
     a: &[u8],
@@ -145,10 +165,12 @@ fn same_srlgs(
     n: u32,
     xs: &mut [u32],
     ys: &mut [u32],
-) -> bool {
+) -> bool
+    ensures { λ r. ⌜ r ≡ sameBytes (srlgsWithin (source link (now (a .entry)) (now (b .entry)) (now (c .entry))) (subject m) (length (now (xs .entry)))) (srlgsWithin (source link (now (a .entry)) (now (b .entry)) (now (c .entry))) (subject n) (length (now (ys .entry)))) ⌝ }
+{
     let k = srlgs_of(link, a, b, c, m, xs);
     let l = srlgs_of(link, a, b, c, n, ys);
-    same_words(&xs[0..k], &ys[0..l])
+    same_fronts(xs, k, ys, l)
 }
 
 // Whether two subjects have equal sets.
@@ -161,7 +183,9 @@ fn same_set(
     n: u32,
     xs: &mut [u32],
     ys: &mut [u32],
-) -> bool {
+) -> bool
+    ensures { λ r. ⌜ r ≡ sameSets (source link (now (a .entry)) (now (b .entry)) (now (c .entry))) (subject m) (subject n) (length (now (xs .entry))) (length (now (ys .entry))) ⌝ }
+{
     if !same_values(link, a, b, c, m, n) {
         return false;
     }
@@ -188,19 +212,23 @@ pub fn is_lead(leads: &[u32; 128], n: u32) -> bool
     false
 }
 
-// Whether m is the first of a group, and n has the same set.
-fn leads_to(
+// Whether m is in the sets of applications, and has the set of n.
+fn shares_set(
     link: bool,
     a: &[u8],
     b: &[u8],
     c: &[u8],
+    standard: u64,
+    user: u64,
     m: u32,
     n: u32,
-    leads: &[u32; 128],
     xs: &mut [u32],
     ys: &mut [u32],
-) -> bool {
-    if !is_lead(leads, m) {
+) -> bool
+    requires { ⌜ m < 128 ⌝ }
+    ensures { λ r. ⌜ r ≡ shares (source link (now (a .entry)) (now (b .entry)) (now (c .entry))) standard user (length (now (xs .entry))) (length (now (ys .entry))) n m ⌝ }
+{
+    if !show_lines::is_in(standard, user, m) {
         return false;
     }
     same_set(link, a, b, c, m, n, xs, ys)
@@ -212,14 +240,18 @@ fn find_lead(
     a: &[u8],
     b: &[u8],
     c: &[u8],
+    standard: u64,
+    user: u64,
     n: u32,
-    leads: &[u32; 128],
     xs: &mut [u32],
     ys: &mut [u32],
-) -> u32 {
+) -> u32
+    requires { ⌜ n < 128 ⌝ }
+    ensures { λ r. ⌜ r ≡ seek (shares (source link (now (a .entry)) (now (b .entry)) (now (c .entry))) standard user (length (now (xs .entry))) (length (now (ys .entry))) n) 1 (n - 1) n ⌝ }
+{
     let mut m: u32 = 1;
     while m < n {
-        if leads_to(link, a, b, c, m, n, leads, xs, ys) {
+        if shares_set(link, a, b, c, standard, user, m, n, xs, ys) {
             return m;
         }
         m += 1;
@@ -227,40 +259,46 @@ fn find_lead(
     n
 }
 
+// The first application of the group of n; 128 where n is in neither set.
 fn lead_if_named(
-    link: bool,
-    a: &[u8],
-    b: &[u8],
-    c: &[u8],
-    n: u32,
-    named: bool,
-    leads: &[u32; 128],
-    xs: &mut [u32],
-    ys: &mut [u32],
-) -> u32 {
-    if named {
-        return find_lead(link, a, b, c, n, leads, xs, ys);
-    }
-    128
-}
-
-// The table of groups: for each named application the first of its group, 128 for the others.
-pub fn fill_leads(
     link: bool,
     a: &[u8],
     b: &[u8],
     c: &[u8],
     standard: u64,
     user: u64,
-    leads: &mut [u32; 128],
+    n: u32,
     xs: &mut [u32],
     ys: &mut [u32],
-) {
+) -> u32
+    requires { ⌜ n < 128 ⌝ }
+    ensures { λ r. ⌜ r ≡ leadOf (source link (now (a .entry)) (now (b .entry)) (now (c .entry))) standard user (length (now (xs .entry))) (length (now (ys .entry))) n ⌝ }
+{
+    if show_lines::is_in(standard, user, n) {
+        return find_lead(link, a, b, c, standard, user, n, xs, ys);
+    }
+    128
+}
+
+// The table of groups: for each application of two sets the first of its group, 128 for the others.
+pub fn leads_in(
+    link: bool,
+    a: &[u8],
+    b: &[u8],
+    c: &[u8],
+    standard: u64,
+    user: u64,
+    xs: &mut [u32],
+    ys: &mut [u32],
+) -> [u32; 128]
+    ensures { λ r. ⌜ ((n : ℕ) → n < 128 → getD r n 0 ≡ leadOf (source link (now (a .entry)) (now (b .entry)) (now (c .entry))) standard user (length (now (xs .entry))) (length (now (ys .entry))) n) ⌝ }
+{
+    let mut leads = [128u32; 128];
     let mut n: u32 = 0;
     while n < 128 {
-        let named = show_lines::is_in(standard, user, n);
-        let lead = lead_if_named(link, a, b, c, n, named, leads, xs, ys);
+        let lead = lead_if_named(link, a, b, c, standard, user, n, xs, ys);
         leads[n as usize] = lead;
         n += 1;
     }
+    leads
 }

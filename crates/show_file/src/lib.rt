@@ -138,10 +138,9 @@ fn say_meaning_with(
     xs: &mut [u32],
     ys: &mut [u32],
 ) {
-    let mut leads = [128u32; 128];
     let p = add_text(line, 0, b"  named: ");
     show_lines::say_applications(line, p, 9, standard, user);
-    link_groups::fill_leads(link, a, b, c, standard, user, &mut leads, xs, ys);
+    let leads = link_groups::leads_in(link, a, b, c, standard, user, xs, ys);
     show_table::say_groups(line, &leads);
     show_table::say_table(line, link, a, b, c, &leads, xs);
 }
@@ -428,13 +427,28 @@ fn add_why(line: &mut [u8], at: usize, why: Why) -> usize {
     }
 }
 
-fn say_wrong(line: &mut [u8], path: &[u8], number: usize, c: u8, why: Why) {
+// The front of a line about a line of a file.
+fn begin_at_line(line: &mut [u8], path: &[u8], number: usize) -> usize {
     let a = begin_fault(line, path);
     let b = add_text(line, a, b"line ");
-    let d = add_decimal(line, b, number as u64);
-    let e = add_text(line, d, b": ");
-    let f = add_why(line, e, why);
-    say_found(line, f, c);
+    let c = add_decimal(line, b, number as u64);
+    add_text(line, c, b": ")
+}
+
+fn say_wrong(line: &mut [u8], path: &[u8], number: usize, c: u8, why: Why) {
+    let a = begin_at_line(line, path, number);
+    let b = add_why(line, a, why);
+    say_found(line, b, c);
+}
+
+fn say_too_long(line: &mut [u8], path: &[u8], number: usize) {
+    let a = begin_at_line(line, path, number);
+    let b = add_text(
+        line,
+        a,
+        b"the file is longer than 2097152 characters, which end in this line",
+    );
+    say_line(line, b);
 }
 
 // The character at which it went wrong.
@@ -460,7 +474,7 @@ fn say_fault(line: &mut [u8], path: &[u8], text: &[u8]) {
 // A whole text, of n characters; nothing but one line where it is not in order. With `write`, each link's export alone, in the form of a file.
 pub fn say_text(path: &[u8], text: &[[u8; 4096]], n: usize, write: bool, line: &mut [u8]) {
     if 2097152 < n {
-        say_fault(line, path, b"longer than 2097152 characters");
+        say_too_long(line, path, link_file::line_at(text, n, 2097152));
         return;
     }
     match link_file::check_text(text, n) {
