@@ -2,7 +2,7 @@
 -- Assumes nothing.
 use mathlib.Core.Path.{_≡_, refl, sym, _∙_, ap}
 use mathlib.Core.Bool.{Bool, true, false, cond, _&&_, not}
-use mathlib.Core.List.{List, [], _∷_}
+use mathlib.Core.List.{List, [], _∷_, _++_}
 use Prim.Native.Nat.{ℕ, zero, suc, _+_, _-_, _≤_, _<_}
 use lib.Dec.{eqb, ltb}
 use lib.ListN.{getD}
@@ -11,15 +11,16 @@ use native.Mathlib.Omega.{arith}
 use borrow.Author.Tests.{eq-eqb, ne-eqb, lt-ltb, le-ltb}
 use Rattle.linkstate.specs.Lists.{numbers, keep, count}
 use Rattle.link_text.specs.Text.{text, decimal}
+use Rattle.link_words.specs.Words.{application}
 use Rattle.link_groups.specs.Groups.{leadIn, isLead}
-use Rattle.link_columns.specs.Columns.{columns, columnAt, isOther, others, upper, more, lower}
+use Rattle.link_columns.specs.Columns.{columns, columnAt, isOther, others, upper, more, lower, who}
 
 -- The numbers from n on, below an end that is above it, begin with n.
-below : (n end : ℕ) → n < end → numbers n (end - n) ≡ n ∷ numbers (n + 1) (end - (n + 1))
+pub below : (n end : ℕ) → n < end → numbers n (end - n) ≡ n ∷ numbers (n + 1) (end - (n + 1))
 unfolding numbers
 below n end h = let e : end - n ≡ suc (end - (n + 1)) = omega arith in rw (e, add-one n)
 
-none-below : (n end : ℕ) → end ≤ n → numbers n (end - n) ≡ []
+pub none-below : (n end : ℕ) → end ≤ n → numbers n (end - n) ≡ []
 unfolding numbers
 none-below n end h = let e : end - n ≡ 0 = omega arith in rw e
 
@@ -129,3 +130,11 @@ module _ (n : ℕ) where
     pub lower-general : n ≡ 128 → lower n k ≡ text "set" ∷ []
     unfolding lower
     lower-general e = rw (le-ltb n 3 (omega arith), le-ltb n 64 (omega arith), le-ltb n 128 (omega arith), eq-eqb n 128 e)
+
+    pub who-application : (j : ℕ) → j ≡ k → n < 128 → who n k ≡ application n ++ more (text " +") j
+    unfolding who
+    who-application j e h = rw (lt-ltb n 128 h, e)
+
+    pub who-general : 128 ≤ n → who n k ≡ text "general set" ∷ []
+    unfolding who
+    who-general h = rw (le-ltb n 128 h)

@@ -1,11 +1,12 @@
 -- The columns of a table of who gets what: which subjects have one, and what stands over it. A subject is a number, as in `link_groups`.
 use mathlib.Core.Bool.{Bool, cond, _&&_, not}
-use mathlib.Core.List.{List, [], _∷_}
+use mathlib.Core.List.{List, [], _∷_, _++_}
 use Prim.Native.Nat.{ℕ, _-_}
 use lib.Dec.{eqb, ltb}
 use lib.ListN.{getD}
 use Rattle.linkstate.specs.Lists.{numbers, keep, count}
 use Rattle.link_text.specs.Text.{text, decimal}
+use Rattle.link_words.specs.Words.{application}
 use Rattle.link_groups.specs.Groups.{leadIn, isLead}
 
 -- RSVP-TE, the general set, and the first application of each group, ascending.
@@ -44,3 +45,7 @@ lower n k =
     (cond (ltb n 64) (decimal n ∷ more (text " +") k)
     (cond (ltb n 128) (decimal (n - 64) ∷ more (text " +") k)
     (cond (eqb n 128) (text "set" ∷ []) [])))
+
+-- A column in words, for lines below the table and beside it.
+unfoldable pub who : ℕ → ℕ → List (List ℕ)
+who n k = cond (ltb n 128) (application n ++ more (text " +") k) (text "general set" ∷ [])

@@ -6,7 +6,7 @@ ghost use lib.ListN.{getD};
 ghost use Rattle.linkstate.specs.Lists.{numbers, keep};
 ghost use Rattle.link_text.specs.Text.{Wrote};
 ghost use Rattle.link_groups.specs.Groups.{isLead};
-ghost use Rattle.link_columns.specs.Columns.{columnAt, isOther, others, upper, more, lower};
+ghost use Rattle.link_columns.specs.Columns.{columnAt, isOther, others, upper, more, lower, who};
 use link_text::add_decimal;
 use link_text::add_text;
 
@@ -127,4 +127,15 @@ pub fn add_lower(line: &mut [u8], at: usize, n: u32, k: u32) -> usize
         return add_text(line, at, b"set");
     }
     at
+}
+
+// A column in words.
+pub fn add_who(line: &mut [u8], at: usize, leads: &[u32; 128], n: u32) -> usize
+    ensures { λ r. ⌜ Wrote (now (line .entry)) at (who n (others (now (leads .entry)) n)) r (now (line .exit)) ⌝ }
+{
+    if n < 128 {
+        let a = link_words::add_application(line, at, n);
+        return add_more(line, a, b" +", others_in(leads, n));
+    }
+    add_text(line, at, b"general set")
 }
