@@ -12,7 +12,7 @@ use native.Mathlib.Omega.{arith}
 use borrow.Author.Tests.{eq-eqb, ne-eqb, le-leb, lt-leb, lt-ltb, le-ltb}
 use Rattle.linkstate.specs.Bytes.{number, bytesAt}
 use Rattle.link_text.specs.Text.{text, decimal}
-use Rattle.link_values.specs.Values.{anomalous, thousandths, nearest, rate, wholePart, finite, magnitude, bandwidth, value, numberOf, wordAt}
+use Rattle.link_values.specs.Values.{anomalous, thousandths, nearest, rate, wholePart, finite, floatBy, magnitude, bandwidth, value, numberOf, wordAt}
 
 -- ---- values
 
@@ -66,17 +66,22 @@ module _ (s e : ℕ) where
   unfolding finite
   as-one a b h p q = rw (le-ltb 165 e h, p, q)
 
-module _ (m : ℕ) where
-  pub no-number : 2139095040 < m → magnitude m ≡ text "no number" ∷ []
-  unfolding magnitude
+-- A float by its bits without the sign, whatever is told of one that is finite.
+module _ (told : ℕ → ℕ → List (List ℕ)) (m : ℕ) where
+  pub no-number : 2139095040 < m → floatBy told m ≡ text "no number" ∷ []
+  unfolding floatBy
   no-number h = rw (lt-ltb 2139095040 m h)
 
-  pub small : m ≤ 2139095040 → (m ≡ 2139095040 → ⊥) → m / 8388608 ≡ 0 → magnitude m ≡ finite 1 (m % 8388608)
-  unfolding magnitude
+  pub infinite : m ≡ 2139095040 → floatBy told m ≡ text "infinite" ∷ []
+  unfolding floatBy
+  infinite e = rw (le-ltb 2139095040 m (omega arith), eq-eqb m 2139095040 e)
+
+  pub small : m ≤ 2139095040 → (m ≡ 2139095040 → ⊥) → m / 8388608 ≡ 0 → floatBy told m ≡ told 1 (m % 8388608)
+  unfolding floatBy
   small h g e = rw (le-ltb 2139095040 m h, ne-eqb m 2139095040 g, eq-eqb (m / 8388608) 0 e)
 
-  pub normal : m ≤ 2139095040 → (m ≡ 2139095040 → ⊥) → (m / 8388608 ≡ 0 → ⊥) → magnitude m ≡ finite (m / 8388608) (m % 8388608 + 8388608)
-  unfolding magnitude
+  pub normal : m ≤ 2139095040 → (m ≡ 2139095040 → ⊥) → (m / 8388608 ≡ 0 → ⊥) → floatBy told m ≡ told (m / 8388608) (m % 8388608 + 8388608)
+  unfolding floatBy
   normal h g e = rw (le-ltb 2139095040 m h, ne-eqb m 2139095040 g, ne-eqb (m / 8388608) 0 e)
 
 module _ (bits : ℕ) where

@@ -6,7 +6,7 @@ use Prim.Native.String.{String}
 use lib.Ieee.{Float, nan, inf, fin, up, down, odd, ofFields, ofBits, binary32}
 use Rattle.linkstate.specs.Bytes.{numberFrom, number, four, bytesAt}
 use Rattle.link_text.specs.Text.{text, whole, lastDigits, decimal, glyph, hexPair}
-use Rattle.link_values.specs.Values.{word, three, delay, anomalous, millionths, loss, thousandths, nearest, rate, wholePart, finite, magnitude, bandwidth, value, numberOf, wordAt}
+use Rattle.link_values.specs.Values.{word, three, delay, anomalous, millionths, loss, thousandths, nearest, rate, wholePart, finite, floatBy, magnitude, bandwidth, value, numberOf, wordAt}
 
 -- Pieces that read as a text.
 abbrev Reads : List (List ℕ) → String → Type 0
@@ -24,7 +24,7 @@ bandwidths :
     Reads (bandwidth 0x4e9502f9) "1250000000 bytes/s = 10.000 Gbit/s" × Reads (bandwidth 0x4d6e6b28) "250000000 bytes/s = 2.000 Gbit/s" × Reads (bandwidth 0x48000000) "131072 bytes/s = 1.049 Mbit/s"
     × Reads (bandwidth 0) "0 bytes/s = 0 bit/s" × Reads (bandwidth 0xbfc00000) "minus 1 bytes/s = 12 bit/s" × Reads (bandwidth 0x7f800000) "infinite" × Reads (bandwidth 0xff800001) "minus no number"
     × Reads (bandwidth 0x7f7fffff) "16777215 x 2^104 bytes/s"
-unfolding whole lastDigits decimal three thousandths nearest rate wholePart finite magnitude bandwidth
+unfolding whole lastDigits decimal three thousandths nearest rate wholePart finite floatBy magnitude bandwidth
 bandwidths = (refl, refl, refl, refl, refl, refl, refl, refl)
 
 -- The whole part of a float as the kit defines floats.

@@ -56,14 +56,18 @@ finite e s =
     (decimal (wholePart s e) ∷ text " bytes/s = " ∷ rate (wholePart s (e + 3)))
 
 -- The bits of a 32-bit float (IEEE 754) without its sign are an exponent e of 8 bits and a fraction f of 23. It is (2 to the 23 + f) times 2 to the e - 150.
--- Where e is 0 it is f times 2 to the -149; where e is 255, infinity, or no number if f is not 0.
-unfoldable pub magnitude : ℕ → List (List ℕ)
-magnitude m =
+-- Where e is 0 it is f times 2 to the -149; where e is 255, infinity, or no number if f is not 0. `told e s` is the text of s times 2 to the e - 150.
+unfoldable pub floatBy : (ℕ → ℕ → List (List ℕ)) → ℕ → List (List ℕ)
+floatBy told m =
     let e = m / 0x800000 in
     let f = m % 0x800000 in
     cond (ltb 0x7f800000 m) (text "no number" ∷ [])
     (cond (eqb m 0x7f800000) (text "infinite" ∷ [])
-    (cond (eqb e 0) (finite 1 f) (finite e (f + 0x800000))))
+    (cond (eqb e 0) (told 1 f) (told e (f + 0x800000))))
+
+-- A bandwidth without its sign.
+unfoldable pub magnitude : ℕ → List (List ℕ)
+magnitude m = floatBy finite m
 
 -- A bandwidth by the bits of its float: the first is the sign.
 unfoldable pub bandwidth : ℕ → List (List ℕ)

@@ -3,7 +3,7 @@ ghost use mathlib.Core.Path.{_≡_};
 ghost use mathlib.Core.List.{[], _∷_};
 ghost use Prim.Native.Nat.{_≤_, _<_};
 ghost use Rattle.link_text.specs.Text.{Wrote};
-ghost use Rattle.link_values.specs.Values.{word, three, delay, anomalous, loss, thousandths, rate, wholePart, finite, magnitude, bandwidth, value, numberOf, wordAt};
+ghost use Rattle.link_values.specs.Values.{word, three, delay, anomalous, millionths, loss, thousandths, rate, wholePart, finite, magnitude, bandwidth, value, numberOf, wordAt};
 use link_text::add_decimal;
 use link_text::add_hex;
 use link_text::add_text;
@@ -48,20 +48,27 @@ fn add_anomalous(line: &mut [u8], at: usize, x: u32) -> usize
     add_text(line, at, b", anomalous")
 }
 
+// A number of millionths, with six digits behind the point.
+pub fn add_millionths(line: &mut [u8], at: usize, n: u64) -> usize
+    ensures { λ r. ⌜ Wrote (now (line .entry)) at (millionths n) r (now (line .exit)) ⌝ }
+{
+    let a = add_decimal(line, at, n / 1000000);
+    let b = add_text(line, a, b".");
+    let c = add_three(line, b, n / 1000);
+    add_three(line, c, n)
+}
+
 // A loss: its low 24 bits count 0.000003 percent.
 fn add_loss(line: &mut [u8], at: usize, x: u32) -> usize
     ensures { λ r. ⌜ Wrote (now (line .entry)) at (loss x) r (now (line .exit)) ⌝ }
 {
     let n = (x % 16777216) as u64 * 3;
-    let a = add_decimal(line, at, n / 1000000);
-    let b = add_text(line, a, b".");
-    let c = add_three(line, b, n / 1000);
-    let d = add_three(line, c, n);
-    add_text(line, d, b" %")
+    let a = add_millionths(line, at, n);
+    add_text(line, a, b" %")
 }
 
 // A number of thousandths, with three digits behind the point.
-fn add_thousandths(line: &mut [u8], at: usize, n: u64) -> usize
+pub fn add_thousandths(line: &mut [u8], at: usize, n: u64) -> usize
     ensures { λ r. ⌜ Wrote (now (line .entry)) at (thousandths n) r (now (line .exit)) ⌝ }
 {
     let a = add_decimal(line, at, n / 1000);
@@ -86,7 +93,7 @@ fn add_rate(line: &mut [u8], at: usize, n: u64) -> usize
 }
 
 // The whole part of s times 2 to the e - 150.
-fn scaled(s: u64, e: u32) -> u64
+pub fn scaled(s: u64, e: u32) -> u64
     requires { ⌜ (s < 16777216) × (e ≤ 168) ⌝ }
     ensures { λ r. ⌜ r ≡ wholePart s e ⌝ }
 {

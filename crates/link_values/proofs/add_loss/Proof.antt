@@ -12,8 +12,8 @@ cast-n c = search needs
 mul-n : tie.Need-mul-n
 mul-n c = search needs
 
-add-decimal-requires : tie.Need-add-decimal-requires
-add-decimal-requires c κs = search needs
+add-millionths-requires : tie.Need-add-millionths-requires
+add-millionths-requires c κs = search needs
 
 slice-aggregate-add-text : tie.Need-slice-aggregate-add-text
 slice-aggregate-add-text c = search needs
@@ -21,24 +21,12 @@ slice-aggregate-add-text c = search needs
 add-text-requires : tie.Need-add-text-requires
 add-text-requires c κs = search needs
 
-add-three-requires : tie.Need-add-three-requires
-add-three-requires c κs = search needs
-
-add-three-requires-2 : tie.Need-add-three-requires-2
-add-three-requires-2 c κs = search needs
-
-slice-aggregate-add-text-2 : tie.Need-slice-aggregate-add-text-2
-slice-aggregate-add-text-2 c = search needs
-
-add-text-requires-2 : tie.Need-add-text-requires-2
-add-text-requires-2 c κs = search needs
-
 same-length : tie.Need-same-length
 same-length c = search needs
 
 returns : tie.Need-returns
 unfolding loss millionths
-returns c = c .before .before .before .before .before .before .before .before .before .before .before .before .before .before .before .before .before .before .before .before .add-decimal .ensures and c .before .before .before .before .before .before .before .before .before .before .before .before .before .before .before .add-text .ensures and c .before .before .before .before .before .before .before .before .before .before .before .add-three .ensures and c .before .before .before .before .before .before .before .add-three2 .ensures and c .before .before .add-text2 .ensures
+returns c = c .before .before .before .before .before .before .before .add-millionths .ensures and c .before .before .add-text .ensures
 
 pub add-loss-spec : {M : Type 1} → statement M
 add-loss-spec =
@@ -46,12 +34,8 @@ add-loss-spec =
     (tie.spec
     cast-n
     mul-n
-    add-decimal-requires
+    add-millionths-requires
     slice-aggregate-add-text
     add-text-requires
-    add-three-requires
-    add-three-requires-2
-    slice-aggregate-add-text-2
-    add-text-requires-2
     same-length
     returns)

@@ -1,9 +1,8 @@
 -- `link_values::add_positive` meets its contract.
 -- Assumes nothing.
-use mathlib.Core.Path.{ap}
 use Rattle.link_text.proofs.Laws.{written-as}
-use Rattle.link_values.specs.Values.{magnitude}
-use Rattle.link_values.proofs.Laws.{no-number, small, normal}
+use Rattle.link_values.specs.Values.{finite, magnitude}
+use Rattle.link_values.proofs.Laws.{no-number, infinite, small, normal}
 use borrow.Author.Needs.{needs}
 use Rattle.link_values.proofs.add_positive.Statement.{statement}
 use Rattle.link_values.proofs.add_positive.Tie as tie
@@ -18,7 +17,8 @@ same-length : tie.Need-same-length
 same-length c = search needs
 
 returns : tie.Need-returns
-returns c = written-as (no-number (c .before .before .before .before .before .before .before .args .m) (c .before .before .before .before .before .if1 .taken)) (c .before .before .add-text .ensures)
+unfolding magnitude
+returns c = written-as (no-number finite (c .before .before .before .before .before .before .before .args .m) (c .before .before .before .before .before .if1 .taken)) (c .before .before .add-text .ensures)
 
 slice-aggregate-add-text-2 : tie.Need-slice-aggregate-add-text-2
 slice-aggregate-add-text-2 c = search needs
@@ -31,7 +31,7 @@ same-length-2 c = search needs
 
 returns-2 : tie.Need-returns-2
 unfolding magnitude
-returns-2 c = written-as (ap magnitude (c .before .before .before .before .before .if2 .taken)) (c .before .before .add-text2 .ensures)
+returns-2 c = written-as (infinite finite (c .before .before .before .before .before .before .before .before .args .m) (c .before .before .before .before .before .if2 .taken)) (c .before .before .add-text2 .ensures)
 
 cast-f : tie.Need-cast-f
 cast-f c = search needs
@@ -43,7 +43,8 @@ same-length-3 : tie.Need-same-length-3
 same-length-3 c = search needs
 
 returns-3 : tie.Need-returns-3
-returns-3 c = written-as (small (c .before .before .before .before .before .before .before .before .args .m) (c .before .before .before .before .before .before .if1 .left) (c .before .before .before .before .before .if2 .left) (c .before .before .before .before .if3 .taken)) (c .before .before .add-finite .ensures)
+unfolding magnitude
+returns-3 c = written-as (small finite (c .before .before .before .before .before .before .before .before .args .m) (c .before .before .before .before .before .before .if1 .left) (c .before .before .before .before .before .if2 .left) (c .before .before .before .before .if3 .taken)) (c .before .before .add-finite .ensures)
 
 add-add-finite : tie.Need-add-add-finite
 add-add-finite c = search needs
@@ -55,7 +56,8 @@ same-length-4 : tie.Need-same-length-4
 same-length-4 c = search needs
 
 returns-4 : tie.Need-returns-4
-returns-4 c = written-as (normal (c .before .before .before .before .before .before .before .before .args .m) (c .before .before .before .before .before .before .if1 .left) (c .before .before .before .before .before .if2 .left) (c .before .before .before .before .if3 .left)) (c .before .before .add-finite2 .ensures)
+unfolding magnitude
+returns-4 c = written-as (normal finite (c .before .before .before .before .before .before .before .before .args .m) (c .before .before .before .before .before .before .if1 .left) (c .before .before .before .before .before .if2 .left) (c .before .before .before .before .if3 .left)) (c .before .before .add-finite2 .ensures)
 
 pub add-positive-spec : {M : Type 1} → statement M
 add-positive-spec =
