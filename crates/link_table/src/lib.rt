@@ -50,7 +50,16 @@ fn srlg_shown(link: bool, a: &[u8], b: &[u8], c: &[u8], n: u32, i: usize, xs: &m
 }
 
 // The numbers of the value that a subject is answered: how many there are, and the one at a place. The list is room for SRLGs.
-pub fn shown_at(link: bool, a: &[u8], b: &[u8], c: &[u8], n: u32, code: usize, i: usize, xs: &mut [u32]) -> Shown
+pub fn shown_at(
+    link: bool,
+    a: &[u8],
+    b: &[u8],
+    c: &[u8],
+    n: u32,
+    code: usize,
+    i: usize,
+    xs: &mut [u32],
+) -> Shown
     ensures { λ r. ⌜ (r .count ≡ length (numbersFor (source link (now (a .entry)) (now (b .entry)) (now (c .entry))) n code (length (now (xs .entry))))) × (r .number ≡ getD (numbersFor (source link (now (a .entry)) (now (b .entry)) (now (c .entry))) n code (length (now (xs .entry)))) i 0) ⌝ }
 {
     if code == 1096 {
@@ -75,7 +84,18 @@ pub fn origin_of(link: bool, a: &[u8], b: &[u8], n: u32, code: usize) -> Source
 // ---- cells
 
 // A line of the value of a kind.
-fn add_value(line: &mut [u8], at: usize, link: bool, a: &[u8], b: &[u8], c: &[u8], n: u32, code: usize, i: usize, xs: &mut [u32]) -> usize
+fn add_value(
+    line: &mut [u8],
+    at: usize,
+    link: bool,
+    a: &[u8],
+    b: &[u8],
+    c: &[u8],
+    n: u32,
+    code: usize,
+    i: usize,
+    xs: &mut [u32],
+) -> usize
     ensures { λ r. ⌜ Wrote (now (line .entry)) at (cellText (Line.Value i) link (now (a .entry)) (now (b .entry)) (now (c .entry)) [] code (length (now (xs .entry))) n) r (now (line .exit)) ⌝ }
 {
     if 128 < n {
@@ -88,7 +108,17 @@ fn add_value(line: &mut [u8], at: usize, link: bool, a: &[u8], b: &[u8], c: &[u8
 }
 
 // The flag of a value.
-fn add_flag(line: &mut [u8], at: usize, link: bool, a: &[u8], b: &[u8], c: &[u8], n: u32, code: usize, xs: &mut [u32]) -> usize
+fn add_flag(
+    line: &mut [u8],
+    at: usize,
+    link: bool,
+    a: &[u8],
+    b: &[u8],
+    c: &[u8],
+    n: u32,
+    code: usize,
+    xs: &mut [u32],
+) -> usize
     ensures { λ r. ⌜ Wrote (now (line .entry)) at (cellText Line.Flag link (now (a .entry)) (now (b .entry)) (now (c .entry)) [] code (length (now (xs .entry))) n) r (now (line .exit)) ⌝ }
 {
     if 128 < n {
@@ -101,7 +131,16 @@ fn add_flag(line: &mut [u8], at: usize, link: bool, a: &[u8], b: &[u8], c: &[u8]
 }
 
 // A part of where a value comes from.
-fn add_reason(line: &mut [u8], at: usize, part: Part, link: bool, a: &[u8], b: &[u8], n: u32, code: usize) -> usize
+fn add_reason(
+    line: &mut [u8],
+    at: usize,
+    part: Part,
+    link: bool,
+    a: &[u8],
+    b: &[u8],
+    n: u32,
+    code: usize,
+) -> usize
     ensures { λ r. ⌜ Wrote (now (line .entry)) at (cellText (Line.Reason part) link (now (a .entry)) (now (b .entry)) [] [] code 0 n) r (now (line .exit)) ⌝ }
 {
     if 128 < n {
@@ -209,7 +248,16 @@ fn has_value(link: bool, a: &[u8], b: &[u8], c: &[u8], n: u32, code: usize, xs: 
 }
 
 // Whether a column has a value of a kind.
-fn column_has(link: bool, a: &[u8], b: &[u8], c: &[u8], leads: &[u32; 128], n: u32, code: usize, xs: &mut [u32]) -> bool
+fn column_has(
+    link: bool,
+    a: &[u8],
+    b: &[u8],
+    c: &[u8],
+    leads: &[u32; 128],
+    n: u32,
+    code: usize,
+    xs: &mut [u32],
+) -> bool
     ensures { λ r. ⌜ r ≡ (isColumn (now (leads .entry)) n && not (empty (numbersFor (source link (now (a .entry)) (now (b .entry)) (now (c .entry))) n code (length (now (xs .entry)))))) ⌝ }
 {
     if is_column(leads, n) {
@@ -219,7 +267,15 @@ fn column_has(link: bool, a: &[u8], b: &[u8], c: &[u8], leads: &[u32; 128], n: u
 }
 
 // Whether a kind has a row: some column has a value of it.
-pub fn is_present(link: bool, a: &[u8], b: &[u8], c: &[u8], leads: &[u32; 128], code: usize, xs: &mut [u32]) -> bool
+pub fn is_present(
+    link: bool,
+    a: &[u8],
+    b: &[u8],
+    c: &[u8],
+    leads: &[u32; 128],
+    code: usize,
+    xs: &mut [u32],
+) -> bool
     ensures { λ r. ⌜ r ≡ present (source link (now (a .entry)) (now (b .entry)) (now (c .entry))) (now (leads .entry)) code (length (now (xs .entry))) ⌝ }
 {
     let mut n: u32 = 0;

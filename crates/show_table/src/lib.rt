@@ -63,8 +63,8 @@ fn say_values(
     }
 }
 
-// The flags of the values, and where they come from.
-fn say_reasons(
+// The flags of the values, and by which rule they come.
+fn say_rules(
     line: &mut [u8],
     link: bool,
     a: &[u8],
@@ -78,11 +78,82 @@ fn say_reasons(
     requires { ⌜ first ≤ 1000 ⌝ }
 {
     say_row(line, Line::Flag, link, a, b, c, leads, code, first, xs);
-    say_row(line, Line::Reason(Part::From), link, a, b, c, leads, code, first, xs);
-    say_row(line, Line::Reason(Part::Why), link, a, b, c, leads, code, first, xs);
-    say_row(line, Line::Reason(Part::LFlag), link, a, b, c, leads, code, first, xs);
-    say_row(line, Line::Reason(Part::Holder), link, a, b, c, leads, code, first, xs);
-    say_row(line, Line::Reason(Part::Place), link, a, b, c, leads, code, first, xs);
+    say_row(
+        line,
+        Line::Reason(Part::From),
+        link,
+        a,
+        b,
+        c,
+        leads,
+        code,
+        first,
+        xs,
+    );
+    say_row(
+        line,
+        Line::Reason(Part::Why),
+        link,
+        a,
+        b,
+        c,
+        leads,
+        code,
+        first,
+        xs,
+    );
+}
+
+// Where they come from: the L-flags, the advertisements and the values by their places.
+fn say_places(
+    line: &mut [u8],
+    link: bool,
+    a: &[u8],
+    b: &[u8],
+    c: &[u8],
+    leads: &[u32; 128],
+    code: usize,
+    first: usize,
+    xs: &mut [u32],
+)
+    requires { ⌜ first ≤ 1000 ⌝ }
+{
+    say_row(
+        line,
+        Line::Reason(Part::LFlag),
+        link,
+        a,
+        b,
+        c,
+        leads,
+        code,
+        first,
+        xs,
+    );
+    say_row(
+        line,
+        Line::Reason(Part::Holder),
+        link,
+        a,
+        b,
+        c,
+        leads,
+        code,
+        first,
+        xs,
+    );
+    say_row(
+        line,
+        Line::Reason(Part::Place),
+        link,
+        a,
+        b,
+        c,
+        leads,
+        code,
+        first,
+        xs,
+    );
 }
 
 // ---- lists of more than 32 numbers
@@ -284,6 +355,25 @@ fn say_kind_name(line: &mut [u8], code: usize) {
     say_line(line, b);
 }
 
+// The lines of a row.
+fn say_lines(
+    line: &mut [u8],
+    link: bool,
+    a: &[u8],
+    b: &[u8],
+    c: &[u8],
+    leads: &[u32; 128],
+    code: usize,
+    first: usize,
+    xs: &mut [u32],
+)
+    requires { ⌜ first ≤ 1000 ⌝ }
+{
+    say_values(line, link, a, b, c, leads, code, first, xs);
+    say_rules(line, link, a, b, c, leads, code, first, xs);
+    say_places(line, link, a, b, c, leads, code, first, xs);
+}
+
 // The row of a kind that is there.
 fn say_kind(
     line: &mut [u8],
@@ -300,8 +390,7 @@ fn say_kind(
 {
     if link_table::is_present(link, a, b, c, leads, code, xs) {
         say_kind_name(line, code);
-        say_values(line, link, a, b, c, leads, code, first, xs);
-        say_reasons(line, link, a, b, c, leads, code, first, xs);
+        say_lines(line, link, a, b, c, leads, code, first, xs);
         say_all_below(line, link, a, b, c, leads, code, first, xs);
     }
 }
@@ -321,7 +410,17 @@ fn say_kinds(
 {
     let mut k: usize = 0;
     while k < 11 {
-        say_kind(line, link, a, b, c, leads, link_groups::code_of(k), first, xs);
+        say_kind(
+            line,
+            link,
+            a,
+            b,
+            c,
+            leads,
+            link_groups::code_of(k),
+            first,
+            xs,
+        );
         k += 1;
     }
 }
@@ -397,7 +496,13 @@ fn say_link_value(line: &mut [u8], link: bool, code: usize, v: &[u8], source: So
 
 fn say_bandwidth(line: &mut [u8], link: bool, a: &[u8], b: &[u8], c: &[u8], code: usize) {
     let v = value_of(link, a, b, c, 0, code);
-    say_link_value(line, link, code, v, link_table::origin_of(link, a, b, 0, code));
+    say_link_value(
+        line,
+        link,
+        code,
+        v,
+        link_table::origin_of(link, a, b, 0, code),
+    );
     if code == 1091 {
         if 0 < v.len() {
             say_priorities(line, v);
