@@ -1,6 +1,7 @@
 // inspect: shows links and BGP-LS runs that stand in text files, or in standard input.
 ghost use Prim.Native.Nat.{_≤_};
 use libc::STDOUT_FILENO;
+use link_faults::Unread;
 
 fn say_usage() {
     io::write_all(
@@ -69,24 +70,23 @@ fn read_text(fd: i32, text: &mut [[u8; 4096]]) -> usize {
     n + read_more(fd)
 }
 
-// Why a file cannot be read.
-fn say_unreadable(path: &[u8], error: i32, line: &mut [u8]) {
-    let a = show_file::begin_fault(line, path);
-    let b = add_error(line, a, error);
-    show_lines::say_line(line, b);
-}
-
-fn add_error(line: &mut [u8], at: usize, error: i32) -> usize {
+// Why a file cannot be read, by the error of the operating system.
+fn cause_of(error: i32) -> Unread {
     if error == libc::ENOENT {
-        return link_text::add_text(line, at, b"there is no such file");
-    }
-    if error == libc::EISDIR {
-        return link_text::add_text(line, at, b"this is a folder");
+        return Unread::Missing;
     }
     if error == libc::EACCES {
-        return link_text::add_text(line, at, b"it may not be read");
+        return Unread::Forbidden;
     }
-    link_text::add_text(line, at, b"it cannot be read")
+    if error == libc::EISDIR {
+        return Unread::Folder;
+    }
+    Unread::Other
+}
+
+fn say_unreadable(path: &[u8], error: i32, line: &mut [u8]) {
+    let a = link_faults::add_unreadable(line, path, cause_of(error));
+    show_lines::say_line(line, a);
 }
 
 // A file that is open.

@@ -52,9 +52,9 @@ kind code = decimal code ∷ text " " ∷ name code
 -- What a refusal's number means (document 01, "Numbers of the replies").
 abbrev pub refusals : Texts
 refusals =
-    (1, "a run over its size: A and B hold 2048 bytes, C 1024, BGP-LS 524288")
+    (1, "a run is too long (A, B: 2048 bytes; C: 1024; BGP-LS: 524288)")
     ∷ (2, "C is not a multiple of 4 bytes")
-    ∷ (3, "an element, mask or inner list runs past its holder, or is too short for its fixed fields")
+    ∷ (3, "past its holder, or too short for its fixed fields")
     ∷ (4, "a known kind or identifier has a wrong length")
     ∷ (5, "the whole result is longer than the room for it")
     ∷ (6, "application number above 63")

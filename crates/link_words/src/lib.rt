@@ -66,13 +66,13 @@ pub fn add_meaning(line: &mut [u8], at: usize, number: u8) -> usize
         1 => add_text(
             line,
             at,
-            b"a run over its size: A and B hold 2048 bytes, C 1024, BGP-LS 524288",
+            b"a run is too long (A, B: 2048 bytes; C: 1024; BGP-LS: 524288)",
         ),
         2 => add_text(line, at, b"C is not a multiple of 4 bytes"),
         3 => add_text(
             line,
             at,
-            b"an element, mask or inner list runs past its holder, or is too short for its fixed fields",
+            b"past its holder, or too short for its fixed fields",
         ),
         4 => add_text(line, at, b"a known kind or identifier has a wrong length"),
         5 => add_text(line, at, b"the whole result is longer than the room for it"),

@@ -1,0 +1,97 @@
+-- `link_faults::add_unread` meets its contract: an arm for each reason.
+-- Assumes nothing.
+use mathlib.Core.Path.{ap}
+use Rattle.link_text.proofs.Laws.{written-as}
+use Rattle.link_faults.specs.Faults.{unread}
+use borrow.Author.Needs.{needs}
+use Rattle.link_faults.proofs.add_unread.Statement.{statement}
+use Rattle.link_faults.proofs.add_unread.Tie as tie
+
+enum-told : tie.Need-enum-told
+enum-told c = search needs
+
+slice-aggregate-add-text : tie.Need-slice-aggregate-add-text
+slice-aggregate-add-text c = search needs
+
+add-text-requires : tie.Need-add-text-requires
+add-text-requires c κs = search needs
+
+enum-told-2 : tie.Need-enum-told-2
+enum-told-2 c = search needs
+
+slice-aggregate-add-text-2 : tie.Need-slice-aggregate-add-text-2
+slice-aggregate-add-text-2 c = search needs
+
+add-text-requires-2 : tie.Need-add-text-requires-2
+add-text-requires-2 c κs = search needs
+
+enum-told-3 : tie.Need-enum-told-3
+enum-told-3 c = search needs
+
+slice-aggregate-add-text-3 : tie.Need-slice-aggregate-add-text-3
+slice-aggregate-add-text-3 c = search needs
+
+add-text-requires-3 : tie.Need-add-text-requires-3
+add-text-requires-3 c κs = search needs
+
+enum-told-4 : tie.Need-enum-told-4
+enum-told-4 c = search needs
+
+slice-aggregate-add-text-4 : tie.Need-slice-aggregate-add-text-4
+slice-aggregate-add-text-4 c = search needs
+
+add-text-requires-4 : tie.Need-add-text-requires-4
+add-text-requires-4 c κs = search needs
+
+same-length : tie.Need-same-length
+same-length c = search needs
+
+returns : tie.Need-returns
+unfolding unread
+returns c = written-as (ap unread (c .before .before .before .before .before .enum-told .given .1)) (c .before .before .add-text .ensures)
+
+same-length-2 : tie.Need-same-length-2
+same-length-2 c = search needs
+
+returns-2 : tie.Need-returns-2
+unfolding unread
+returns-2 c = written-as (ap unread (c .before .before .before .before .before .enum-told2 .given .1)) (c .before .before .add-text2 .ensures)
+
+same-length-3 : tie.Need-same-length-3
+same-length-3 c = search needs
+
+returns-3 : tie.Need-returns-3
+unfolding unread
+returns-3 c = written-as (ap unread (c .before .before .before .before .before .enum-told3 .given .1)) (c .before .before .add-text3 .ensures)
+
+same-length-4 : tie.Need-same-length-4
+same-length-4 c = search needs
+
+returns-4 : tie.Need-returns-4
+unfolding unread
+returns-4 c = written-as (ap unread (c .before .before .before .before .before .enum-told4 .given .1)) (c .before .before .add-text4 .ensures)
+
+pub add-unread-spec : {M : Type 1} → statement M
+add-unread-spec =
+    tie.close
+    (tie.spec
+    enum-told
+    slice-aggregate-add-text
+    add-text-requires
+    enum-told-2
+    slice-aggregate-add-text-2
+    add-text-requires-2
+    enum-told-3
+    slice-aggregate-add-text-3
+    add-text-requires-3
+    enum-told-4
+    slice-aggregate-add-text-4
+    add-text-requires-4
+    same-length
+    returns
+    same-length-2
+    returns-2
+    same-length-3
+    returns-3
+    same-length-4
+    returns-4)
