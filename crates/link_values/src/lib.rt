@@ -31,7 +31,7 @@ fn add_three(line: &mut [u8], at: usize, n: u64) -> usize
 }
 
 // A delay: its low 24 bits are microseconds.
-fn add_delay(line: &mut [u8], at: usize, x: u32) -> usize
+pub fn add_delay(line: &mut [u8], at: usize, x: u32) -> usize
     ensures { λ r. ⌜ Wrote (now (line .entry)) at (delay x) r (now (line .exit)) ⌝ }
 {
     let a = add_decimal(line, at, (x % 16777216) as u64);
@@ -39,7 +39,7 @@ fn add_delay(line: &mut [u8], at: usize, x: u32) -> usize
 }
 
 // The top bit says that a measured value is anomalous.
-fn add_anomalous(line: &mut [u8], at: usize, x: u32) -> usize
+pub fn add_anomalous(line: &mut [u8], at: usize, x: u32) -> usize
     ensures { λ r. ⌜ Wrote (now (line .entry)) at (anomalous x) r (now (line .exit)) ⌝ }
 {
     if x < 2147483648 {
