@@ -11,7 +11,7 @@ use Rattle.link_text.specs.Text.{text, whole, lastDigits, decimal, glyph, hexPa
 use Rattle.link_words.specs.Words.{textOf, meaning}
 use Rattle.show_lines.specs.Lines.{inHex, bytesInHex}
 use Rattle.link_refusals.specs.Refusals.{runName, refusal, bytesBefore, bytesFrom, around, bytesOf, refused}
-use Rattle.link_titles.specs.Titles.{letters, title, refusedPart, sized, sizes, heading}
+use Rattle.link_titles.specs.Titles.{letters, title, refusedPart, sized, sizes, heading, runLine, noRun}
 
 -- Pieces that read as a text.
 abbrev Reads : List (List ℕ) → String → Type 0
@@ -30,3 +30,7 @@ refusals = (refl, refl)
 counts : Reads (sizes 178 94 0) "  A 178 bytes, B 94 bytes, C 0 bytes" × Reads (heading (text "  export ") 432) "  export 432 bytes: offset, type, length, value"
 unfolding whole lastDigits decimal sized sizes heading
 counts = (refl, refl)
+
+files : Reads (runLine (4 ∷ 0x44 ∷ [])) "BGP-LS 04 44" × Reads (runLine []) "BGP-LS" × Reads (noRun (refusalAt 3 runA 5)) "# refused 3"
+unfolding whole lastDigits decimal glyph hexPair each inHex bytesInHex place refusalAt runLine noRun
+files = (refl, refl, refl)

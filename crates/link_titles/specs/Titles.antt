@@ -5,6 +5,7 @@ use Prim.Native.Nat.{ℕ}
 use lib.Dec.{eqb}
 use Rattle.linkstate.specs.Replies.{Refusal}
 use Rattle.link_text.specs.Text.{text, decimal}
+use Rattle.show_lines.specs.Lines.{bytesInHex}
 use Rattle.link_refusals.specs.Refusals.{refused}
 
 -- A name, character by character: as much of it is written as there is room for.
@@ -30,3 +31,10 @@ sizes a b c = sized (text "  A ") a ++ sized (text ", B ") b ++ sized (text ", C
 -- What stands above the TLVs of a run of n bytes.
 unfoldable pub heading : List ℕ → ℕ → List (List ℕ)
 heading what n = sized what n ++ (text ": offset, type, length, value" ∷ [])
+
+-- Bytes of a BGP-LS run as a line of a file, and what stands in the place of an export that is refused.
+unfoldable pub runLine : List ℕ → List (List ℕ)
+runLine s = text "BGP-LS" ∷ bytesInHex s
+
+unfoldable pub noRun : Refusal → List (List ℕ)
+noRun x = text "# refused " ∷ decimal (x .number) ∷ []

@@ -3,7 +3,7 @@ ghost use mathlib.Core.Path.{_≡_};
 ghost use Rattle.replies.specs.Told.{toldRefusal};
 ghost use Rattle.link_text.specs.Text.{Wrote, text};
 ghost use Rattle.link_file.specs.Texts.{nameAt};
-ghost use Rattle.link_titles.specs.Titles.{title, refusedPart, sized, sizes, heading};
+ghost use Rattle.link_titles.specs.Titles.{title, refusedPart, sized, sizes, heading, runLine, noRun};
 use link_text::add_decimal;
 use link_text::add_text;
 use replies::Refusal;
@@ -66,4 +66,21 @@ pub fn add_heading(line: &mut [u8], at: usize, what: &[u8], n: usize) -> usize
 {
     let a = add_size(line, at, what, n);
     add_text(line, a, b": offset, type, length, value")
+}
+
+// Bytes of a BGP-LS run as a line of a file.
+pub fn add_run_line(line: &mut [u8], at: usize, s: &[u8]) -> usize
+    ensures { λ r. ⌜ Wrote (now (line .entry)) at (runLine (now (s .entry))) r (now (line .exit)) ⌝ }
+{
+    let a = add_text(line, at, b"BGP-LS");
+    show_lines::add_bytes(line, a, s)
+}
+
+// What stands in such a file in the place of an export that is refused.
+pub fn add_no_run(line: &mut [u8], at: usize, x: Refusal) -> usize
+    ensures { λ r. ⌜ Wrote (now (line .entry)) at (noRun (toldRefusal x)) r (now (line .exit)) ⌝ }
+{
+    let number = x.number;
+    let a = add_text(line, at, b"# refused ");
+    add_decimal(line, a, number as u64)
 }

@@ -5,12 +5,10 @@ ghost use lib.ListN.{length};
 use link_chars::Why;
 use link_file::Section;
 use link_file::Verdict;
-use link_text::add_decimal;
 use link_text::add_text;
 use replies::Named;
 use replies::Refusal;
 use replies::Written;
-use show_lines::add_bytes;
 use show_lines::say_line;
 
 // ---- a link
@@ -84,10 +82,8 @@ fn say_meaning(
 fn say_front(line: &mut [u8], room: &[u8], n: usize, what: &[u8]) {
     let a = link_titles::add_heading(line, 0, what, n);
     say_line(line, a);
-    if n <= 1048576 {
-        if n <= room.len() {
-            show_tlvs::say_tlvs(line, &room[0..n]);
-        }
+    if n <= room.len() {
+        show_tlvs::say_tlvs(line, &room[0..n]);
     }
 }
 
@@ -245,9 +241,8 @@ fn say_export_lines(line: &mut [u8], s: &[u8]) {
     let mut i = 0;
     while i < s.len() {
         let next = share(s.len(), i);
-        let a = add_text(line, 0, b"BGP-LS");
-        let b = add_bytes(line, a, &s[i..next]);
-        say_line(line, b);
+        let a = link_titles::add_run_line(line, 0, &s[i..next]);
+        say_line(line, a);
         i = next;
     }
 }
@@ -264,7 +259,7 @@ fn share(n: usize, from: usize) -> usize
 
 fn say_written(line: &mut [u8], room: &[u8], n: usize) {
     if n == 0 {
-        let a = add_text(line, 0, b"BGP-LS");
+        let a = link_titles::add_run_line(line, 0, b"");
         say_line(line, a);
         return;
     }
@@ -282,10 +277,8 @@ fn write_link_with(line: &mut [u8], a: &[u8], b: &[u8], c: &[u8], room: &mut [u8
     match isis_export::export(a, b, c, room) {
         Written::Bytes(n) => say_written(line, room, n),
         Written::Refused(x) => {
-            let number = x.number;
-            let p = add_text(line, 0, b"# refused ");
-            let q = add_decimal(line, p, number as u64);
-            say_line(line, q);
+            let p = link_titles::add_no_run(line, 0, x);
+            say_line(line, p);
         }
     }
 }

@@ -1,16 +1,18 @@
 // Lines on standard output: bytes in hex, and applications by name, wrapped so that no line is longer than 120 characters.
 ghost use mathlib.Core.Path.{_≡_};
-ghost use Prim.Native.Nat.{_<_, _≤_};
+ghost use Prim.Native.Nat.{_+_, _<_, _≤_};
 ghost use lib.ListN.{length};
 ghost use Rattle.link_text.specs.Text.{Wrote};
-ghost use Rattle.show_lines.specs.Lines.{bytesInHex, inSets};
+ghost use Rattle.show_lines.specs.Lines.{ended, bytesInHex, row, inSets, listLine, listAt, member};
 use libc::STDOUT_FILENO;
 use link_text::add_hex;
 use link_text::add_text;
 use link_text::pad_to;
 
 // Writes a line of `at` characters and ends it.
-pub fn say_line(line: &mut [u8], at: usize) {
+pub fn say_line(line: &mut [u8], at: usize)
+    ensures { λ _. ⌜ now (line .exit) ≡ ended (now (line .entry)) at ⌝ }
+{
     let end = add_text(line, at, b"\n");
     if end <= line.len() {
         io::write_all(STDOUT_FILENO, &line[0..end]);
@@ -34,7 +36,7 @@ pub fn add_bytes(line: &mut [u8], at: usize, s: &[u8]) -> usize
 // The end of a line's share of the bytes from an offset on: 20 of them.
 fn share(n: usize, from: usize) -> usize
     requires { ⌜ from < n ⌝ }
-    ensures { λ r. ⌜ (from < r) × (r ≤ n) ⌝ }
+    ensures { λ r. ⌜ (from < r) × (r ≤ n) × (r ≤ from + 20) ⌝ }
 {
     if n - from < 20 {
         return n;
@@ -51,14 +53,21 @@ pub fn say_bytes(line: &mut [u8], at: usize, column: usize, s: &[u8]) {
     say_some_bytes(line, at, column, s);
 }
 
+// A line's share of bytes in hex, from a column on.
+fn add_row(line: &mut [u8], at: usize, column: usize, s: &[u8]) -> usize
+    ensures { λ r. ⌜ Wrote (now (line .entry)) at (row at column (now (s .entry))) r (now (line .exit)) ⌝ }
+{
+    let a = pad_to(line, at, column);
+    add_bytes(line, a, s)
+}
+
 fn say_some_bytes(line: &mut [u8], at: usize, column: usize, s: &[u8]) {
     let mut end = at;
     let mut i = 0;
     while i < s.len() {
         let next = share(s.len(), i);
-        let a = pad_to(line, end, column);
-        let b = add_bytes(line, a, &s[i..next]);
-        say_line(line, b);
+        let a = add_row(line, end, column, &s[i..next]);
+        say_line(line, a);
         end = 0;
         i = next;
     }
@@ -75,8 +84,10 @@ pub fn is_in(standard: u64, user: u64, n: u32) -> bool
     masks::has(user, n - 64)
 }
 
-// One application more in a list.
-pub fn add_member(line: &mut [u8], at: usize, column: usize, n: u32, first: bool) -> usize {
+// One application more in a list. Where the list has passed column 100 its line is written, and a new one begins at a column.
+pub fn add_member(line: &mut [u8], at: usize, column: usize, n: u32, first: bool) -> usize
+    ensures { λ r. ⌜ Wrote (listLine (now (line .entry)) at first) (listAt (now (line .entry)) at first) (member (now (line .entry)) at column n first) r (now (line .exit)) ⌝ }
+{
     if first {
         return link_words::add_application(line, at, n);
     }

@@ -8,10 +8,10 @@ use Rattle.show_file.proofs.say_export_lines.Statement.{statement}
 use Rattle.show_file.proofs.say_export_lines.Tie as tie
 
 abbrev Inv-loop : tie.InvT-loop
-Inv-loop line₀ s i₀ t7 line i = (i ≤ length s) × (length line ≡ length line₀)
+Inv-loop line₀ s i₀ line i = (i ≤ length s) × (length line ≡ length line₀)
 
 abbrev μ-loop : tie.MeasureT-loop
-μ-loop line₀ s i₀ t7 line i = length s - i
+μ-loop line₀ s i₀ line i = length s - i
 
 loop-holds : tie.Need-loop-holds Inv-loop μ-loop
 loop-holds c = search needs
@@ -19,23 +19,17 @@ loop-holds c = search needs
 share-requires : tie.Need-share-requires Inv-loop μ-loop
 share-requires c κs = search needs
 
-slice-aggregate-add-text : tie.Need-slice-aggregate-add-text Inv-loop μ-loop
-slice-aggregate-add-text c = search needs
+sub-add-run-line : tie.Need-sub-add-run-line Inv-loop μ-loop
+sub-add-run-line c = search needs
 
-add-text-requires : tie.Need-add-text-requires Inv-loop μ-loop
-add-text-requires c κs = search needs
+part-add-run-line-start : tie.Need-part-add-run-line-start Inv-loop μ-loop
+part-add-run-line-start c = search needs
 
-sub-add-bytes : tie.Need-sub-add-bytes Inv-loop μ-loop
-sub-add-bytes c = search needs
+part-add-run-line-end : tie.Need-part-add-run-line-end Inv-loop μ-loop
+part-add-run-line-end c = search needs
 
-part-add-bytes-start : tie.Need-part-add-bytes-start Inv-loop μ-loop
-part-add-bytes-start c = search needs
-
-part-add-bytes-end : tie.Need-part-add-bytes-end Inv-loop μ-loop
-part-add-bytes-end c = search needs
-
-add-bytes-requires : tie.Need-add-bytes-requires Inv-loop μ-loop
-add-bytes-requires c κs = search needs
+add-run-line-requires : tie.Need-add-run-line-requires Inv-loop μ-loop
+add-run-line-requires c κs = search needs
 
 say-line-requires : tie.Need-say-line-requires Inv-loop μ-loop
 say-line-requires c κs = search needs
@@ -60,12 +54,10 @@ say-export-lines-spec =
     μ-loop
     loop-holds
     share-requires
-    slice-aggregate-add-text
-    add-text-requires
-    sub-add-bytes
-    part-add-bytes-start
-    part-add-bytes-end
-    add-bytes-requires
+    sub-add-run-line
+    part-add-run-line-start
+    part-add-run-line-end
+    add-run-line-requires
     say-line-requires
     loop-less
     loop-again

@@ -19,20 +19,17 @@ loop-holds c = search needs
 share-requires : tie.Need-share-requires Inv-loop μ-loop
 share-requires c κs = search needs
 
-pad-to-requires : tie.Need-pad-to-requires Inv-loop μ-loop
-pad-to-requires c κs = search needs
+sub-add-row : tie.Need-sub-add-row Inv-loop μ-loop
+sub-add-row c = search needs
 
-sub-add-bytes : tie.Need-sub-add-bytes Inv-loop μ-loop
-sub-add-bytes c = search needs
+part-add-row-start : tie.Need-part-add-row-start Inv-loop μ-loop
+part-add-row-start c = search needs
 
-part-add-bytes-start : tie.Need-part-add-bytes-start Inv-loop μ-loop
-part-add-bytes-start c = search needs
+part-add-row-end : tie.Need-part-add-row-end Inv-loop μ-loop
+part-add-row-end c = search needs
 
-part-add-bytes-end : tie.Need-part-add-bytes-end Inv-loop μ-loop
-part-add-bytes-end c = search needs
-
-add-bytes-requires : tie.Need-add-bytes-requires Inv-loop μ-loop
-add-bytes-requires c κs = search needs
+add-row-requires : tie.Need-add-row-requires Inv-loop μ-loop
+add-row-requires c κs = search needs
 
 say-line-requires : tie.Need-say-line-requires Inv-loop μ-loop
 say-line-requires c κs = search needs
@@ -57,11 +54,10 @@ say-some-bytes-spec =
     μ-loop
     loop-holds
     share-requires
-    pad-to-requires
-    sub-add-bytes
-    part-add-bytes-start
-    part-add-bytes-end
-    add-bytes-requires
+    sub-add-row
+    part-add-row-start
+    part-add-row-end
+    add-row-requires
     say-line-requires
     loop-less
     loop-again

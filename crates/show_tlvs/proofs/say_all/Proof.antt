@@ -1,11 +1,11 @@
--- `show_tlvs::say_tlvs` is safe and ends.
+-- `show_tlvs::say_all` is safe and ends.
 -- Assumes nothing.
 use borrow.Author.Needs.{needs}
 use Prim.Native.Nat.{_-_, _≤_}
 use mathlib.Core.Path.{_≡_}
 use lib.ListN.{length}
-use Rattle.show_tlvs.proofs.say_tlvs.Statement.{statement}
-use Rattle.show_tlvs.proofs.say_tlvs.Tie as tie
+use Rattle.show_tlvs.proofs.say_all.Statement.{statement}
+use Rattle.show_tlvs.proofs.say_all.Tie as tie
 
 abbrev Inv-loop : tie.InvT-loop
 Inv-loop line₀ s at₀ line at = (at ≤ length s) × (length line ≡ length line₀)
@@ -58,8 +58,8 @@ same-length-2 c = search needs
 returns-2 : tie.Need-returns-2 Inv-loop μ-loop
 returns-2 c = search needs
 
-pub say-tlvs-spec : {M : Type 1} → statement M
-say-tlvs-spec =
+pub say-all-spec : {M : Type 1} → statement M
+say-all-spec =
     tie.close
     (tie.spec
     Inv-loop
