@@ -39,7 +39,7 @@ fn write_sizes(standard: u64, user: u64, out: &mut [u8], at: usize)
 }
 
 // The masks; the place after them.
-fn write_masks(standard: u64, user: u64, out: &mut [u8], at: usize) -> usize
+pub fn write_masks(standard: u64, user: u64, out: &mut [u8], at: usize) -> usize
     requires { ⌜ at + (maskSize (inNumber standard) + maskSize (inNumber user)) ≤ length (now out) ⌝ }
     ensures { λ r. ⌜ (r ≡ at + (maskSize (inNumber standard) + maskSize (inNumber user))) × (now (out .exit) ≡ put (now (out .entry)) at (mask (inNumber standard) ++ mask (inNumber user))) ⌝ }
 {
@@ -49,7 +49,7 @@ fn write_masks(standard: u64, user: u64, out: &mut [u8], at: usize) -> usize
 }
 
 // The first eight bytes of an ASLA TLV, of which len is the length of its value: type, length, the lengths of the masks, reserved bytes.
-fn write_front(standard: u64, user: u64, len: u16, out: &mut [u8], at: usize)
+pub fn write_front(standard: u64, user: u64, len: u16, out: &mut [u8], at: usize)
     requires { ⌜ at + 8 ≤ length (now out) ⌝ }
     ensures { λ _. ⌜ now (out .exit) ≡ put (now (out .entry)) at (two 1122 ++ two len ++ (maskSize (inNumber standard) ∷ maskSize (inNumber user) ∷ 0 ∷ 0 ∷ [])) ⌝ }
 {

@@ -45,15 +45,14 @@ fn write_aslas(
     grids: &[[[usize; 2]; 10]],
     bits: &[[u64; 12]],
     heads: &[[u64; 4]],
-    scratch: &mut [u32],
     out: &mut [u8],
     at: usize,
 ) -> usize
-    requires { ⌜ Fits (now a) (now g) × (length (now gs) ≤ 512) × Readable (now a) (now values) count (now grids) (now bits) (now heads) (length (now scratch)) × (at + (length (generalBytes (now a) (now g) (now gs)) + length (groupsBytes (now a) (now values) count (now grids) (now bits) (now heads))) ≤ length (now out)) ⌝ }
+    requires { ⌜ Fits (now a) (now g) × (length (now gs) ≤ 512) × Readable (now a) (now values) count (now grids) (now bits) (now heads) × (at + (length (generalBytes (now a) (now g) (now gs)) + length (groupsBytes (now a) (now values) count (now grids) (now bits) (now heads))) ≤ length (now out)) ⌝ }
     ensures { λ q. ⌜ (q ≡ at + (length (generalBytes (now (a .entry)) (now (g .entry)) (now (gs .entry))) + length (groupsBytes (now (a .entry)) (now (values .entry)) count (now (grids .entry)) (now (bits .entry)) (now (heads .entry))))) × (now (out .exit) ≡ put (now (out .entry)) at (generalBytes (now (a .entry)) (now (g .entry)) (now (gs .entry)) ++ groupsBytes (now (a .entry)) (now (values .entry)) count (now (grids .entry)) (now (bits .entry)) (now (heads .entry)))) ⌝ }
 {
     let next = write_general(a, g, gs, out, at);
-    group_bytes::write_groups(a, values, count, grids, bits, heads, scratch, out, next)
+    group_bytes::write_groups(a, values, count, grids, bits, heads, out, next)
 }
 
 // All TLVs, ascending by type, from the buffer's front on; how many bytes they have.
@@ -69,26 +68,13 @@ fn write_whole(
     grids: &[[[usize; 2]; 10]],
     bits: &[[u64; 12]],
     heads: &[[u64; 4]],
-    scratch: &mut [u32],
     out: &mut [u8],
 ) -> usize
-    requires { ⌜ Fits (now a) (now l) × Fits (now a) (now r) × (length (now rs) ≤ 512) × Fits (now a) (now g) × (length (now gs) ≤ 512) × Readable (now a) (now values) count (now grids) (now bits) (now heads) (length (now scratch)) × (length (wholeBytes (now a) (now l) (now r) (now rs) (now g) (now gs) (now values) count (now grids) (now bits) (now heads)) ≤ length (now out)) ⌝ }
+    requires { ⌜ Fits (now a) (now l) × Fits (now a) (now r) × (length (now rs) ≤ 512) × Fits (now a) (now g) × (length (now gs) ≤ 512) × Readable (now a) (now values) count (now grids) (now bits) (now heads) × (length (wholeBytes (now a) (now l) (now r) (now rs) (now g) (now gs) (now values) count (now grids) (now bits) (now heads)) ≤ length (now out)) ⌝ }
     ensures { λ q. ⌜ (q ≡ length (wholeBytes (now (a .entry)) (now (l .entry)) (now (r .entry)) (now (rs .entry)) (now (g .entry)) (now (gs .entry)) (now (values .entry)) count (now (grids .entry)) (now (bits .entry)) (now (heads .entry)))) × (now (out .exit) ≡ put (now (out .entry)) 0 (wholeBytes (now (a .entry)) (now (l .entry)) (now (r .entry)) (now (rs .entry)) (now (g .entry)) (now (gs .entry)) (now (values .entry)) count (now (grids .entry)) (now (bits .entry)) (now (heads .entry)))) ⌝ }
 {
     let low = set_bytes::write_top_low(a, l, r, rs, out, 0);
-    let aslas = write_aslas(
-        a,
-        g,
-        gs,
-        values,
-        count,
-        grids,
-        bits,
-        heads,
-        scratch,
-        out,
-        low,
-    );
+    let aslas = write_aslas(a, g, gs, values, count, grids, bits, heads, out, low);
     set_bytes::write_top_high(a, l, r, rs, out, aslas)
 }
 
@@ -125,29 +111,14 @@ pub fn export_sets(
     grids: &[[[usize; 2]; 10]],
     bits: &[[u64; 12]],
     heads: &[[u64; 4]],
-    scratch: &mut [u32],
     out: &mut [u8],
 ) -> Written
-    requires { ⌜ Fits (now a) (now l) × Fits (now a) (now r) × (length (now rs) ≤ 512) × Fits (now a) (now g) × (length (now gs) ≤ 512) × Readable (now a) (now values) count (now grids) (now bits) (now heads) (length (now scratch)) ⌝ }
+    requires { ⌜ Fits (now a) (now l) × Fits (now a) (now r) × (length (now rs) ≤ 512) × Fits (now a) (now g) × (length (now gs) ≤ 512) × Readable (now a) (now values) count (now grids) (now bits) (now heads) ⌝ }
     ensures { λ q. ⌜ toldExported q (now (out .exit)) ≡ write accepted (wholeBytes (now (a .entry)) (now (l .entry)) (now (r .entry)) (now (rs .entry)) (now (g .entry)) (now (gs .entry)) (now (values .entry)) count (now (grids .entry)) (now (bits .entry)) (now (heads .entry))) (now (out .entry)) ⌝ }
 {
     let size = whole_size(l, r, rs.len(), g, gs.len(), count, grids, heads);
     if out.len() < size {
         return Written::Refused(replies::refuse_call(5));
     }
-    Written::Bytes(write_whole(
-        a,
-        l,
-        r,
-        rs,
-        g,
-        gs,
-        values,
-        count,
-        grids,
-        bits,
-        heads,
-        scratch,
-        out,
-    ))
+    Written::Bytes(write_whole(a, l, r, rs, g, gs, values, count, grids, bits, heads, out))
 }

@@ -2,10 +2,10 @@
 use mathlib.Core.Path.{_≡_, refl, sym, _∙_, ap}
 use mathlib.Core.List.{List, [], _∷_, _++_, map, append-nil}
 use Prim.Native.Nat.{ℕ, zero, suc, _+_, _-_, _≤_, _<_}
-use native.Mathlib.Nat.{zero-add, sub-zero}
+use native.Mathlib.Nat.{zero-add}
 use native.Mathlib.Numerals.{add-one}
 use native.Mathlib.Omega.{arith}
-use lib.ListN.{length, getD, take, drop, length-append, length-take}
+use lib.ListN.{length, getD, length-append}
 use Rattle.linkstate.proofs.ListLaws.{each-append, map-append}
 use Rattle.linkstate.specs.Lists.{numbers, each, put}
 use Rattle.linkstate.specs.Export.{tlv, bytesOf, aslaValue}
@@ -17,19 +17,11 @@ use Rattle.set_groups.specs.Groups.{Group, groupTlv}
 use Rattle.set_groups.specs.Table.{Sound, entryGroup, tableGroups}
 use Rattle.set_groups.proofs.Joined.{numbers-last}
 use Rattle.set_groups.proofs.Tlvs.{tlv-is}
-use Rattle.group_bytes.specs.Groups.{listedBytes, entryBytes, groupsBytes, Measurable}
+use Rattle.group_bytes.specs.Groups.{pickedSet, entryBytes, groupsBytes, Measurable}
 
 each-one : {A : Type 0} (f : A → List ℕ) (x : A) → each f (x ∷ []) ≡ f x
 unfolding each
 each-one f x = append-nil (f x)
-
--- The front of a list, as the code's part of it.
-pub part-length : (x : List ℕ) (k : ℕ) → length (take (k - 0) (drop 0 x)) ≤ k
-part-length x k = rw (sub-zero k) (omega (arith, length-take k x))
-
-pub part-listed : (a : List ℕ) (g : List (List ℕ)) (x : List ℕ) (k s u : ℕ) → bytesOf (tlv 1122 (aslaValue (inNumbers s u) (setOf a g (take (k - 0) (drop 0 x))))) ≡ listedBytes a g x k s u
-unfolding listedBytes
-part-listed a g x k s u = rw (sub-zero k)
 
 -- A table that can be read can be measured.
 pub measurable : (a values : List ℕ) (count : ℕ) (grids : List (List (List ℕ))) (bits heads : List (List ℕ)) → count ≤ 127 → Sound a values count grids bits heads → Measurable count grids heads
@@ -49,25 +41,10 @@ module _ (a values : List ℕ) (grids : List (List (List ℕ))) (bits heads : Li
   abbrev below : ℕ → List ℕ
   below k = groupsBytes a values k grids bits heads
 
-  pub entry-is : (i : ℕ) (ns : List ℕ) → ns ≡ picked values (getD bits i [])
-      → bytesOf (tlv 1122 (aslaValue (inNumbers (getD (getD heads i []) 0 0) (getD (getD heads i []) 1 0)) (setOf a (getD grids i []) ns))) ≡ one i
+  -- The TLV of an entry, by its grid, bits and head.
+  pub entry-is : (i : ℕ) → bytesOf (tlv 1122 (aslaValue (inNumbers (getD (getD heads i []) 0 0) (getD (getD heads i []) 1 0)) (pickedSet a (getD grids i []) values (getD bits i [])))) ≡ one i
   unfolding entryBytes entryGroup
-  entry-is i ns e = rw e (sym (tlv-is (setOf a (getD grids i []) (picked values (getD bits i []))) (getD (getD heads i []) 0 0) (getD (getD heads i []) 1 0)))
-
-  -- The TLV of an entry, by the numbers listed.
-  pub entry-listed : (i k : ℕ) (x : List ℕ) → take k x ≡ picked values (getD bits i []) → listedBytes a (getD grids i []) x k (getD (getD heads i []) 0 0) (getD (getD heads i []) 1 0) ≡ one i
-  unfolding listedBytes
-  entry-listed i k x e = entry-is i (take k x) e
-
-  module _ (i k : ℕ) (x : List ℕ) (e : take k x ≡ picked values (getD bits i [])) (at : ℕ) where
-    abbrev listed : List ℕ
-    listed = listedBytes a (getD grids i []) x k (getD (getD heads i []) 0 0) (getD (getD heads i []) 1 0)
-
-    pub listed-room : (n : ℕ) → at + length (one i) ≤ n → at + length listed ≤ n
-    listed-room n h = omega (arith, ap length (entry-listed i k x e))
-
-    pub listed-written : (r : ℕ) (out out′ : List ℕ) → r ≡ at + length listed → out′ ≡ put out at listed → (r ≡ at + length (one i)) × (out′ ≡ put out at (one i))
-    listed-written r out out′ f g = (omega (arith, ap length (entry-listed i k x e)), g ∙ ap (put out at) (entry-listed i k x e))
+  entry-is i = sym (tlv-is (pickedSet a (getD grids i []) values (getD bits i [])) (getD (getD heads i []) 0 0) (getD (getD heads i []) 1 0))
 
   pub below-none : below 0 ≡ []
   unfolding groupsBytes tableGroups numbers each

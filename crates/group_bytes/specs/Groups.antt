@@ -1,18 +1,24 @@
 -- The ASLA TLVs of the groups of a table (rules L3, L7).
 use mathlib.Core.List.{List, []}
+use mathlib.Core.Path.{_≡_}
 use Prim.Native.Nat.{ℕ, _≤_, _<_}
-use lib.ListN.{length, getD, take}
+use lib.ListN.{length, getD}
 use Rattle.linkstate.specs.Lists.{each}
-use Rattle.linkstate.specs.Export.{tlv, bytesOf, aslaValue}
 use Rattle.set_bytes.specs.Sets.{setOf, Short}
-use Rattle.asla_bytes.specs.Applications.{inNumbers}
-use Rattle.srlg_ranks.specs.Ranks.{picked}
+use Rattle.srlg_ranks.specs.Ranks.{picked, Within}
 use Rattle.set_groups.specs.Groups.{groupTlv}
 use Rattle.set_groups.specs.Table.{Sound, entryGroup, tableGroups}
 
--- The ASLA TLV of a set whose SRLGs are the first k numbers of a list.
-unfoldable pub listedBytes : List ℕ → List (List ℕ) → List ℕ → ℕ → ℕ → ℕ → List ℕ
-listedBytes a g list k standard users = bytesOf (tlv 1122 (aslaValue (inNumbers standard users) (setOf a g (take k list))))
+-- The set of a grid and of the SRLGs that bits stand for.
+abbrev pub pickedSet : List ℕ → List (List ℕ) → List ℕ → List ℕ → ℕ → List ℕ
+pickedSet a g values w = setOf a g (picked values w)
+
+-- Bits that stand for n numbers of a list.
+pub record Picks (values w : List ℕ) (n : ℕ) : Type 0 where
+  pub valued : length values ≤ 768
+  pub within : Within values w
+  pub counted : length (picked values w) ≡ n
+  pub few : n ≤ 512
 
 -- The TLV of entry i.
 unfoldable pub entryBytes : List ℕ → List ℕ → List (List (List ℕ)) → List (List ℕ) → List (List ℕ) → ℕ → List ℕ
@@ -30,13 +36,8 @@ pub record Measurable (count : ℕ) (grids : List (List (List ℕ))) (heads : Li
   pub shortRows : (i : ℕ) → i < count → Short (getD grids i [])
   pub few : (i : ℕ) → i < count → getD (getD heads i []) 2 0 ≤ 512
 
--- A list of k numbers holds the SRLGs of any one entry.
-abbrev pub Holds : List ℕ → ℕ → List (List ℕ) → ℕ → Type 0
-Holds values count bits k = (i : ℕ) → i < count → length (picked values (getD bits i [])) ≤ k
-
--- A table that can be read and written, with so long a scratch.
-pub record Readable (a values : List ℕ) (count : ℕ) (grids : List (List (List ℕ))) (bits heads : List (List ℕ)) (scratch : ℕ) : Type 0 where
+-- A table that can be read and written.
+pub record Readable (a values : List ℕ) (count : ℕ) (grids : List (List (List ℕ))) (bits heads : List (List ℕ)) : Type 0 where
   pub valued : length values ≤ 768
   pub most : count ≤ 127
   pub sound : Sound a values count grids bits heads
-  pub holds : Holds values count bits scratch

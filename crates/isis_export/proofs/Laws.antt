@@ -8,7 +8,7 @@ use native.Mathlib.Nat.{pow-suc, div-eq-of-lt}
 use borrow.Author.Tests.{ltb-true, ltb-false, leb-true, eqb-true, eqb-false, ne-eqb}
 use lib.Dec.{eqb, ltb, leb}
 use lib.Pow.{pow-pos}
-use lib.ListN.{length, take, drop, getD, replicate, length-take}
+use lib.ListN.{length, take, drop, replicate, length-take}
 use Rattle.linkstate.specs.Lists.{member, numbers, keep}
 use Rattle.linkstate.specs.Kinds.{linkCodes}
 use Rattle.linkstate.specs.Masks.{user, others, inNumber}
@@ -32,8 +32,6 @@ use Rattle.group_bytes.specs.Groups.{Readable}
 use Rattle.export_bytes.specs.Whole.{wholeBytes}
 use Rattle.export_bytes.specs.Describes.{Describes}
 use Rattle.export_bytes.proofs.Exported.{whole-export}
-use Rattle.srlg_ranks.specs.Ranks.{picked}
-use Rattle.srlg_ranks.proofs.Laws.{length-picked}
 use Rattle.isis_grids.specs.Grid.{rowOf, gridOf, filledIn}
 use Rattle.isis_grids.proofs.Grids.{filled-empty, links-filled, placed-legacy}
 use Rattle.isis_sets.specs.Sets.{rsvpTeGrid}
@@ -45,7 +43,7 @@ use Rattle.isis_srlg_values.specs.declared.Gathered.{Gathered}
 use Rattle.isis_srlg_values.specs.Gathered as B
 use Rattle.isis_meaning.proofs.Rows.{rows-fit, grid-codes, link-codes}
 use Rattle.isis_meaning.proofs.Sets.{general-row, top-row}
-use Rattle.isis_export.specs.Tables.{Beside, Scratch}
+use Rattle.isis_export.specs.Tables.{Beside}
 
 -- ---- a link that was accepted
 
@@ -82,14 +80,8 @@ module _ (a b c : List ℕ) (passed : PassedLink a b c) where
   bandwidths-fit = rows-fit a (λ k. bandwidthKind k (sideA a)) linkCodes link-codes (bandwidth-stands a (passed .runA))
 
   module _ (values : List ℕ) (count : ℕ) (grids : List (List (List ℕ))) (bits heads : List (List ℕ)) (t : Filled a b c values count grids bits heads) where
-    pub readable : (k : ℕ) → length values ≤ 768 → Scratch (length values) k → Readable a values count grids bits heads k
-    readable k most h =
-        record {
-          valued = most;
-          most = t .most;
-          sound = t .sound;
-          holds = λ i l. let e = t .sound .entry i l in h (length (picked values (getD bits i []))) (omega (arith, e .counted, e .few)) (length-picked values (getD bits i []));
-        }
+    pub readable : length values ≤ 768 → Readable a values count grids bits heads
+    readable most = record { valued = most; most = t .most; sound = t .sound }
 
     pub describes : (l : List (List ℕ)) (rs gs : List ℕ) → Beside a b c l rs gs
         → Describes (meaning (linkSource a b c)) a (map (λ k. rowOf k (bandwidthKind k (sideA a))) linkCodes) (rsvpTeGrid (sideA a)) rs (gridOf (generalSet (sideA a))) gs values count grids bits heads
@@ -175,13 +167,6 @@ beside-ready a b c l x y r g i e f h k =
 
 pub beside-part : (a b c : List ℕ) (l : List (List ℕ)) (x y : List ℕ) (r g : ℕ) → Beside a b c l (take r x) (take g y) → Beside a b c l (take (r - 0) (drop 0 x)) (take (g - 0) (drop 0 y))
 beside-part a b c l x y r g s = rw (front-part r x, front-part g y) s
-
--- Fewer numbers need no more room.
-pub scratch-part : (values : List ℕ) (n k : ℕ) → Scratch n k → Scratch (length (take (n - 0) (drop 0 values))) k
-scratch-part values n k h i few l = h i few (omega (arith, l, ap length (front-part n values), length-take n values))
-
-pub scratch-fewer : (m n k : ℕ) → m ≤ n → Scratch n k → Scratch m k
-scratch-fewer m n k h s i few l = s i few (omega arith)
 
 pub rsvp-te-number : numberTooHigh (standardNo 0) ≡ false
 unfolding numberTooHigh

@@ -17,7 +17,3 @@ pub record Beside (a b c : List ℕ) (l : List (List ℕ)) (rs gs : List ℕ) : 
   pub general : gs ≡ srlgs (generalSet (sideB b c))
   pub fewRs : length rs ≤ 512
   pub fewGs : length gs ≤ 512
-
--- A list of k numbers has room for the SRLGs of one set, which are at most 512, where there are no more numbers than this.
-abbrev pub Scratch : ℕ → ℕ → Type 0
-Scratch most k = (n : ℕ) → n ≤ 512 → n ≤ most → n ≤ k

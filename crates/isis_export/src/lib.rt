@@ -18,7 +18,7 @@ ghost use Rattle.isis_srlg_values.specs.Gathered as B;
 ghost use Rattle.asla_bytes.specs.Applications.{inNumbers};
 ghost use Rattle.isis_table.specs.Filled.{PassedLink, NamedBy, ReadyA, Ready, left};
 ghost use Rattle.isis_table.specs.Filled as T;
-ghost use Rattle.isis_export.specs.Tables.{Beside, Scratch};
+ghost use Rattle.isis_export.specs.Tables.{Beside};
 ghost use Rattle.isis_export.specs.Delivered.{Delivered};
 use isis_asla_index::Index;
 use isis_sets::Masks;
@@ -56,13 +56,12 @@ fn export_with(
     user: u64,
     rs: &[u32],
     gs: &[u32],
-    scratch: &mut [u32],
     grids: &mut [[[usize; 2]; 10]],
     bits: &mut [[u64; 12]],
     heads: &mut [[u64; 4]],
     out: &mut [u8],
 ) -> Written
-    requires { ⌜ Ready (now a) (now b) (now c) (now lists) (now standards) (now users) index (now legacy) (now general) (now values) (now sets) (now takers) entries standard user × Beside (now a) (now b) (now c) (now l) (now rs) (now gs) × Scratch (length (now values)) (length (now scratch)) × T.Holds (left (inNumbers standard user) 1) (now grids) (now bits) (now heads) ⌝ }
+    requires { ⌜ Ready (now a) (now b) (now c) (now lists) (now standards) (now users) index (now legacy) (now general) (now values) (now sets) (now takers) entries standard user × Beside (now a) (now b) (now c) (now l) (now rs) (now gs) × T.Holds (left (inNumbers standard user) 1) (now grids) (now bits) (now heads) ⌝ }
     ensures { λ r. ⌜ toldExported r (now (out .exit)) ≡ write accepted (Definitions.export (meaning (linkSource (now (a .entry)) (now (b .entry)) (now (c .entry))))) (now (out .entry)) ⌝ }
 {
     let count = isis_table::fill_groups(
@@ -98,7 +97,6 @@ fn export_with(
         grids,
         bits,
         heads,
-        scratch,
         out,
     )
 }
@@ -123,10 +121,9 @@ fn export_two(
     user: u64,
     rs: &[u32],
     gs: &[u32],
-    scratch: &mut [u32],
     out: &mut [u8],
 ) -> Written
-    requires { ⌜ Ready (now a) (now b) (now c) (now lists) (now standards) (now users) index (now legacy) (now general) (now values) (now sets) (now takers) entries standard user × Beside (now a) (now b) (now c) (now l) (now rs) (now gs) × Scratch (length (now values)) (length (now scratch)) × (left (inNumbers standard user) 1 ≤ 2) ⌝ }
+    requires { ⌜ Ready (now a) (now b) (now c) (now lists) (now standards) (now users) index (now legacy) (now general) (now values) (now sets) (now takers) entries standard user × Beside (now a) (now b) (now c) (now l) (now rs) (now gs) × (left (inNumbers standard user) 1 ≤ 2) ⌝ }
     ensures { λ r. ⌜ toldExported r (now (out .exit)) ≡ write accepted (Definitions.export (meaning (linkSource (now (a .entry)) (now (b .entry)) (now (c .entry))))) (now (out .entry)) ⌝ }
 {
     let mut grids = [[[0usize; 2]; 10]; 2];
@@ -151,7 +148,6 @@ fn export_two(
         user,
         rs,
         gs,
-        scratch,
         &mut grids,
         &mut bits,
         &mut heads,
@@ -178,10 +174,9 @@ fn export_few(
     user: u64,
     rs: &[u32],
     gs: &[u32],
-    scratch: &mut [u32],
     out: &mut [u8],
 ) -> Written
-    requires { ⌜ Ready (now a) (now b) (now c) (now lists) (now standards) (now users) index (now legacy) (now general) (now values) (now sets) (now takers) entries standard user × Beside (now a) (now b) (now c) (now l) (now rs) (now gs) × Scratch (length (now values)) (length (now scratch)) × (left (inNumbers standard user) 1 ≤ 12) ⌝ }
+    requires { ⌜ Ready (now a) (now b) (now c) (now lists) (now standards) (now users) index (now legacy) (now general) (now values) (now sets) (now takers) entries standard user × Beside (now a) (now b) (now c) (now l) (now rs) (now gs) × (left (inNumbers standard user) 1 ≤ 12) ⌝ }
     ensures { λ r. ⌜ toldExported r (now (out .exit)) ≡ write accepted (Definitions.export (meaning (linkSource (now (a .entry)) (now (b .entry)) (now (c .entry))))) (now (out .entry)) ⌝ }
 {
     let mut grids = [[[0usize; 2]; 10]; 12];
@@ -206,7 +201,6 @@ fn export_few(
         user,
         rs,
         gs,
-        scratch,
         &mut grids,
         &mut bits,
         &mut heads,
@@ -233,10 +227,9 @@ fn export_many(
     user: u64,
     rs: &[u32],
     gs: &[u32],
-    scratch: &mut [u32],
     out: &mut [u8],
 ) -> Written
-    requires { ⌜ Ready (now a) (now b) (now c) (now lists) (now standards) (now users) index (now legacy) (now general) (now values) (now sets) (now takers) entries standard user × Beside (now a) (now b) (now c) (now l) (now rs) (now gs) × Scratch (length (now values)) (length (now scratch)) ⌝ }
+    requires { ⌜ Ready (now a) (now b) (now c) (now lists) (now standards) (now users) index (now legacy) (now general) (now values) (now sets) (now takers) entries standard user × Beside (now a) (now b) (now c) (now l) (now rs) (now gs) ⌝ }
     ensures { λ r. ⌜ toldExported r (now (out .exit)) ≡ write accepted (Definitions.export (meaning (linkSource (now (a .entry)) (now (b .entry)) (now (c .entry))))) (now (out .entry)) ⌝ }
 {
     let mut grids = [[[0usize; 2]; 10]; 127];
@@ -261,7 +254,6 @@ fn export_many(
         user,
         rs,
         gs,
-        scratch,
         &mut grids,
         &mut bits,
         &mut heads,
@@ -289,10 +281,9 @@ fn export_named(
     user: u64,
     rs: &[u32],
     gs: &[u32],
-    scratch: &mut [u32],
     out: &mut [u8],
 ) -> Written
-    requires { ⌜ Ready (now a) (now b) (now c) (now lists) (now standards) (now users) index (now legacy) (now general) (now values) (now sets) (now takers) entries standard user × Beside (now a) (now b) (now c) (now l) (now rs) (now gs) × Scratch (length (now values)) (length (now scratch)) ⌝ }
+    requires { ⌜ Ready (now a) (now b) (now c) (now lists) (now standards) (now users) index (now legacy) (now general) (now values) (now sets) (now takers) entries standard user × Beside (now a) (now b) (now c) (now l) (now rs) (now gs) ⌝ }
     ensures { λ r. ⌜ toldExported r (now (out .exit)) ≡ write accepted (Definitions.export (meaning (linkSource (now (a .entry)) (now (b .entry)) (now (c .entry))))) (now (out .entry)) ⌝ }
 {
     if isis_table::few_named(standard, user, 2) {
@@ -315,7 +306,6 @@ fn export_named(
             user,
             rs,
             gs,
-            scratch,
             out,
         );
     }
@@ -339,7 +329,6 @@ fn export_named(
             user,
             rs,
             gs,
-            scratch,
             out,
         );
     }
@@ -362,7 +351,6 @@ fn export_named(
         user,
         rs,
         gs,
-        scratch,
         out,
     )
 }
@@ -385,10 +373,9 @@ fn export_indexed(
     takers: &mut [[u64; 2]],
     rs: &[u32],
     gs: &[u32],
-    scratch: &mut [u32],
     out: &mut [u8],
 ) -> Written
-    requires { ⌜ PassedLink (now a) (now b) (now c) × ReadyA (now a) (now lists) (now standards) (now users) index (now legacy) (now general) × B.Values (now b) (now c) g (now values) × (length (now b) + 16 ≤ 16 * length (now sets)) × (length (now b) + 16 ≤ 16 * length (now takers)) × Beside (now a) (now b) (now c) (now l) (now rs) (now gs) × Scratch (length (now values)) (length (now scratch)) ⌝ }
+    requires { ⌜ PassedLink (now a) (now b) (now c) × ReadyA (now a) (now lists) (now standards) (now users) index (now legacy) (now general) × B.Values (now b) (now c) g (now values) × (length (now b) + 16 ≤ 16 * length (now sets)) × (length (now b) + 16 ≤ 16 * length (now takers)) × Beside (now a) (now b) (now c) (now l) (now rs) (now gs) ⌝ }
     ensures { λ r. ⌜ toldExported r (now (out .exit)) ≡ write accepted (Definitions.export (meaning (linkSource (now (a .entry)) (now (b .entry)) (now (c .entry))))) (now (out .entry)) ⌝ }
 {
     let entries = isis_srlg_index::index_srlgs(b, c, values, g, sets, takers);
@@ -414,7 +401,6 @@ fn export_indexed(
         user,
         rs,
         gs,
-        scratch,
         out,
     )
 }
@@ -439,10 +425,9 @@ fn export_sorted(
     rn: usize,
     gs: &[u32],
     gn: usize,
-    scratch: &mut [u32],
     out: &mut [u8],
 ) -> Written
-    requires { ⌜ PassedLink (now a) (now b) (now c) × ReadyA (now a) (now lists) (now standards) (now users) index (now legacy) (now general) × B.Values (now b) (now c) g (take (g .count) (now values)) × (g .count ≤ length (now values)) × (length (now b) + 16 ≤ 16 * length (now sets)) × (length (now b) + 16 ≤ 16 * length (now takers)) × Beside (now a) (now b) (now c) (now l) (take rn (now rs)) (take gn (now gs)) × (rn ≤ length (now rs)) × (gn ≤ length (now gs)) × Scratch (g .count) (length (now scratch)) ⌝ }
+    requires { ⌜ PassedLink (now a) (now b) (now c) × ReadyA (now a) (now lists) (now standards) (now users) index (now legacy) (now general) × B.Values (now b) (now c) g (take (g .count) (now values)) × (g .count ≤ length (now values)) × (length (now b) + 16 ≤ 16 * length (now sets)) × (length (now b) + 16 ≤ 16 * length (now takers)) × Beside (now a) (now b) (now c) (now l) (take rn (now rs)) (take gn (now gs)) × (rn ≤ length (now rs)) × (gn ≤ length (now gs)) ⌝ }
     ensures { λ r. ⌜ toldExported r (now (out .exit)) ≡ write accepted (Definitions.export (meaning (linkSource (now (a .entry)) (now (b .entry)) (now (c .entry))))) (now (out .entry)) ⌝ }
 {
     let n = g.count;
@@ -463,7 +448,6 @@ fn export_sorted(
         takers,
         &rs[0..rn],
         &gs[0..gn],
-        scratch,
         out,
     )
 }
@@ -479,12 +463,11 @@ fn export_runs(
     values: &mut [u32],
     list: &mut [u32],
     tmp: &mut [u32],
-    scratch: &mut [u32],
     sets: &mut [[u64; 12]],
     takers: &mut [[u64; 2]],
     out: &mut [u8],
 ) -> Written
-    requires { ⌜ PassedLink (now a) (now b) (now c) × Room (now a) (now lists) (now standards) (now users) × (length (now b) / 4 + length (now c) / 4 ≤ length (now values)) × (length (now b) / 4 + length (now c) / 4 ≤ length (now list)) × (length (now b) / 4 + length (now c) / 4 ≤ length (now tmp)) × Scratch (length (now b) / 4 + length (now c) / 4) (length (now scratch)) × (length (now b) + 16 ≤ 16 * length (now sets)) × (length (now b) + 16 ≤ 16 * length (now takers)) ⌝ }
+    requires { ⌜ PassedLink (now a) (now b) (now c) × Room (now a) (now lists) (now standards) (now users) × (length (now b) / 4 + length (now c) / 4 ≤ length (now values)) × (length (now b) / 4 + length (now c) / 4 ≤ length (now list)) × (length (now b) / 4 + length (now c) / 4 ≤ length (now tmp)) × (length (now b) + 16 ≤ 16 * length (now sets)) × (length (now b) + 16 ≤ 16 * length (now takers)) ⌝ }
     ensures { λ r. ⌜ toldExported r (now (out .exit)) ≡ write accepted (Definitions.export (meaning (linkSource (now (a .entry)) (now (b .entry)) (now (c .entry))))) (now (out .entry)) ⌝ }
 {
     let index = isis_asla_index::index_aslas(a, lists, standards, users);
@@ -515,7 +498,6 @@ fn export_runs(
         rn,
         tmp,
         gn,
-        scratch,
         out,
     )
 }
@@ -531,7 +513,6 @@ fn export_least(a: &[u8], b: &[u8], c: &[u8], out: &mut [u8]) -> Written
     let mut values = [0u32; 16];
     let mut list = [0u32; 16];
     let mut tmp = [0u32; 16];
-    let mut scratch = [0u32; 16];
     let mut sets = [[0u64; 12]; 3];
     let mut takers = [[0u64; 2]; 3];
     export_runs(
@@ -544,7 +525,6 @@ fn export_least(a: &[u8], b: &[u8], c: &[u8], out: &mut [u8]) -> Written
         &mut values,
         &mut list,
         &mut tmp,
-        &mut scratch,
         &mut sets,
         &mut takers,
         out,
@@ -561,7 +541,6 @@ fn export_small(a: &[u8], b: &[u8], c: &[u8], out: &mut [u8]) -> Written
     let mut values = [0u32; 128];
     let mut list = [0u32; 128];
     let mut tmp = [0u32; 128];
-    let mut scratch = [0u32; 128];
     let mut sets = [[0u64; 12]; 21];
     let mut takers = [[0u64; 2]; 21];
     export_runs(
@@ -574,7 +553,6 @@ fn export_small(a: &[u8], b: &[u8], c: &[u8], out: &mut [u8]) -> Written
         &mut values,
         &mut list,
         &mut tmp,
-        &mut scratch,
         &mut sets,
         &mut takers,
         out,
@@ -591,7 +569,6 @@ fn export_large(a: &[u8], b: &[u8], c: &[u8], out: &mut [u8]) -> Written
     let mut values = [0u32; 768];
     let mut list = [0u32; 768];
     let mut tmp = [0u32; 768];
-    let mut scratch = [0u32; 512];
     let mut sets = [[0u64; 12]; 129];
     let mut takers = [[0u64; 2]; 129];
     export_runs(
@@ -604,7 +581,6 @@ fn export_large(a: &[u8], b: &[u8], c: &[u8], out: &mut [u8]) -> Written
         &mut values,
         &mut list,
         &mut tmp,
-        &mut scratch,
         &mut sets,
         &mut takers,
         out,

@@ -15,7 +15,7 @@ use Rattle.linkstate.specs.Export.{tlv, bytesOf, present, topValue}
 use Rattle.kinds.proofs.Computing.{computing}
 use Rattle.octets.proofs.Laws.{length-bytesAt, put-nil, put-then}
 use Rattle.srlg.proofs.Laws.{length-bytesOfWords}
-use Rattle.set_bytes.specs.Sets.{inTlvs, front, rowValue, rowTlv, setOf, bandwidthOf, topOf, lowCodes, highCodes, extendedCodes, middleCodes, RowFits, rowRead}
+use Rattle.set_bytes.specs.Sets.{inTlvs, srlgTlv, front, rowValue, rowTlv, setOf, bandwidthOf, topOf, lowCodes, highCodes, extendedCodes, middleCodes, RowFits, rowRead}
 use Rattle.set_bytes.specs.declared.Row.the-variants.{Present, Absent}
 
 -- ---- the TLVs of a set
@@ -202,20 +202,17 @@ unfolding bytesOfWords each
 no-words = refl
 
 module _ (ns : List ℕ) where
-  abbrev pub srlgTlv : List ℕ
-  srlgTlv = inTlvs (λ _. bytesOfWords ns) (1096 ∷ [])
-
-  pub srlgs-none : length ns ≡ 0 → srlgTlv ≡ []
+  pub srlgs-none : length ns ≡ 0 → srlgTlv ns ≡ []
   srlgs-none e = tlv-absent (λ _. bytesOfWords ns) 1096 (none ns e)
     where
       none : (ms : List ℕ) → length ms ≡ 0 → bytesOfWords ms ≡ []
       none [] e = no-words
       none (m ∷ ms) e = absurd (omega arith)
 
-  pub srlgs-some : 0 < length ns → srlgTlv ≡ bytesOf (tlv 1096 (bytesOfWords ns))
+  pub srlgs-some : 0 < length ns → srlgTlv ns ≡ bytesOf (tlv 1096 (bytesOfWords ns))
   srlgs-some h = tlv-present (λ _. bytesOfWords ns) 1096 (bytesOfWords ns) refl (omega (arith, length-bytesOfWords ns))
 
-  pub length-srlgs : 0 < length ns → length srlgTlv ≡ 4 + 4 * length ns
+  pub length-srlgs : 0 < length ns → length (srlgTlv ns) ≡ 4 + 4 * length ns
   length-srlgs h = ap length (srlgs-some h) ∙ length-tlv 1096 (bytesOfWords ns) ∙ ap (λ (k : ℕ). 4 + k) (length-bytesOfWords ns)
 
 -- ---- a TLV written in parts

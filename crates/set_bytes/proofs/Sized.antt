@@ -10,8 +10,8 @@ use native.Mathlib.Omega.{arith}
 use borrow.Author.Tests.{eqb-false, eq-eqb, ne-eqb}
 use Rattle.linkstate.specs.Bytes.{bytesAt}
 use Rattle.linkstate.specs.Kinds.{linkCodes, applicationCodes}
-use Rattle.set_bytes.specs.Sets.{inTlvs, front, rowValue, rowTlv, setOf, bandwidthOf, topOf, lowCodes, highCodes, extendedCodes, middleCodes, RowFits, Fits, rowSize, rowsSize, frontSize}
-use Rattle.set_bytes.proofs.Laws.{tlvs-none, tlv-absent, tlv-present, length-tlv, length-value, length-three, front-none, srlgTlv, srlgs-none, length-srlgs, extended-next, middle-is, set-is, low-is, high-is, bandwidths-are}
+use Rattle.set_bytes.specs.Sets.{inTlvs, srlgTlv, front, rowValue, rowTlv, setOf, bandwidthOf, topOf, lowCodes, highCodes, extendedCodes, middleCodes, RowFits, Fits, rowSize, rowsSize, frontSize}
+use Rattle.set_bytes.proofs.Laws.{tlvs-none, tlv-absent, tlv-present, length-tlv, length-value, length-three, front-none, srlgs-none, length-srlgs, extended-next, middle-is, set-is, low-is, high-is, bandwidths-are}
 
 pub rows-next : (g : List (List ℕ)) (k s r : ℕ) → s ≡ rowsSize g k → r ≡ rowSize (getD g k []) → s + r ≡ rowsSize g (k + 1)
 unfolding rowsSize

@@ -17,6 +17,10 @@ use Rattle.set_bytes.specs.declared.Row.the-variants.{Present, Absent}
 abbrev pub inTlvs : (ℕ → List ℕ) → List ℕ → List ℕ
 inTlvs f ks = each bytesOf (present ks f)
 
+-- The TLV of SRLGs; none where there are none.
+abbrev pub srlgTlv : List ℕ → List ℕ
+srlgTlv ns = inTlvs (λ _. bytesOfWords ns) (1096 ∷ [])
+
 -- K1. What BGP-LS has in front of a value of run A: a zero byte before the TE metric, which has three bytes in IS-IS.
 unfoldable pub front : ℕ → List ℕ
 front c = cond (eqb c 1092) (0 ∷ []) []

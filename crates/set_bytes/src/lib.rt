@@ -1,14 +1,14 @@
 // The TLVs of one set, measured and written: of an application's set, and of what stands at the top of a BGP-LS run.
 ghost use mathlib.Core.Path.{_≡_};
-ghost use mathlib.Core.List.{List, [], _∷_, _++_};
+ghost use mathlib.Core.List.{List, [], _++_};
 ghost use Prim.Native.Nat.{ℕ, _+_, _≤_, _<_};
 ghost use lib.ListN.{length, getD};
 ghost use Rattle.linkstate.specs.Lists.{put, all, empty};
-ghost use Rattle.linkstate.specs.Bytes.{two, bytesAt, bytesOfWords};
+ghost use Rattle.linkstate.specs.Bytes.{two, bytesAt};
 ghost use Rattle.linkstate.specs.Kinds.{linkCodes, applicationCodes};
 ghost use Rattle.linkstate.specs.Meaning.{row};
 ghost use Rattle.linkstate.specs.Export.{tlv, bytesOf};
-ghost use Rattle.set_bytes.specs.Sets.{inTlvs, front, rowTlv, setOf, bandwidthOf, topOf, lowCodes, highCodes, RowFits, Fits, Short, rowRead, rowSize, rowsSize, frontSize, extendedCodes, middleCodes};
+ghost use Rattle.set_bytes.specs.Sets.{inTlvs, srlgTlv, front, rowTlv, setOf, bandwidthOf, topOf, lowCodes, highCodes, RowFits, Fits, Short, rowRead, rowSize, rowsSize, frontSize, extendedCodes, middleCodes};
 
 // The value of a kind in run A, by its row of a grid.
 pub enum Row {
@@ -40,7 +40,7 @@ fn front_len(code: u16) -> usize
 // How many bytes the TLV of n SRLGs has: none where there are none.
 fn srlgs_size(n: usize) -> usize
     requires { ⌜ n ≤ 512 ⌝ }
-    ensures { λ r. ⌜ (r ≤ 2052) × ((ns : List ℕ) → length ns ≡ n → r ≡ length (inTlvs (λ _. bytesOfWords ns) (1096 ∷ []))) ⌝ }
+    ensures { λ r. ⌜ (r ≤ 2052) × ((ns : List ℕ) → length ns ≡ n → r ≡ length (srlgTlv ns)) ⌝ }
 {
     if n == 0 {
         return 0;
@@ -93,7 +93,7 @@ fn front_size(g: &[[usize; 2]; 10]) -> usize
 // How many bytes the TLVs of a grid and of n SRLGs have.
 fn kinds_size(g: &[[usize; 2]; 10], n: usize) -> usize
     requires { ⌜ (n ≤ 512) × Short (now g) ⌝ }
-    ensures { λ r. ⌜ (r ≤ 4613) × ((ns : List ℕ) → length ns ≡ n → r ≡ rowsSize (now (g .entry)) 10 + frontSize (now (g .entry)) + length (inTlvs (λ _. bytesOfWords ns) (1096 ∷ []))) ⌝ }
+    ensures { λ r. ⌜ (r ≤ 4613) × ((ns : List ℕ) → length ns ≡ n → r ≡ rowsSize (now (g .entry)) 10 + frontSize (now (g .entry)) + length (srlgTlv ns)) ⌝ }
 {
     grid_size(g) + front_size(g) + srlgs_size(n)
 }
@@ -133,8 +133,8 @@ fn write_row(a: &[u8], place: usize, len: usize, code: u16, out: &mut [u8], at: 
 
 // The TLV of SRLGs, if there are any; the place after it.
 fn write_srlgs(srlgs: &[u32], out: &mut [u8], at: usize) -> usize
-    requires { ⌜ (length (now srlgs) ≤ 512) × (at + length (inTlvs (λ _. bytesOfWords (now srlgs)) (1096 ∷ [])) ≤ length (now out)) ⌝ }
-    ensures { λ r. ⌜ (r ≡ at + length (inTlvs (λ _. bytesOfWords (now (srlgs .entry))) (1096 ∷ []))) × (now (out .exit) ≡ put (now (out .entry)) at (inTlvs (λ _. bytesOfWords (now (srlgs .entry))) (1096 ∷ []))) ⌝ }
+    requires { ⌜ (length (now srlgs) ≤ 512) × (at + length (srlgTlv (now srlgs)) ≤ length (now out)) ⌝ }
+    ensures { λ r. ⌜ (r ≡ at + length (srlgTlv (now (srlgs .entry)))) × (now (out .exit) ≡ put (now (out .entry)) at (srlgTlv (now (srlgs .entry)))) ⌝ }
 {
     let n = srlgs.len();
     if n == 0 {
@@ -147,7 +147,7 @@ fn write_srlgs(srlgs: &[u32], out: &mut [u8], at: usize) -> usize
 }
 
 // The TLV of a kind by its row, if there is a value; the place after it.
-fn write_kind(a: &[u8], row: [usize; 2], code: u16, out: &mut [u8], at: usize) -> usize
+pub fn write_kind(a: &[u8], row: [usize; 2], code: u16, out: &mut [u8], at: usize) -> usize
     requires { ⌜ RowFits (now a) row × (at + length (rowTlv (now a) code row) ≤ length (now out)) ⌝ }
     ensures { λ r. ⌜ (r ≡ at + length (rowTlv (now (a .entry)) code row)) × (now (out .exit) ≡ put (now (out .entry)) at (rowTlv (now (a .entry)) code row)) ⌝ }
 {
@@ -168,7 +168,7 @@ fn write_bandwidths(a: &[u8], l: &[[usize; 2]; 3], out: &mut [u8], at: usize) ->
 }
 
 // The TLVs of the kinds 1114 to 1120, ascending; the place after them.
-fn write_extended(a: &[u8], g: &[[usize; 2]; 10], out: &mut [u8], at: usize) -> usize
+pub fn write_extended(a: &[u8], g: &[[usize; 2]; 10], out: &mut [u8], at: usize) -> usize
     requires { ⌜ Fits (now a) (now g) × (at + length (inTlvs (setOf (now a) (now g) []) extendedCodes) ≤ length (now out)) ⌝ }
     ensures { λ r. ⌜ (r ≡ at + length (inTlvs (setOf (now (a .entry)) (now (g .entry)) []) extendedCodes)) × (now (out .exit) ≡ put (now (out .entry)) at (inTlvs (setOf (now (a .entry)) (now (g .entry)) []) extendedCodes)) ⌝ }
 {

@@ -76,15 +76,6 @@ keep-first (suc t) p q (v ∷ l) h n e c =
     ∙ keep-first t (λ j. p (suc j)) (λ j. q (suc j)) l (omega arith) (λ j b. n (suc j) (omega arith)) e (λ j. c (suc j) ∙ rw (eqb·suc-suc j t))
     ∙ ap (λ (r : List ℕ). getD l t 0 ∷ r) (sym (keep-suc q l)))
 
-pub keep-length : (p : ℕ → Bool) (i : ℕ) (l : List ℕ) → length (keepFrom p i l) ≤ length l
-unfolding keepFrom
-keep-length p i [] = omega arith
-keep-length p i (v ∷ l) = go (p i) (keep-length p (suc i) l)
-  where
-    go : (b : Bool) → length (keepFrom p (suc i) l) ≤ length l → length (cond b (v ∷ keepFrom p (suc i) l) (keepFrom p (suc i) l)) ≤ suc (length l)
-    go true h = omega arith
-    go false h = omega arith
-
 -- ---- members
 
 -- Only members of the list are kept.
@@ -143,10 +134,6 @@ pub picked-same : (values x y : List ℕ) → ((i : ℕ) → i < length values �
 unfolding picked
 picked-same values x y h =
     keep-same (inWords x) (inWords y) 0 0 values (λ j a. let e : 0 + j ≡ j = omega arith in rw e (h j a))
-
-pub length-picked : (values bits : List ℕ) → length (picked values bits) ≤ length values
-unfolding picked
-length-picked values bits = keep-length (inWords bits) 0 values
 
 -- Bits that say which numbers of the list are members of xs stand for the different numbers of xs.
 pub picked-is : (values bits xs : List ℕ) → ascending values ≡ true → Among xs values → Says values bits xs → picked values bits ≡ distinct xs

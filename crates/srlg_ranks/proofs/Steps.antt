@@ -2,7 +2,7 @@
 use Prim.Native.Nat.{ℕ, zero, suc, _+_, _-_, _*_, _/_, _%_, _^_, _≤_, _<_}
 use mathlib.Core.Path.{_≡_, refl, sym, _∙_, ap}
 use mathlib.Core.Bool.{Bool, true, false, _||_, _&&_, not, false≢true}
-use mathlib.Core.List.{List, [], _∷_, _++_, append-nil, append-assoc}
+use mathlib.Core.List.{List, [], _∷_, _++_}
 use native.Mathlib.Numerals.{add-one}
 use native.Mathlib.Nat.{lt-of-le-of-lt, pow-suc, one-mul, add-zero}
 use native.Mathlib.Omega.{arith}
@@ -12,12 +12,13 @@ use lib.Bits.{bitAnd, bitOr, and-le-l, or-zero-l}
 use lib.Pow.{pow-pos, shl-exact}
 use lib.Count.{trailingZeros, leadingZeros, leading-top}
 use lib.ListN.{length, getD, take, drop, set, length-drop, length-take, length-append, List·getD-eq-default, drop-of-length-le}
-use lib.Seq.{take-suc-set, append-snoc, getD-drop, getD-take, getD-set-same, getD-set-other, drop-cons}
-use Rattle.linkstate.specs.Lists.{member, sameBytes}
+use lib.Seq.{getD-drop, getD-take, getD-set-same, getD-set-other, drop-cons}
+use Rattle.linkstate.specs.Lists.{member, sameBytes, each, put}
+use Rattle.linkstate.specs.Bytes.{four, bytesOfWords}
 use Rattle.linkstate.specs.Masks.{inNumber}
 use Rattle.srlg.specs.Ascending.{ascending}
-use Rattle.srlg.proofs.Laws.{Order, less, more, same, order}
-use Rattle.octets.proofs.Laws.{same-complete, same-not}
+use Rattle.srlg.proofs.Laws.{Order, less, more, same, order, length-bytesOfWords, bytesOfWords-append}
+use Rattle.octets.proofs.Laws.{same-complete, same-not, put-nil, put-then}
 use Rattle.masks.proofs.Laws.{below-suc}
 use Rattle.masks.proofs.Steps.{zero-none}
 use Rattle.srlg_ranks.specs.Ranks.{inWords, picked, Within, Inside, TopPower}
@@ -229,25 +230,27 @@ turn values base x h f inside =
 pub share-none : (values : List ℕ) (base x : ℕ) → x ≡ 0 → share values base x ≡ []
 share-none values base x e = rw e (keep-none (inNumber 0) 0 (take 64 (drop base values)) (λ j h. zero-none j))
 
--- One number more at the front of out.
-pub wrote : (out : List ℕ) (k v : ℕ) (old new whole : List ℕ) → k < length out → old ≡ v ∷ new → take k out ++ old ≡ whole → take (k + 1) (set out k v) ++ new ≡ whole
-wrote out k v old new whole h e f = rw (add-one k, take-suc-set out k v h) (append-snoc (take k out) v new ∙ ap (λ (l : List ℕ). take k out ++ l) (sym e) ∙ f)
-
--- Nothing is left to write.
-pub pick-end : (out left : List ℕ) (k : ℕ) (whole : List ℕ) → left ≡ [] → take k out ++ left ≡ whole → take k out ≡ whole
-pick-end out left k whole e f = sym (append-nil (take k out)) ∙ ap (λ (l : List ℕ). take k out ++ l) (sym e) ∙ f
-
--- One word's numbers are written after those of the words before it.
-pub pick-next : (values ws out after : List ℕ) (w k r : ℕ) (whole : List ℕ) → take r after ≡ take k out ++ share values (64 * w) (getD ws w 0) → take k out ++ rest values ws w ≡ whole
-    → take r after ++ rest values ws (w + 1) ≡ whole
-pick-next values ws out after w k r whole e f =
-    ap (λ (l : List ℕ). l ++ rest values ws (w + 1)) e
-    ∙ append-assoc (take k out) (share values (64 * w) (getD ws w 0)) (rest values ws (w + 1))
-    ∙ ap (λ (l : List ℕ). take k out ++ l) (sym (word-next values ws w))
-    ∙ f
-
 pub length-next : (values ws : List ℕ) (w : ℕ) → length (rest values ws w) ≡ length (share values (64 * w) (getD ws w 0)) + length (rest values ws (w + 1))
 length-next values ws w = ap length (word-next values ws w) ∙ length-append (share values (64 * w) (getD ws w 0)) (rest values ws (w + 1))
+
+-- Numbers written as bytes: what is written, and what the numbers left would be written as, is the whole.
+pub bytes-next : (o q : List ℕ) (k v : ℕ) (old new whole : List ℕ) → old ≡ v ∷ new → q ≡ put o k (four v) → k + 4 * length old ≤ length o → put o k (bytesOfWords old) ≡ whole → put q (k + 4) (bytesOfWords new) ≡ whole
+unfolding bytesOfWords each four
+bytes-next o q k v old new whole e f h g =
+    put-then o q (put q (k + 4) (bytesOfWords new)) k (four v) (k + 4) (bytesOfWords new) f refl refl (omega (arith, ap length e, length-bytesOfWords new))
+    ∙ ap (λ (l : List ℕ). put o k (bytesOfWords l)) (sym e) ∙ g
+
+pub bytes-end : (o left : List ℕ) (k : ℕ) (whole : List ℕ) → left ≡ [] → put o k (bytesOfWords left) ≡ whole → o ≡ whole
+unfolding bytesOfWords each
+bytes-end o left k whole e f = put-nil o k ∙ ap (λ (l : List ℕ). put o k (bytesOfWords l)) (sym e) ∙ f
+
+pub bytes-word : (values ws o q : List ℕ) (w k r : ℕ) (whole : List ℕ) → q ≡ put o k (bytesOfWords (share values (64 * w) (getD ws w 0))) → r ≡ k + 4 * length (share values (64 * w) (getD ws w 0)) → k + 4 * length (rest values ws w) ≤ length o
+    → put o k (bytesOfWords (rest values ws w)) ≡ whole → put q r (bytesOfWords (rest values ws (w + 1))) ≡ whole
+bytes-word values ws o q w k r whole e f h g =
+    let x = share values (64 * w) (getD ws w 0) in
+    let y = rest values ws (w + 1) in
+    put-then o q (put q r (bytesOfWords y)) k (bytesOfWords x) r (bytesOfWords y) e refl (omega (arith, length-bytesOfWords x)) (omega (arith, length-bytesOfWords y, length-next values ws w))
+    ∙ ap (put o k) (sym (ap bytesOfWords (word-next values ws w) ∙ bytesOfWords-append x y)) ∙ g
 
 -- A list of at most 64 numbers needs one word.
 pub one-word : (values ws : List ℕ) → length values ≤ 64 → length (share values 0 (getD ws 0 0)) ≡ length (picked values ws)

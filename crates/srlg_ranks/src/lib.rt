@@ -1,12 +1,12 @@
-// Sets of SRLGs as bits over one ascending list of numbers: made from values, joined, counted, compared, and listed again.
+// Sets of SRLGs as bits over one ascending list of numbers: made from values, joined, counted, compared, and written as bytes.
 ghost use mathlib.Core.Bool.{true, _||_};
 ghost use mathlib.Core.Path.{_≡_};
-ghost use mathlib.Core.List.{List, _++_};
-ghost use Prim.Native.Nat.{ℕ, _+_, _≤_, _<_};
+ghost use mathlib.Core.List.{List};
+ghost use Prim.Native.Nat.{ℕ, _+_, _*_, _≤_, _<_};
 ghost use lib.Dec.{eqb};
 ghost use lib.ListN.{length, getD, take, drop};
-ghost use Rattle.linkstate.specs.Lists.{member, sameBytes};
-ghost use Rattle.linkstate.specs.Bytes.{words};
+ghost use Rattle.linkstate.specs.Lists.{member, sameBytes, put};
+ghost use Rattle.linkstate.specs.Bytes.{words, bytesOfWords};
 ghost use Rattle.linkstate.specs.Masks.{inNumber};
 ghost use Rattle.srlg.specs.Ascending.{ascending};
 ghost use Rattle.srlg_ranks.specs.Ranks.{keepFrom, inWords, picked, Within, Inside, Among, TopPower};
@@ -97,31 +97,31 @@ pub fn count_bits(bits: [u64; 12], len: usize) -> usize
     n
 }
 
-// The numbers of one word's bits, written from a place of the list on; the place after them.
-fn pick_word(values: &[u32], base: usize, bits: u64, out: &mut [u32], at: usize) -> usize
-    requires { ⌜ (base ≤ length (now values)) × Inside (drop base (now values)) bits × (at + length (keepFrom (inNumber bits) 0 (take 64 (drop base (now values)))) ≤ length (now out)) ⌝ }
-    ensures { λ r. ⌜ (r ≡ at + length (keepFrom (inNumber bits) 0 (take 64 (drop base (now (values .entry)))))) × (take r (now (out .exit)) ≡ take at (now (out .entry)) ++ keepFrom (inNumber bits) 0 (take 64 (drop base (now (values .entry))))) ⌝ }
+// The numbers of one word's bits, written as four bytes each from an offset on; the offset after them.
+fn write_word(values: &[u32], base: usize, bits: u64, out: &mut [u8], at: usize) -> usize
+    requires { ⌜ (base ≤ length (now values)) × Inside (drop base (now values)) bits × (at + 4 * length (keepFrom (inNumber bits) 0 (take 64 (drop base (now values)))) ≤ length (now out)) ⌝ }
+    ensures { λ r. ⌜ (r ≡ at + 4 * length (keepFrom (inNumber bits) 0 (take 64 (drop base (now (values .entry)))))) × (now (out .exit) ≡ put (now (out .entry)) at (bytesOfWords (keepFrom (inNumber bits) 0 (take 64 (drop base (now (values .entry))))))) ⌝ }
 {
     let mut x = bits;
     let mut k = at;
     while x != 0 {
         let t = u64::trailing_zeros(x) as usize;
-        out[k] = values[base + t];
-        k += 1;
+        octets::write32(out, k, values[base + t]);
+        k += 4;
         x = x & (x - 1);
     }
     k
 }
 
-// The numbers of a set, ascending, at the front of out; how many there are.
-pub fn pick(values: &[u32], bits: [u64; 12], out: &mut [u32]) -> usize
-    requires { ⌜ (length (now values) ≤ 768) × Within (now values) bits × (length (picked (now values) bits) ≤ length (now out)) ⌝ }
-    ensures { λ r. ⌜ (r ≡ length (picked (now (values .entry)) bits)) × (take r (now (out .exit)) ≡ picked (now (values .entry)) bits) ⌝ }
+// The numbers of a set, ascending, written as four bytes each from an offset on; the offset after them.
+pub fn write_picked(values: &[u32], bits: &[u64; 12], out: &mut [u8], at: usize) -> usize
+    requires { ⌜ (length (now values) ≤ 768) × Within (now values) (now bits) × (at + 4 * length (picked (now values) (now bits)) ≤ length (now out)) ⌝ }
+    ensures { λ r. ⌜ (r ≡ at + 4 * length (picked (now (values .entry)) (now (bits .entry)))) × (now (out .exit) ≡ put (now (out .entry)) at (bytesOfWords (picked (now (values .entry)) (now (bits .entry))))) ⌝ }
 {
     let n = (values.len() + 63) / 64;
-    let mut k = 0;
+    let mut k = at;
     for w in 0..n {
-        k = pick_word(values, 64 * w, bits[w], out, k);
+        k = write_word(values, 64 * w, bits[w], out, k);
     }
     k
 }

@@ -50,7 +50,7 @@ returns : tie.Need-returns
 returns c = let b = c .before .before .before .before .before in
     let i = b .args .i in
     let r = c .asla-size .ensures in
-    (r .0, λ a values bits s. r .1 a (picked values (getD bits i [])) (s .entry i (b .pre .1) .fits) (s .entry i (b .pre .1) .counted) ∙ ap length (entry-is a values (now (b .args .grids)) bits (now (b .args .heads)) i _ refl))
+    (r .0, λ a values bits s. r .1 a (picked values (getD bits i [])) (s .entry i (b .pre .1) .fits) (s .entry i (b .pre .1) .counted) ∙ ap length (entry-is a values (now (b .args .grids)) bits (now (b .args .heads)) i))
 
 pub entry-size-spec : {M : Type 1} → statement M
 entry-size-spec =

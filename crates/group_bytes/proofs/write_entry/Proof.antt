@@ -1,5 +1,6 @@
--- `group_bytes::write_entry` meets its contract.
-use Rattle.group_bytes.proofs.Laws.{listed-room, listed-written}
+-- `group_bytes::write_entry` meets its contract: the ASLA TLV of its grid, bits and head. Assumes nothing.
+use Rattle.group_bytes.proofs.Laws.{entry-is}
+use Rattle.set_bytes.proofs.Laws.{same-room, same-write}
 use denote.Ref.{now}
 use native.Mathlib.Omega.{arith}
 use borrow.Author.Needs.{needs}
@@ -15,13 +16,8 @@ shared-slice-element-g c = search needs
 mul-w : tie.Need-mul-w
 mul-w c = search needs
 
-shared-slice-copy-out-w : tie.Need-shared-slice-copy-out-w
-shared-slice-copy-out-w c = search needs
-
-pick-requires : tie.Need-pick-requires
-pick-requires c κs = let b = c .before .before .before .before .before .before .before in
-    let p = b .pre in
-    (p .0, p .1 .entry (b .args .i) (p .2) .within, p .3 (b .args .i) (p .2))
+shared-slice-element-w : tie.Need-shared-slice-element-w
+shared-slice-element-w c = search needs
 
 mul-standard : tie.Need-mul-standard
 mul-standard c = search needs
@@ -41,30 +37,26 @@ index-1-user c = search needs
 index-2-user : tie.Need-index-2-user
 index-2-user c = search needs
 
-write-listed-requires : tie.Need-write-listed-requires
-write-listed-requires c κs = let b = c .before .before .before .before .before .before .before .before .before .before .before .before .before .before in
-    let a = b .args in
-    let p = b .pre in
-    let r = c .before .before .before .before .before .before .pick in
-    let e = p .1 .entry (a .i) (p .2) in (
-      e .fits,
-      omega (arith, r .ensures .0, r .kept .1 .1 .0, p .3 (a .i) (p .2)),
-      omega (arith, r .ensures .0, e .counted, e .few),
-      listed-room (now (a .a)) (now (a .values)) (now (a .grids)) (now (a .bits)) (now (a .heads)) (a .i) _ _ (r .ensures .1) _ _ (p .4),
-    )
+mul-n : tie.Need-mul-n
+mul-n c = search needs
+
+index-1-n : tie.Need-index-1-n
+index-1-n c = search needs
+
+index-2-n : tie.Need-index-2-n
+index-2-n c = search needs
+
+write-picked-asla-requires : tie.Need-write-picked-asla-requires
+write-picked-asla-requires c κs = let s = c .before .before .before .before .before .before .before .before .before in
+    let a = s .args in
+    let e = s .pre .1 .entry (a .i) (s .pre .2) in
+    (e .fits, record { valued = s .pre .0; within = e .within; counted = omega (arith, e .counted); few = omega (arith, e .few) }, same-room (entry-is (now (a .a)) (now (a .values)) (now (a .grids)) (now (a .bits)) (now (a .heads)) (a .i)) (now (a .out)) (a .at) (s .pre .3))
 
 same-length : tie.Need-same-length
 same-length c = search needs
 
-same-length-2 : tie.Need-same-length-2
-same-length-2 c = search needs
-
 returns : tie.Need-returns
-returns c = let b = c .before .before .before .before .before .before .before .before .before .before .before .before .before .before .before .before .before in
-    let a = b .args in
-    let r = c .before .before .before .before .before .before .before .before .before .pick .ensures in
-    let w = c .before .before .write-listed .ensures in
-    listed-written (now (a .a)) (now (a .values)) (now (a .grids)) (now (a .bits)) (now (a .heads)) (a .i) _ _ (r .1) (a .at) _ (now (a .out)) _ (w .0) (w .1)
+returns c = let a = c .before .before .before .before .before .before .before .before .before .before .before .before .args in same-write (entry-is (now (a .a)) (now (a .values)) (now (a .grids)) (now (a .bits)) (now (a .heads)) (a .i)) (now (a .out)) (a .at) (c .before .before .write-picked-asla .ensures)
 
 pub write-entry-spec : {M : Type 1} → statement M
 write-entry-spec =
@@ -73,15 +65,16 @@ write-entry-spec =
     mul-g
     shared-slice-element-g
     mul-w
-    shared-slice-copy-out-w
-    pick-requires
+    shared-slice-element-w
     mul-standard
     index-1-standard
     index-2-standard
     mul-user
     index-1-user
     index-2-user
-    write-listed-requires
+    mul-n
+    index-1-n
+    index-2-n
+    write-picked-asla-requires
     same-length
-    same-length-2
     returns)

@@ -11,16 +11,15 @@ named-in-link-requires : tie.Need-named-in-link-requires
 named-in-link-requires c κs = search needs
 
 export-named-requires : tie.Need-export-named-requires
-export-named-requires c κs = let a = c .before .before .before .before .before .before .before .before .before .before .before .before .before .before .before .before .before .before .before .before .args in
-    let p = c .before .before .before .before .before .before .before .before .before .before .before .before .before .before .before .before .before .before .before .before .pre in (
+export-named-requires c κs = let a = c .before .before .before .before .before .before .before .before .before .before .before .before .before .before .before .before .before .before .args in
+    let p = c .before .before .before .before .before .before .before .before .before .before .before .before .before .before .before .before .before .before .pre in (
       record {
         passed = p .0;
         ofA = p .1;
-        ofB = c .before .before .before .before .before .before .before .index-srlgs .ensures;
-        names = c .before .before .before .before .named-in-link .ensures (now (a .a)) (now (a .b)) (now (a .c)) (p .1 .indexed .named) (p .2 .names .plain (now (a .c)));
+        ofB = c .before .before .before .before .before .before .index-srlgs .ensures;
+        names = c .before .before .before .named-in-link .ensures (now (a .a)) (now (a .b)) (now (a .c)) (p .1 .indexed .named) (p .2 .names .plain (now (a .c)));
       },
       p .5,
-      p .6,
     )
 
 same-length : tie.Need-same-length
@@ -31,9 +30,6 @@ same-length-2 c = search needs
 
 same-length-3 : tie.Need-same-length-3
 same-length-3 c = search needs
-
-same-length-4 : tie.Need-same-length-4
-same-length-4 c = search needs
 
 returns : tie.Need-returns
 returns c = search needs
@@ -48,5 +44,4 @@ export-indexed-spec =
     same-length
     same-length-2
     same-length-3
-    same-length-4
     returns)

@@ -30,14 +30,11 @@ slice-aggregate-export-runs-7 c = search needs
 slice-aggregate-export-runs-8 : tie.Need-slice-aggregate-export-runs-8
 slice-aggregate-export-runs-8 c = search needs
 
-slice-aggregate-export-runs-9 : tie.Need-slice-aggregate-export-runs-9
-slice-aggregate-export-runs-9 c = search needs
-
 export-runs-requires : tie.Need-export-runs-requires
-export-runs-requires c κs = let p = c .before .before .before .before .before .before .before .before .before .before .before .before .before .before .pre in
+export-runs-requires c κs = let p = c .before .before .before .before .before .before .before .before .before .before .before .before .before .pre in
     let b = p .0 .runB .shortB in
     let d = p .0 .runB .shortC in
-    (p .0, room-of 342 _ _ _ _ (omega arith) (omega arith) refl refl refl, at-most _ 768 _ (omega arith) refl, at-most _ 768 _ (omega arith) refl, at-most _ 768 _ (omega arith) refl, (λ n few h. at-most n 512 _ few refl), at-most _ 2064 _ (omega arith) refl, at-most _ 2064 _ (omega arith) refl)
+    (p .0, room-of 342 _ _ _ _ (omega arith) (omega arith) refl refl refl, at-most _ 768 _ (omega arith) refl, at-most _ 768 _ (omega arith) refl, at-most _ 768 _ (omega arith) refl, at-most _ 2064 _ (omega arith) refl, at-most _ 2064 _ (omega arith) refl)
 
 same-length : tie.Need-same-length
 same-length c = search needs
@@ -57,7 +54,6 @@ export-large-spec =
     slice-aggregate-export-runs-6
     slice-aggregate-export-runs-7
     slice-aggregate-export-runs-8
-    slice-aggregate-export-runs-9
     export-runs-requires
     same-length
     returns)

@@ -30,12 +30,9 @@ slice-aggregate-export-runs-7 c = search needs
 slice-aggregate-export-runs-8 : tie.Need-slice-aggregate-export-runs-8
 slice-aggregate-export-runs-8 c = search needs
 
-slice-aggregate-export-runs-9 : tie.Need-slice-aggregate-export-runs-9
-slice-aggregate-export-runs-9 c = search needs
-
 export-runs-requires : tie.Need-export-runs-requires
-export-runs-requires c κs = let p = c .before .before .before .before .before .before .before .before .before .before .before .before .before .before .pre in
-    (p .0, room-of 16 _ _ _ _ (omega arith) (omega arith) refl refl refl, at-most _ 16 _ (omega arith) refl, at-most _ 16 _ (omega arith) refl, at-most _ 16 _ (omega arith) refl, (λ n few h. at-most n 16 _ (omega arith) refl), at-most _ 48 _ (omega arith) refl, at-most _ 48 _ (omega arith) refl)
+export-runs-requires c κs = let p = c .before .before .before .before .before .before .before .before .before .before .before .before .before .pre in
+    (p .0, room-of 16 _ _ _ _ (omega arith) (omega arith) refl refl refl, at-most _ 16 _ (omega arith) refl, at-most _ 16 _ (omega arith) refl, at-most _ 16 _ (omega arith) refl, at-most _ 48 _ (omega arith) refl, at-most _ 48 _ (omega arith) refl)
 
 same-length : tie.Need-same-length
 same-length c = search needs
@@ -55,7 +52,6 @@ export-least-spec =
     slice-aggregate-export-runs-6
     slice-aggregate-export-runs-7
     slice-aggregate-export-runs-8
-    slice-aggregate-export-runs-9
     export-runs-requires
     same-length
     returns)

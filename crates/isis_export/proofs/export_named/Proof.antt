@@ -7,13 +7,10 @@ few-named-requires : tie.Need-few-named-requires
 few-named-requires c κs = search needs
 
 export-two-requires : tie.Need-export-two-requires
-export-two-requires c κs = let p = c .before .before .before .before .before .before .before .before .before .before .before .before .before .before .pre in (p .0, p .1, p .2, c .before .before .before .few-named .ensures (c .before .before .if1 .taken))
+export-two-requires c κs = let p = c .before .before .before .before .before .before .before .before .before .before .before .before .pre in (p .0, p .1, c .before .before .few-named .ensures (c .before .if1 .taken))
 
 same-length : tie.Need-same-length
 same-length c = search needs
-
-same-length-2 : tie.Need-same-length-2
-same-length-2 c = search needs
 
 returns : tie.Need-returns
 returns c = search needs
@@ -22,13 +19,10 @@ few-named-requires-2 : tie.Need-few-named-requires-2
 few-named-requires-2 c κs = search needs
 
 export-few-requires : tie.Need-export-few-requires
-export-few-requires c κs = let p = c .before .before .before .before .before .before .before .before .before .before .before .before .before .before .before .before .pre in (p .0, p .1, p .2, c .before .before .before .few-named2 .ensures (c .before .before .if2 .taken))
+export-few-requires c κs = let p = c .before .before .before .before .before .before .before .before .before .before .before .before .before .before .pre in (p .0, p .1, c .before .before .few-named2 .ensures (c .before .if2 .taken))
 
-same-length-3 : tie.Need-same-length-3
-same-length-3 c = search needs
-
-same-length-4 : tie.Need-same-length-4
-same-length-4 c = search needs
+same-length-2 : tie.Need-same-length-2
+same-length-2 c = search needs
 
 returns-2 : tie.Need-returns-2
 returns-2 c = search needs
@@ -36,11 +30,8 @@ returns-2 c = search needs
 export-many-requires : tie.Need-export-many-requires
 export-many-requires c κs = search needs
 
-same-length-5 : tie.Need-same-length-5
-same-length-5 c = search needs
-
-same-length-6 : tie.Need-same-length-6
-same-length-6 c = search needs
+same-length-3 : tie.Need-same-length-3
+same-length-3 c = search needs
 
 returns-3 : tie.Need-returns-3
 returns-3 c = search needs
@@ -52,14 +43,11 @@ export-named-spec =
     few-named-requires
     export-two-requires
     same-length
-    same-length-2
     returns
     few-named-requires-2
     export-few-requires
-    same-length-3
-    same-length-4
+    same-length-2
     returns-2
     export-many-requires
-    same-length-5
-    same-length-6
+    same-length-3
     returns-3)

@@ -1,5 +1,5 @@
 -- `isis_export::export_sorted` meets its contract.
-use Rattle.isis_export.proofs.Laws.{values-part, beside-part, scratch-part}
+use Rattle.isis_export.proofs.Laws.{values-part, beside-part}
 use denote.Ref.{now}
 use borrow.Author.Needs.{needs}
 use Rattle.isis_export.proofs.export_sorted.Statement.{statement}
@@ -33,15 +33,14 @@ part-export-indexed-end-3 : tie.Need-part-export-indexed-end-3
 part-export-indexed-end-3 c = search needs
 
 export-indexed-requires : tie.Need-export-indexed-requires
-export-indexed-requires c κs = let a = c .before .before .before .before .before .before .before .before .before .before .before .before .before .before .before .before .before .args in
-    let p = c .before .before .before .before .before .before .before .before .before .before .before .before .before .before .before .before .before .pre in (
+export-indexed-requires c κs = let a = c .before .before .before .before .before .before .before .before .before .before .before .before .before .before .before .args in
+    let p = c .before .before .before .before .before .before .before .before .before .before .before .before .before .before .before .pre in (
       p .0,
       p .1,
       values-part (now (a .b)) (now (a .c)) (a .g) (now (a .values)) (a .g .count) (p .2),
       p .4,
       p .5,
       beside-part (now (a .a)) (now (a .b)) (now (a .c)) (now (a .l)) (now (a .rs)) (now (a .gs)) (a .rn) (a .gn) (p .6),
-      scratch-part (now (a .values)) (a .g .count) _ (p .9),
     )
 
 same-length : tie.Need-same-length
@@ -52,9 +51,6 @@ same-length-2 c = search needs
 
 same-length-3 : tie.Need-same-length-3
 same-length-3 c = search needs
-
-same-length-4 : tie.Need-same-length-4
-same-length-4 c = search needs
 
 returns : tie.Need-returns
 returns c = search needs
@@ -76,5 +72,4 @@ export-sorted-spec =
     same-length
     same-length-2
     same-length-3
-    same-length-4
     returns)

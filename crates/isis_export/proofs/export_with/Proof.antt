@@ -10,18 +10,18 @@ fill-groups-requires : tie.Need-fill-groups-requires
 fill-groups-requires c κs = search needs
 
 rsvp-te-grid-requires : tie.Need-rsvp-te-grid-requires
-rsvp-te-grid-requires c κs = (c .before .before .before .before .before .before .before .before .before .before .before .before .before .before .before .before .before .pre .0 .ofA .indexed, c .before .before .before .before .before .before .before .before .before .before .before .before .before .before .before .before .before .pre .0 .ofA .legacy, c .before .before .before .before .before .before .before .before .before .before .before .before .before .before .before .before .before .pre .0 .passed .runA)
+rsvp-te-grid-requires c κs = (c .before .before .before .before .before .before .before .before .before .before .before .before .before .before .before .before .pre .0 .ofA .indexed, c .before .before .before .before .before .before .before .before .before .before .before .before .before .before .before .before .pre .0 .ofA .legacy, c .before .before .before .before .before .before .before .before .before .before .before .before .before .before .before .before .pre .0 .passed .runA)
 
 export-sets-requires : tie.Need-export-sets-requires
-export-sets-requires c κs = let a = c .before .before .before .before .before .before .before .before .before .before .before .before .before .before .before .before .before .before .before .before .before .before .before .before .args in
-    let p = c .before .before .before .before .before .before .before .before .before .before .before .before .before .before .before .before .before .before .before .before .before .before .before .before .pre in
+export-sets-requires c κs = let a = c .before .before .before .before .before .before .before .before .before .before .before .before .before .before .before .before .before .before .before .before .before .before .args in
+    let p = c .before .before .before .before .before .before .before .before .before .before .before .before .before .before .before .before .before .before .before .before .before .before .pre in
     let ok = p .0 .passed in (
       fits-as _ _ _ (p .1 .links) (bandwidths-fit (now (a .a)) (now (a .b)) (now (a .c)) ok),
-      fits-as _ _ _ (c .before .before .before .before .before .before .rsvp-te-grid .ensures) (rsvp-te-fits (now (a .a)) (now (a .b)) (now (a .c)) ok),
+      fits-as _ _ _ (c .before .before .before .before .before .rsvp-te-grid .ensures) (rsvp-te-fits (now (a .a)) (now (a .b)) (now (a .c)) ok),
       p .1 .fewRs,
       fits-as _ _ _ (p .0 .ofA .shared) (general-fits (now (a .a)) (now (a .b)) (now (a .c)) ok),
       p .1 .fewGs,
-      readable (now (a .a)) (now (a .b)) (now (a .c)) ok (now (a .values)) _ _ _ _ (c .before .before .before .before .before .before .before .before .before .before .fill-groups .ensures) _ (p .0 .ofB .most) (p .2),
+      readable (now (a .a)) (now (a .b)) (now (a .c)) ok (now (a .values)) _ _ _ _ (c .before .before .before .before .before .before .before .before .before .fill-groups .ensures) (p .0 .ofB .most),
     )
 
 same-length : tie.Need-same-length
@@ -36,14 +36,11 @@ same-length-3 c = search needs
 same-length-4 : tie.Need-same-length-4
 same-length-4 c = search needs
 
-same-length-5 : tie.Need-same-length-5
-same-length-5 c = search needs
-
 returns : tie.Need-returns
-returns c = let a = c .before .before .before .before .before .before .before .before .before .before .before .before .before .before .before .before .before .before .before .before .before .before .before .before .before .before .before .before .before .args in
-    let p = c .before .before .before .before .before .before .before .before .before .before .before .before .before .before .before .before .before .before .before .before .before .before .before .before .before .before .before .before .before .pre in
-    c .before .before .before .before .export-sets .ensures
-    ∙ written-as (now (a .a)) (now (a .b)) (now (a .c)) (p .0 .passed) (now (a .values)) _ _ _ _ (now (a .l)) (now (a .rs)) (now (a .gs)) (p .1) (c .before .before .before .before .before .before .before .before .before .before .before .before .before .before .before .fill-groups .ensures) _ _ (now (a .out)) (c .before .before .before .before .before .before .before .before .before .before .before .rsvp-te-grid .ensures) (p .0 .ofA .shared)
+returns c = let a = c .before .before .before .before .before .before .before .before .before .before .before .before .before .before .before .before .before .before .before .before .before .before .before .before .before .args in
+    let p = c .before .before .before .before .before .before .before .before .before .before .before .before .before .before .before .before .before .before .before .before .before .before .before .before .before .pre in
+    c .before .before .export-sets .ensures
+    ∙ written-as (now (a .a)) (now (a .b)) (now (a .c)) (p .0 .passed) (now (a .values)) _ _ _ _ (now (a .l)) (now (a .rs)) (now (a .gs)) (p .1) (c .before .before .before .before .before .before .before .before .before .before .before .before .fill-groups .ensures) _ _ (now (a .out)) (c .before .before .before .before .before .before .before .before .rsvp-te-grid .ensures) (p .0 .ofA .shared)
 
 pub export-with-spec : {M : Type 1} → statement M
 export-with-spec =
@@ -56,5 +53,4 @@ export-with-spec =
     same-length-2
     same-length-3
     same-length-4
-    same-length-5
     returns)
