@@ -3,14 +3,15 @@
 use mathlib.Core.Path.{_≡_, refl}
 use mathlib.Core.Bool.{Bool, true, false, cond, _||_}
 use mathlib.Core.List.{List, [], _∷_, _++_}
-use Prim.Native.Nat.{ℕ, zero, suc, _+_, _-_, _*_, _/_, _%_, _^_, _≤_, _<_}
+use Prim.Native.Nat.{ℕ, suc, _+_, _-_, _*_, _/_, _%_, _^_, _≤_, _<_}
 use lib.Dec.{eqb, ltb}
-use lib.ListN.{length, length-append}
-use native.Mathlib.Nat.{pow-succ', div-le-self, mul-le-mul, le-of-lt, pow-le-pow-right}
+use lib.ListN.{length}
+use native.Mathlib.Nat.{div-le-self, mul-le-mul, le-of-lt, pow-le-pow-right}
 use native.Mathlib.Omega.{arith}
 use borrow.Author.Tests.{ltb-true, ltb-false, eqb-false}
 use Rattle.linkstate.specs.Bytes.{four}
-use Rattle.link_text.specs.Text.{text, whole, lastDigits, decimal, hexPair}
+use Rattle.link_text.specs.Text.{text, whole, decimal, hexPair}
+use Rattle.link_text.proofs.Widths.{decimal-short, width, width-cons}
 use Rattle.link_values.specs.Values.{word, three, millionths, thousandths, nearest, wholePart, floatBy}
 use Rattle.link_cells.specs.Cells.{isRate, isDelay, isPlain, hasAnomaly, linesOf, inGiga, bytesText, bitsText, finiteText, rateText, lineText, cellLine, flagText, unitText, labelText}
 
@@ -19,44 +20,14 @@ by-test : {A : Type 0} (P : A → Type 0) (b : Bool) (x y : A) → (b ≡ true �
 by-test P true x y p q = p refl
 by-test P false x y p q = q refl
 
--- ---- decimal
-
--- A number below 10 to the k has at most k digits, for k of 1 or more.
-digits-within : (f k n : ℕ) → n < 10 ^ suc k → length (lastDigits f n) ≤ suc k
-unfolding lastDigits
-digits-within zero k n h = omega arith
-digits-within (suc f) k n h =
-    by-test (λ (l : List ℕ). length l ≤ suc k) (ltb n 10) _ _
-    (λ e. omega arith)
-    (λ e. longer k h (ltb-false n 10 e) (λ j g. digits-within f j (n / 10) g))
-  where
-    longer : (k : ℕ) → n < 10 ^ suc k → 10 ≤ n → ((j : ℕ) → n / 10 < 10 ^ suc j → length (lastDigits f (n / 10)) ≤ suc j)
-        → length (lastDigits f (n / 10) ++ ((48 + n % 10) ∷ [])) ≤ suc k
-    longer zero h g rest = let z : ⊥ = omega arith in absurd z
-    longer (suc k) h g rest =
-        let p = pow-succ' 10 (suc k) in
-        omega (arith, length-append (lastDigits f (n / 10)) ((48 + n % 10) ∷ []), rest k (omega arith))
-
-pub decimal-within : (k n : ℕ) → n < 10 ^ suc k → length (decimal n) ≤ suc k
-unfolding decimal
-decimal-within k n h = digits-within 20 k n h
-
 -- ---- pieces
-
--- How many characters pieces have.
-abbrev pub width : List (List ℕ) → ℕ
-width ps = length (whole ps)
 
 abbrev Narrow : List (List ℕ) → Type 0
 Narrow ps = width ps ≤ 10
 
-width-first : (p : List ℕ) (ps : List (List ℕ)) → width (p ∷ ps) ≡ length p + width ps
-unfolding whole
-width-first p ps = length-append p (whole ps)
-
 -- A number in decimal, and pieces behind it.
 number-first : (k n : ℕ) (ps : List (List ℕ)) → n < 10 ^ suc k → width (decimal n ∷ ps) ≤ suc k + width ps
-number-first k n ps h = omega (arith, width-first (decimal n) ps, decimal-within k n h)
+number-first k n ps h = omega (arith, width-cons (decimal n) ps, decimal-short k n h)
 
 number-narrow : (n : ℕ) → n < 10000000000 → Narrow (decimal n ∷ [])
 unfolding whole
@@ -102,7 +73,7 @@ module _ (n : ℕ) (most : n ≤ 4398046511104) where
 
 power-narrow : (k : ℕ) → k < 1000 → Narrow (text "from 2^" ∷ decimal k ∷ [])
 unfolding whole
-power-narrow k h = omega (arith, number-first 2 k [] h, width-first (text "from 2^") (decimal k ∷ []))
+power-narrow k h = omega (arith, number-first 2 k [] h, width-cons (text "from 2^") (decimal k ∷ []))
 
 finite-narrow : (i e s : ℕ) → e < 255 → s < 16777216 → Narrow (finiteText i e s)
 unfolding finiteText
@@ -132,7 +103,7 @@ millionths-narrow n h = number-first 2 (n / 1000000) (text "." ∷ three (n / 10
 line-narrow : (code i x : ℕ) → x < 4294967296 → Narrow (lineText code i x)
 unfolding lineText
 line-narrow code i x h =
-    by-test Narrow (eqb code 1088) _ _ (λ a. omega (arith, width-first (text "0x") (word x), word-width x))
+    by-test Narrow (eqb code 1088) _ _ (λ a. omega (arith, width-cons (text "0x") (word x), word-width x))
     (λ a. by-test Narrow (isPlain code) _ _ (λ b. number-narrow x (omega arith))
     (λ b. by-test Narrow (isDelay code) _ _ (λ d. number-narrow (x % 16777216) (omega arith))
     (λ d. by-test Narrow (eqb code 1117) _ _ (λ e. millionths-narrow (x % 16777216 * 3) (omega arith))

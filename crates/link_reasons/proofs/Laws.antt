@@ -18,11 +18,6 @@ use Rattle.link_reasons.specs.Reasons.{whyText, tellsHolder, tellsLFlag,
 
 -- ---- tests of the definitions
 
--- What both branches have.
-pub either : {A : Type 0} (P : A → Type 0) (test : Bool) (x y : A) → P x → P y → P (cond test x y)
-either P true x y p q = p
-either P false x y p q = q
-
 -- By the code's answer.
 module _ {A : Type 0} (test r : Bool) (x y : A) (e : r ≡ test) where
   pub when : r ≡ true → cond test x y ≡ x

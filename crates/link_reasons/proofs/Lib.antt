@@ -1,6 +1,5 @@
 -- What the proofs of this crate share.
 pub mod Laws
-pub mod Digits
 pub mod Narrow
 pub mod Runs
 pub mod Vectors

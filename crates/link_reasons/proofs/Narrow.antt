@@ -6,6 +6,7 @@ use lib.Dec.{eqb}
 use lib.ListN.{length, length-append}
 use native.Mathlib.Omega.{arith}
 use Rattle.link_text.specs.Text.{text, decimal, whole}
+use Rattle.link_text.proofs.Widths.{of-cond, decimal-short, width}
 use Rattle.link_elements.specs.declared.Spot.{Spot}
 use Rattle.link_elements.specs.declared.Spot.the-variants.{At, Nowhere}
 use Rattle.link_sources.specs.declared.How.{How}
@@ -14,12 +15,10 @@ use Rattle.link_sources.specs.declared.Source.{Source}
 use Rattle.link_reasons.specs.declared.Part.{Part}
 use Rattle.link_reasons.specs.declared.Part.the-variants.{From, Why, LFlag, Holder, Place}
 use Rattle.link_reasons.specs.Reasons.{whyText, tellsHolder, tellsLFlag, isOfB, placeText, spotText, advertisementName, legacyName, lFlagAt, lFlagOf, fromText, lFlagText, holderText, valueText, partText, partLabel}
-use Rattle.link_reasons.proofs.Laws.{either}
-use Rattle.link_reasons.proofs.Digits.{decimal-short}
 
 -- At most k characters.
 abbrev pub Narrow : ℕ → List (List ℕ) → Type 0
-Narrow k pieces = length (whole pieces) ≤ k
+Narrow k pieces = width pieces ≤ k
 
 -- A spot, if there is one, lies before an offset.
 abbrev pub Before : ℕ → Spot → Type 0
@@ -33,7 +32,7 @@ nothing k = omega arith
 one-of : (k : ℕ) (test : Bool) (s t : List ℕ) → length s ≤ k → length t ≤ k → Narrow k (cond test s t ∷ [])
 unfolding whole
 one-of k test s t h g =
-    let l : length (cond test s t) ≤ k = either (λ u. length u ≤ k) test s t h g in
+    let l : length (cond test s t) ≤ k = of-cond (λ u. length u ≤ k) test s t h g in
     let e = length-append (cond test s t) [] in
     omega arith
 
@@ -46,10 +45,10 @@ module _ (link : Bool) (code : ℕ) where
   place offset h =
       let d : length (decimal offset) ≤ 8 = decimal-short 7 offset (omega arith) in
       let run = cond (isOfB link code) (text "B ") (text "A ") in
-      let l : length run ≤ 2 = either (λ s. length s ≤ 2) (isOfB link code) (text "B ") (text "A ") (omega arith) (omega arith) in
+      let l : length run ≤ 2 = of-cond (λ s. length s ≤ 2) (isOfB link code) (text "B ") (text "A ") (omega arith) (omega arith) in
       let e = length-append run (decimal offset ++ []) in
       let f = length-append (decimal offset) [] in
-      either (Narrow 10) link (run ∷ decimal offset ∷ []) (decimal offset ∷ []) (omega arith) (omega arith)
+      of-cond (Narrow 10) link (run ∷ decimal offset ∷ []) (decimal offset ∷ []) (omega arith) (omega arith)
 
   spot : (s : Spot) → Before 100000000 s → Narrow 10 (spotText link code s)
   unfolding spotText
@@ -64,7 +63,7 @@ module _ (link : Bool) (code : ℕ) where
   flag : (s : Spot) → Before 10000000 s → Before 100000000 (lFlagOf link code s)
   unfolding lFlagOf lFlagAt
   flag (At offset) h =
-      let k : cond (isOfB link code) 9 2 ≤ 9 = either (λ n. n ≤ 9) (isOfB link code) 9 2 (omega arith) (omega arith) in
+      let k : cond (isOfB link code) 9 2 ≤ 9 = of-cond (λ n. n ≤ 9) (isOfB link code) 9 2 (omega arith) (omega arith) in
       omega arith
   flag Nowhere h = tt
 
@@ -96,11 +95,11 @@ unfolding partText lFlagText holderText valueText
 part-narrow From link code source h p = from link code (source .how)
 part-narrow Why link code source h p = why (source .how)
 part-narrow LFlag link code source h p =
-    either (Narrow 10) (tellsLFlag (source .how)) (spotText link code (lFlagOf link code (source .holder))) [] (spot link code (lFlagOf link code (source .holder)) (flag link code (source .holder) h)) (nothing 10)
+    of-cond (Narrow 10) (tellsLFlag (source .how)) (spotText link code (lFlagOf link code (source .holder))) [] (spot link code (lFlagOf link code (source .holder)) (flag link code (source .holder) h)) (nothing 10)
 part-narrow Holder link code source h p =
-    either (Narrow 10) (tellsHolder (source .how)) (spotText link code (source .holder)) [] (spot link code (source .holder) (later link code (source .holder) h)) (nothing 10)
+    of-cond (Narrow 10) (tellsHolder (source .how)) (spotText link code (source .holder)) [] (spot link code (source .holder) (later link code (source .holder) h)) (nothing 10)
 part-narrow Place link code source h p =
-    either (Narrow 10) (eqb (source .place) 0) [] (placeText link code (source .place)) (nothing 10) (place link code (source .place) (omega arith))
+    of-cond (Narrow 10) (eqb (source .place) 0) [] (placeText link code (source .place)) (nothing 10) (place link code (source .place) (omega arith))
 
 pub label-narrow : (part : Part) (link : Bool) (code : ℕ) → Narrow 6 (partLabel part link code)
 unfolding partLabel

@@ -17,8 +17,8 @@ use Rattle.link_sources.specs.declared.How.the-variants.{Named, Fallback, Top}
 use Rattle.link_sources.specs.declared.Source.{Source}
 use Rattle.link_sources.specs.Rules.{sideIn, applicationRule, ruleBy, runRule}
 use Rattle.link_sources.specs.Sources.{refusedSource, sourceInR, unlessRefused, sourceInRun}
+use Rattle.link_text.proofs.Widths.{of-cond}
 use Rattle.link_reasons.specs.Reasons.{tellsLFlag}
-use Rattle.link_reasons.proofs.Laws.{either}
 
 abbrev Without : How → Type 0
 Without how = tellsLFlag how ≡ false
@@ -27,7 +27,7 @@ none-with-l : (n : ℕ) (es : List Element) → any (λ d. d .L && names n d) (e
 unfolding any each advertisementsOf advertisement
 none-with-l n [] = refl
 none-with-l n (element at t v ∷ es) =
-    either (λ (ds : List Advertisement). any (λ d. d .L && names n d) (ds ++ each advertisementsOf es) ≡ false) (eqb t 1122 && notIgnored v) (advertisement at v ∷ []) [] (none-with-l n es) (none-with-l n es)
+    of-cond (λ (ds : List Advertisement). any (λ d. d .L && names n d) (ds ++ each advertisementsOf es) ≡ false) (eqb t 1122 && notIgnored v) (advertisement at v ∷ []) [] (none-with-l n es) (none-with-l n es)
 none-with-l n (cut at ∷ es) = none-with-l n es
 
 top : Without Top
@@ -42,14 +42,14 @@ unless-refused (refused e) x h = refl
 module _ (r : List ℕ) where
   application : (n : ℕ) → Without (applicationRule n (runSide r))
   unfolding tellsLFlag applicationRule namedWithL runSide aslas
-  application n = rw (none-with-l n (elements 2 0 r)) (either Without (named n (runSide r)) Named Fallback refl refl)
+  application n = rw (none-with-l n (elements 2 0 r)) (of-cond Without (named n (runSide r)) Named Fallback refl refl)
 
   anyone : (whom : Subject) → Without (ruleBy Top whom (runSide r))
   unfolding tellsLFlag ruleBy
   anyone generally = refl
-  anyone (standardNo n) = either Without (eqb n 0) Top (applicationRule n (runSide r)) top (application n)
+  anyone (standardNo n) = of-cond Without (eqb n 0) Top (applicationRule n (runSide r)) top (application n)
   anyone (userNo n) = application (user n)
 
   pub no-l-flag : (whom : Subject) (k : ℕ) → Without ((sourceInRun r whom k) .how)
   unfolding runRule sideIn sourceInR unlessRefused sourceInRun
-  no-l-flag whom k = unless-refused _ _ (either Without (isLinkCode k) Top (ruleBy Top whom (runSide r)) top (anyone whom))
+  no-l-flag whom k = unless-refused _ _ (of-cond Without (isLinkCode k) Top (ruleBy Top whom (runSide r)) top (anyone whom))
