@@ -3,16 +3,17 @@
 use mathlib.Core.Path.{_≡_, refl, ap, _∙_}
 use mathlib.Core.Bool.{Bool, true, false}
 use mathlib.Core.List.{List, [], _∷_, _++_}
-use Prim.Native.Nat.{ℕ, _%_}
+use Prim.Native.Nat.{ℕ, _%_, _≤_, _<_}
 use lib.ListN.{length, getD}
-use borrow.Author.Tests.{eq-eqb, ne-eqb}
+use borrow.Author.Tests.{eq-eqb, ne-eqb, lt-ltb, le-ltb}
 use Rattle.link_text.specs.Text.{text, decimal}
+use Rattle.link_words.specs.Words.{application}
 use Rattle.link_values.specs.Values.{delay, anomalous, value}
 use Rattle.link_sources.specs.declared.Source.{Source as Origin}
 use Rattle.link_reasons.specs.Reasons.{reason}
 use Rattle.link_groups.specs.Groups.{source}
 use Rattle.link_table.specs.Cells.{numbersFor, originFor}
-use Rattle.link_sentences.specs.Sentences.{counted, valueWords, told, sentence}
+use Rattle.link_sentences.specs.Sentences.{counted, valueWords, told, sentence, subjectName}
 
 module _ (k : ℕ) (one more : List ℕ) where
   pub of-one : k ≡ 1 → counted k one more ≡ decimal k ∷ one ∷ []
@@ -60,3 +61,12 @@ module _ (code k x y : ℕ) where
   sentence-is link a b c n {room} {rooms} {origin} p q r s o =
       let t : y ≡ getD (numbersFor (source link a b c) n code room) 1 0 = s ∙ ap (λ (i : ℕ). getD (numbersFor (source link a b c) n code i) 1 0) r in
       rw (p, q, t, o)
+
+module _ (n : ℕ) where
+  pub is-application : n < 128 → subjectName n ≡ application n
+  unfolding subjectName
+  is-application h = rw (lt-ltb n 128 h)
+
+  pub is-general : 128 ≤ n → subjectName n ≡ text "the general set" ∷ []
+  unfolding subjectName
+  is-general h = rw (le-ltb n 128 h)

@@ -2,7 +2,7 @@
 ghost use Prim.Native.Nat.{_≤_};
 ghost use lib.ListN.{length};
 ghost use Rattle.link_text.specs.Text.{Wrote};
-ghost use Rattle.link_sentences.specs.Sentences.{counted, valueWords, told, sentence};
+ghost use Rattle.link_sentences.specs.Sentences.{counted, valueWords, told, sentence, subjectName, wholeSentence};
 use link_sources::Source;
 use link_text::add_decimal;
 use link_text::add_text;
@@ -59,7 +59,7 @@ fn add_told(
 }
 
 // What subject n gets of a kind; the list is room for SRLGs.
-pub fn add_sentence(
+fn add_sentence(
     line: &mut [u8],
     at: usize,
     link: bool,
@@ -79,4 +79,34 @@ pub fn add_sentence(
     let y = second.number;
     let source = link_table::origin_of(link, a, b, n, code);
     add_told(line, at, link, code, k, x, y, source)
+}
+
+fn add_subject(line: &mut [u8], at: usize, n: u32) -> usize
+    ensures { λ r. ⌜ Wrote (now (line .entry)) at (subjectName n) r (now (line .exit)) ⌝ }
+{
+    if n < 128 {
+        return link_words::add_application(line, at, n);
+    }
+    add_text(line, at, b"the general set")
+}
+
+// The kind, the subject, and what it gets and why.
+pub fn add_whole_sentence(
+    line: &mut [u8],
+    at: usize,
+    link: bool,
+    a: &[u8],
+    b: &[u8],
+    c: &[u8],
+    n: u32,
+    code: usize,
+    xs: &mut [u32],
+) -> usize
+    ensures { λ r. ⌜ Wrote (now (line .entry)) at (wholeSentence link (now (a .entry)) (now (b .entry)) (now (c .entry)) n code (length (now (xs .entry)))) r (now (line .exit)) ⌝ }
+{
+    let p = link_words::add_kind(line, at, code);
+    let q = add_text(line, p, b" of ");
+    let r = add_subject(line, q, n);
+    let s = add_text(line, r, b": ");
+    add_sentence(line, s, link, a, b, c, n, code, xs)
 }
