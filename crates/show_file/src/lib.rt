@@ -9,6 +9,7 @@ use link_text::add_text;
 use replies::Named;
 use replies::Refusal;
 use replies::Written;
+use show_export::say_title;
 use show_lines::say_line;
 
 // ---- a link
@@ -27,12 +28,6 @@ fn say_refused(
 ) {
     let at = link_titles::add_refused_part(text, n, from, line, 0, link, x, a, b, c);
     say_line(line, at);
-}
-
-// The line that names a link; the first part of a file may have none.
-fn say_title(text: &[[u8; 4096]], n: usize, from: usize, line: &mut [u8]) {
-    let a = link_titles::add_title(text, n, from, line, 0);
-    say_line(line, a);
 }
 
 fn say_sizes(line: &mut [u8], a: &[u8], b: &[u8], c: &[u8]) {
@@ -153,17 +148,6 @@ fn say_title_unless(text: &[[u8; 4096]], n: usize, from: usize, titled: bool, li
 
 // ---- a text
 
-// The bytes of a run at the front of a buffer; answers how many are there.
-fn fetch(text: &[[u8; 4096]], n: usize, from: usize, to: usize, run: u8, out: &mut [u8]) -> usize
-    ensures { λ r. ⌜ r ≤ length (now (out .entry)) ⌝ }
-{
-    let k = link_file::decode(text, n, from, to, run, out);
-    if out.len() < k {
-        return out.len();
-    }
-    k
-}
-
 fn say_link_part(
     text: &[[u8; 4096]],
     n: usize,
@@ -174,9 +158,9 @@ fn say_link_part(
     b: &mut [u8],
     c: &mut [u8],
 ) -> bool {
-    let i = fetch(text, n, from, to, 0, a);
-    let j = fetch(text, n, from, to, 1, b);
-    let k = fetch(text, n, from, to, 2, c);
+    let i = link_file::fetch(text, n, from, to, 0, a);
+    let j = link_file::fetch(text, n, from, to, 1, b);
+    let k = link_file::fetch(text, n, from, to, 2, c);
     say_link(text, n, from, line, &a[0..i], &b[0..j], &c[0..k])
 }
 
@@ -189,7 +173,7 @@ fn say_run_with(
     line: &mut [u8],
     room: &mut [u8],
 ) {
-    let k = fetch(text, n, from, to, 3, room);
+    let k = link_file::fetch(text, n, from, to, 3, room);
     say_run(text, n, from, titled, line, &room[0..k]);
 }
 
@@ -236,77 +220,6 @@ fn say_link_alone(text: &[[u8; 4096]], n: usize, from: usize, to: usize, line: &
     say_link_part(text, n, from, to, line, &mut a, &mut b, &mut c)
 }
 
-// The export of a link as lines of a file, 32 bytes to a line.
-fn say_export_lines(line: &mut [u8], s: &[u8]) {
-    let mut i = 0;
-    while i < s.len() {
-        let next = share(s.len(), i);
-        let a = link_titles::add_run_line(line, 0, &s[i..next]);
-        say_line(line, a);
-        i = next;
-    }
-}
-
-fn share(n: usize, from: usize) -> usize
-    requires { ⌜ from < n ⌝ }
-    ensures { λ r. ⌜ (from < r) × (r ≤ n) ⌝ }
-{
-    if n - from < 32 {
-        return n;
-    }
-    from + 32
-}
-
-fn say_written(line: &mut [u8], room: &[u8], n: usize) {
-    if n == 0 {
-        let a = link_titles::add_run_line(line, 0, b"");
-        say_line(line, a);
-        return;
-    }
-    if n <= room.len() {
-        say_export_lines(line, &room[0..n]);
-    }
-}
-
-fn write_link(line: &mut [u8], a: &[u8], b: &[u8], c: &[u8]) {
-    let mut room = rooms::run_room();
-    write_link_with(line, a, b, c, &mut room);
-}
-
-fn write_link_with(line: &mut [u8], a: &[u8], b: &[u8], c: &[u8], room: &mut [u8]) {
-    match isis_export::export(a, b, c, room) {
-        Written::Bytes(n) => say_written(line, room, n),
-        Written::Refused(x) => {
-            let p = link_titles::add_no_run(line, 0, x);
-            say_line(line, p);
-        }
-    }
-}
-
-fn write_link_part(
-    text: &[[u8; 4096]],
-    n: usize,
-    from: usize,
-    to: usize,
-    line: &mut [u8],
-    a: &mut [u8],
-    b: &mut [u8],
-    c: &mut [u8],
-) {
-    let i = fetch(text, n, from, to, 0, a);
-    let j = fetch(text, n, from, to, 1, b);
-    let k = fetch(text, n, from, to, 2, c);
-    write_link(line, &a[0..i], &b[0..j], &c[0..k]);
-}
-
-fn write_part(text: &[[u8; 4096]], n: usize, from: usize, to: usize, line: &mut [u8]) {
-    let mut a = io::buffer();
-    let mut b = io::buffer();
-    let mut c = io::buffer();
-    say_title(text, n, from, line);
-    write_link_part(text, n, from, to, line, &mut a, &mut b, &mut c);
-}
-
 // One part of a text: shown, or its link written as BGP-LS. The lines before the first link name nothing, unless a run stands there.
 fn say_if_part(
     text: &[[u8; 4096]],
@@ -324,7 +237,7 @@ fn say_if_part(
         }
     }
     if write {
-        write_part(text, n, from, to, line);
+        show_export::write_part(text, n, from, to, line);
         return;
     }
     say_part(text, n, from, part, line);
