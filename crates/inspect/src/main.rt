@@ -2,11 +2,16 @@
 ghost use Prim.Native.Nat.{_≤_};
 use libc::STDOUT_FILENO;
 use link_faults::Unread;
+use show_file::Mode;
 
 fn say_usage() {
     io::write_all(
         STDOUT_FILENO,
         b"inspect FILE..            shows the links and BGP-LS runs of text files; - is standard input\n",
+    );
+    io::write_all(
+        STDOUT_FILENO,
+        b"inspect --why FILE..      tells who gets what and why, a sentence for each kind and application\n",
     );
     io::write_all(
         STDOUT_FILENO,
@@ -90,14 +95,14 @@ fn say_unreadable(path: &[u8], error: i32, line: &mut [u8]) {
 }
 
 // A file that is open.
-fn show_open(fd: i32, path: &[u8], write: bool, text: &mut [[u8; 4096]], line: &mut [u8]) {
+fn show_open(fd: i32, path: &[u8], mode: Mode, text: &mut [[u8; 4096]], line: &mut [u8]) {
     let mut none = [0u8; 0];
     if libc::read(fd, &mut none) < 0 {
         say_unreadable(path, os::errno(), line);
         return;
     }
     let n = read_text(fd, text);
-    show_file::say_text(path, text, n, write, line);
+    show_file::say_text(path, text, n, mode, line);
 }
 
 fn is_dash(path: &[u8]) -> bool {
@@ -107,9 +112,9 @@ fn is_dash(path: &[u8]) -> bool {
     path[0] == b'-'
 }
 
-fn show_path(path: &[u8], write: bool, text: &mut [[u8; 4096]], line: &mut [u8]) {
+fn show_path(path: &[u8], mode: Mode, text: &mut [[u8; 4096]], line: &mut [u8]) {
     if is_dash(path) {
-        show_open(0, b"standard input", write, text, line);
+        show_open(0, b"standard input", mode, text, line);
         return;
     }
     let fd = os::open_read(path);
@@ -117,31 +122,31 @@ fn show_path(path: &[u8], write: bool, text: &mut [[u8; 4096]], line: &mut [u8])
         say_unreadable(path, os::errno(), line);
         return;
     }
-    show_open(fd, path, write, text, line);
+    show_open(fd, path, mode, text, line);
     libc::close(fd);
 }
 
-fn show_argument(i: usize, write: bool, text: &mut [[u8; 4096]], line: &mut [u8]) {
+fn show_argument(i: usize, mode: Mode, text: &mut [[u8; 4096]], line: &mut [u8]) {
     let mut path = io::buffer();
     let n = os::arg(i, &mut path);
-    show_path(&path[..n], write, text, line);
+    show_path(&path[..n], mode, text, line);
 }
 
 // The files that are named from an argument on.
-fn show_all(first: usize, write: bool, text: &mut [[u8; 4096]], line: &mut [u8]) {
+fn show_all(first: usize, mode: Mode, text: &mut [[u8; 4096]], line: &mut [u8]) {
     let count = os::arg_count();
     let mut i = first;
     while i < count {
-        show_argument(i, write, text, line);
+        show_argument(i, mode, text, line);
         i += 1;
     }
 }
 
-// Whether the first argument asks for exports.
-fn asks_bgpls() -> bool {
-    let mut word = io::buffer();
-    let n = os::arg(1, &mut word);
-    octets::same(&word[..n], b"--bgpls")
+// Whether the first argument is a word.
+fn begins_with(word: &[u8]) -> bool {
+    let mut argument = io::buffer();
+    let n = os::arg(1, &mut argument);
+    octets::same(&argument[..n], word)
 }
 
 fn main() {
@@ -151,9 +156,13 @@ fn main() {
     }
     let mut text = rooms::text_room();
     let mut line = io::buffer();
-    if asks_bgpls() {
-        show_all(2, true, &mut text, &mut line);
+    if begins_with(b"--bgpls") {
+        show_all(2, Mode::Exports, &mut text, &mut line);
         return;
     }
-    show_all(1, false, &mut text, &mut line);
+    if begins_with(b"--why") {
+        show_all(2, Mode::Why, &mut text, &mut line);
+        return;
+    }
+    show_all(1, Mode::All, &mut text, &mut line);
 }

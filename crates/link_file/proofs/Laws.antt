@@ -15,7 +15,7 @@ use types.Run.{OneOf}
 use denote.Enum.Declared.{tagOf}
 use borrow.Author.Tests.{le-leb, lt-leb, eq-eqb, ne-eqb, lt-ltb, le-ltb, ltb-true, ltb-false}
 use Rattle.linkstate.specs.Lists.{put}
-use Rattle.octets.proofs.Laws.{put-nil, put-one, put-then, length-put}
+use Rattle.octets.proofs.Laws.{put-nil, put-one, put-then, length-put, take-put}
 use Rattle.link_text.specs.Text.{Wrote, fits, added, behind, filled, reached, digitOf}
 use Rattle.link_file.proofs.ByLines.{by-lines, by-lines-none}
 use Rattle.link_chars.specs.declared.Mode.{Mode}
@@ -32,7 +32,7 @@ use Rattle.link_file.specs.declared.Verdict.the-variants as Verdicts
 use Rattle.link_file.specs.declared.Section.{Section}
 use Rattle.link_file.specs.Texts.{upTo, charAt, chars, textFrom, partOf, endsIn, lineAt, shownAs, endsName, untilEnd, shownName, nameAt, front, WroteFront}
 use Rattle.link_file.specs.Lines.{Item, itemsOf}
-use Rattle.link_file.specs.Questions.{beginning, wrongOr, verdictOf, verdictOn, ofLink, ofRun, linkOr, section, sectionOf, partAt, byteOf, bytesOf, runBytes, Decoded}
+use Rattle.link_file.specs.Questions.{beginning, wrongOr, verdictOf, verdictOn, ofLink, ofRun, linkOr, section, sectionOf, partAt, byteOf, bytesOf, runBytes, Decoded, Fetched}
 use Rattle.link_file.specs.Reader.{note, ended, itemsFrom, firstMode, keptByte}
 
 -- ---- characters
@@ -506,3 +506,18 @@ module _ (blocks : List (List ℕ)) (n from : ℕ) where
   some-name line then at end r c e f g w =
       let h : endsName (charAt blocks n from) ≡ false = cc (e, f, g, front-char) in
       rw (h, ← front-is r c e f g) w
+
+-- ---- bytes in a buffer
+
+module _ {bytes out exit : List ℕ} {count : ℕ} (d : Decoded bytes out count exit) where
+  kept : (r : ℕ) → r ≡ length (take (length out) bytes) → Fetched bytes out r exit
+  kept r e =
+      let l = length-take (length out) bytes in
+      record { within = omega arith; holds = rw (d .holds, e) (rw zero-add at (take-put out 0 (take (length out) bytes) (omega arith))) }
+
+  -- They have room, or the buffer is full.
+  pub all-kept : count ≤ length out → Fetched bytes out count exit
+  all-kept h = let c = d .counts in let l = length-take (length out) bytes in kept count (omega arith)
+
+  pub first-kept : (n : ℕ) → n ≡ length out → n < count → Fetched bytes out n exit
+  first-kept n e h = let c = d .counts in let l = length-take (length out) bytes in kept n (omega arith)

@@ -1,7 +1,7 @@
 -- Questions about a text, each a question about its items.
 use mathlib.Core.Bool.{Bool, true, false, cond, not, _||_}
 use mathlib.Core.List.{List, [], _∷_, _++_}
-use Prim.Native.Nat.{ℕ, _+_}
+use Prim.Native.Nat.{ℕ, _+_, _≤_}
 use lib.Dec.{eqb}
 use lib.ListN.{length, take}
 use mathlib.Core.Path.{_≡_}
@@ -93,3 +93,8 @@ runBytes run from cs = bytesOf run (itemsOf from cs)
 pub record Decoded (bytes out : List ℕ) (count : ℕ) (then : List ℕ) : Type 0 where
   pub counts : count ≡ length bytes
   pub holds : then ≡ put out 0 (take (length out) bytes)
+
+-- The bytes that stand at the front of a buffer: as many as it has room for.
+pub record Fetched (bytes out : List ℕ) (count : ℕ) (then : List ℕ) : Type 0 where
+  pub within : count ≤ length out
+  pub holds : take count then ≡ take (length out) bytes

@@ -4,7 +4,7 @@ ghost use mathlib.Core.Path.{_≡_};
 ghost use Prim.Native.Nat.{_+_, _≤_};
 ghost use lib.ListN.{length};
 ghost use Rattle.link_file.specs.Texts.{upTo, charAt, textFrom, partOf, lineAt, shownAs, endsName, shownName, nameAt, WroteFront};
-ghost use Rattle.link_file.specs.Questions.{beginning, ofLink, ofRun, byteOf, verdictOn, partAt, runBytes, Decoded};
+ghost use Rattle.link_file.specs.Questions.{beginning, ofLink, ofRun, byteOf, verdictOn, partAt, runBytes, Decoded, Fetched};
 ghost use Rattle.link_file.specs.Reader.{ended, firstMode, keptByte};
 use link_chars::Event;
 use link_chars::Mode;
@@ -205,6 +205,24 @@ pub fn decode(
         let next = now.mode;
         mode = next;
         i += 1;
+    }
+    k
+}
+
+// As many bytes of the run as there is room for, at the front of a buffer; answers how many stand there.
+pub fn fetch(
+    text: &[[u8; 4096]],
+    n: usize,
+    from: usize,
+    to: usize,
+    run: u8,
+    out: &mut [u8],
+) -> usize
+    ensures { λ r. ⌜ Fetched (runBytes run from (partOf (now (text .entry)) n from to)) (now (out .entry)) r (now (out .exit)) ⌝ }
+{
+    let k = decode(text, n, from, to, run, out);
+    if out.len() < k {
+        return out.len();
     }
     k
 }

@@ -5,7 +5,7 @@ use Prim.Native.Nat.{ℕ, _%_}
 use lib.Dec.{eqb, ltb}
 use lib.ListN.{length, getD}
 use Rattle.link_text.specs.Text.{text, decimal}
-use Rattle.link_words.specs.Words.{application, kind}
+use Rattle.link_words.specs.Words.{application}
 use Rattle.link_values.specs.Values.{delay, anomalous, value}
 use Rattle.link_sources.specs.declared.Source.{Source as Origin}
 use Rattle.link_reasons.specs.Reasons.{reason}
@@ -33,9 +33,9 @@ sentence link a b c n code room =
     let xs = numbersFor (source link a b c) n code room in
     told link code (length xs) (getD xs 0 0) (getD xs 1 0) (originFor link a b n code)
 
--- A subject in words, and the kind and the subject before the sentence.
+-- A subject in words, and the subject before the sentence.
 unfoldable pub subjectName : ℕ → List (List ℕ)
 subjectName n = cond (ltb n 128) (application n) (text "the general set" ∷ [])
 
 unfoldable pub wholeSentence : Bool → List ℕ → List ℕ → List ℕ → ℕ → ℕ → ℕ → List (List ℕ)
-wholeSentence link a b c n code room = kind code ++ (text " of " ∷ subjectName n) ++ (text ": " ∷ sentence link a b c n code room)
+wholeSentence link a b c n code room = subjectName n ++ (text ": " ∷ sentence link a b c n code room)

@@ -90,7 +90,7 @@ fn add_subject(line: &mut [u8], at: usize, n: u32) -> usize
     add_text(line, at, b"the general set")
 }
 
-// The kind, the subject, and what it gets and why.
+// The subject, and what it gets of a kind and why.
 pub fn add_whole_sentence(
     line: &mut [u8],
     at: usize,
@@ -104,9 +104,7 @@ pub fn add_whole_sentence(
 ) -> usize
     ensures { λ r. ⌜ Wrote (now (line .entry)) at (wholeSentence link (now (a .entry)) (now (b .entry)) (now (c .entry)) n code (length (now (xs .entry)))) r (now (line .exit)) ⌝ }
 {
-    let p = link_words::add_kind(line, at, code);
-    let q = add_text(line, p, b" of ");
-    let r = add_subject(line, q, n);
-    let s = add_text(line, r, b": ");
-    add_sentence(line, s, link, a, b, c, n, code, xs)
+    let p = add_subject(line, at, n);
+    let q = add_text(line, p, b": ");
+    add_sentence(line, q, link, a, b, c, n, code, xs)
 }

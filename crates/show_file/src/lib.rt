@@ -9,6 +9,7 @@ use link_text::add_text;
 use replies::Named;
 use replies::Refusal;
 use replies::Written;
+use show_export::say_title;
 use show_lines::say_line;
 
 // ---- a link
@@ -29,12 +30,6 @@ fn say_refused(
     say_line(line, at);
 }
 
-// The line that names a link; the first part of a file may have none.
-fn say_title(text: &[[u8; 4096]], n: usize, from: usize, line: &mut [u8]) {
-    let a = link_titles::add_title(text, n, from, line, 0);
-    say_line(line, a);
-}
-
 fn say_sizes(line: &mut [u8], a: &[u8], b: &[u8], c: &[u8]) {
     let at = link_titles::add_sizes(line, 0, a.len(), b.len(), c.len());
     say_line(line, at);
@@ -45,9 +40,17 @@ fn say_run_size(line: &mut [u8], r: &[u8]) {
     say_line(line, a);
 }
 
-// Who is named, and the table; xs and ys are room to work in.
+// What somebody wants to see of a file: all about its links and runs, who gets what and why in sentences, or the exports alone, in the form of a file.
+pub enum Mode {
+    All,
+    Why,
+    Exports,
+}
+
+// Who is named, and the table, or the sentences alone; xs and ys are room to work in.
 fn say_meaning_with(
     line: &mut [u8],
+    why: bool,
     link: bool,
     a: &[u8],
     b: &[u8],
@@ -57,15 +60,19 @@ fn say_meaning_with(
     xs: &mut [u32],
     ys: &mut [u32],
 ) {
+    let leads = link_groups::leads_in(link, a, b, c, standard, user, xs, ys);
+    if why {
+        return show_why::say_sentences(line, link, a, b, c, &leads, xs);
+    }
     let p = add_text(line, 0, b"  named: ");
     show_lines::say_applications(line, p, 9, standard, user);
-    let leads = link_groups::leads_in(link, a, b, c, standard, user, xs, ys);
     show_table::say_groups(line, &leads);
     show_table::say_table(line, link, a, b, c, &leads, xs);
 }
 
 fn say_meaning(
     line: &mut [u8],
+    why: bool,
     link: bool,
     a: &[u8],
     b: &[u8],
@@ -75,7 +82,7 @@ fn say_meaning(
 ) {
     let mut xs = rooms::srlg_room();
     let mut ys = rooms::srlg_room();
-    say_meaning_with(line, link, a, b, c, standard, user, &mut xs, &mut ys);
+    say_meaning_with(line, why, link, a, b, c, standard, user, &mut xs, &mut ys);
 }
 
 // The first n bytes of a buffer as TLVs.
@@ -105,11 +112,40 @@ fn say_export(line: &mut [u8], a: &[u8], b: &[u8], c: &[u8]) {
     say_export_with(line, a, b, c, &mut room);
 }
 
+// A link that is accepted, and a run.
+fn say_accepted(
+    line: &mut [u8],
+    why: bool,
+    a: &[u8],
+    b: &[u8],
+    c: &[u8],
+    standard: u64,
+    user: u64,
+) {
+    if why {
+        return say_meaning(line, true, true, a, b, c, standard, user);
+    }
+    say_sizes(line, a, b, c);
+    say_meaning(line, false, true, a, b, c, standard, user);
+    say_export(line, a, b, c);
+}
+
+fn say_accepted_run(line: &mut [u8], why: bool, r: &[u8], standard: u64, user: u64) {
+    let none = [0u8; 0];
+    if why {
+        return say_meaning(line, true, false, r, &none, &none, standard, user);
+    }
+    say_run_size(line, r);
+    say_meaning(line, false, false, r, &none, &none, standard, user);
+    say_front(line, r, r.len(), b"  the run's ");
+}
+
 // A link, by its runs: all about it where it is accepted, else one line. Answers whether it is.
 fn say_link(
     text: &[[u8; 4096]],
     n: usize,
     from: usize,
+    why: bool,
     line: &mut [u8],
     a: &[u8],
     b: &[u8],
@@ -122,24 +158,28 @@ fn say_link(
         }
         Named::Listed { standard, user } => {
             say_title(text, n, from, line);
-            say_sizes(line, a, b, c);
-            say_meaning(line, true, a, b, c, standard, user);
-            say_export(line, a, b, c);
+            say_accepted(line, why, a, b, c, standard, user);
             true
         }
     }
 }
 
 // A BGP-LS run likewise; its title where the link of the same part has not said it.
-fn say_run(text: &[[u8; 4096]], n: usize, from: usize, titled: bool, line: &mut [u8], r: &[u8]) {
+fn say_run(
+    text: &[[u8; 4096]],
+    n: usize,
+    from: usize,
+    why: bool,
+    titled: bool,
+    line: &mut [u8],
+    r: &[u8],
+) {
     let none = [0u8; 0];
     match link_groups::named_in(false, r, &none, &none) {
         Named::Refused(x) => say_refused(text, n, from, line, false, x, r, &none, &none),
         Named::Listed { standard, user } => {
             say_title_unless(text, n, from, titled, line);
-            say_run_size(line, r);
-            say_meaning(line, false, r, &none, &none, standard, user);
-            say_front(line, r, r.len(), b"  the run's ");
+            say_accepted_run(line, why, r, standard, user);
         }
     }
 }
@@ -153,31 +193,21 @@ fn say_title_unless(text: &[[u8; 4096]], n: usize, from: usize, titled: bool, li
 
 // ---- a text
 
-// The bytes of a run at the front of a buffer; answers how many are there.
-fn fetch(text: &[[u8; 4096]], n: usize, from: usize, to: usize, run: u8, out: &mut [u8]) -> usize
-    ensures { λ r. ⌜ r ≤ length (now (out .entry)) ⌝ }
-{
-    let k = link_file::decode(text, n, from, to, run, out);
-    if out.len() < k {
-        return out.len();
-    }
-    k
-}
-
 fn say_link_part(
     text: &[[u8; 4096]],
     n: usize,
     from: usize,
     to: usize,
+    why: bool,
     line: &mut [u8],
     a: &mut [u8],
     b: &mut [u8],
     c: &mut [u8],
 ) -> bool {
-    let i = fetch(text, n, from, to, 0, a);
-    let j = fetch(text, n, from, to, 1, b);
-    let k = fetch(text, n, from, to, 2, c);
-    say_link(text, n, from, line, &a[0..i], &b[0..j], &c[0..k])
+    let i = link_file::fetch(text, n, from, to, 0, a);
+    let j = link_file::fetch(text, n, from, to, 1, b);
+    let k = link_file::fetch(text, n, from, to, 2, c);
+    say_link(text, n, from, why, line, &a[0..i], &b[0..j], &c[0..k])
 }
 
 fn say_run_with(
@@ -185,12 +215,13 @@ fn say_run_with(
     n: usize,
     from: usize,
     to: usize,
+    why: bool,
     titled: bool,
     line: &mut [u8],
     room: &mut [u8],
 ) {
-    let k = fetch(text, n, from, to, 3, room);
-    say_run(text, n, from, titled, line, &room[0..k]);
+    let k = link_file::fetch(text, n, from, to, 3, room);
+    say_run(text, n, from, why, titled, line, &room[0..k]);
 }
 
 fn say_run_part(
@@ -198,20 +229,21 @@ fn say_run_part(
     n: usize,
     from: usize,
     to: usize,
+    why: bool,
     titled: bool,
     line: &mut [u8],
 ) {
     let mut room = rooms::run_room();
-    say_run_with(text, n, from, to, titled, line, &mut room);
+    say_run_with(text, n, from, to, why, titled, line, &mut room);
 }
 
 // One part: the link, the run, or both. Each that is refused is one line, and the title stands once, above the first that is accepted.
-fn say_part(text: &[[u8; 4096]], n: usize, from: usize, part: Section, line: &mut [u8]) {
+fn say_part(text: &[[u8; 4096]], n: usize, from: usize, part: Section, why: bool, line: &mut [u8]) {
     let to = part.to;
     let link = part.link | !part.run;
-    let titled = say_if_link(text, n, from, to, link, line);
+    let titled = say_if_link(text, n, from, to, link, why, line);
     if part.run {
-        say_run_part(text, n, from, to, titled, line);
+        say_run_part(text, n, from, to, why, titled, line);
     }
 }
 
@@ -221,99 +253,36 @@ fn say_if_link(
     from: usize,
     to: usize,
     link: bool,
+    why: bool,
     line: &mut [u8],
 ) -> bool {
     if link {
-        return say_link_alone(text, n, from, to, line);
+        return say_link_alone(text, n, from, to, why, line);
     }
     false
 }
 
-fn say_link_alone(text: &[[u8; 4096]], n: usize, from: usize, to: usize, line: &mut [u8]) -> bool {
-    let mut a = io::buffer();
-    let mut b = io::buffer();
-    let mut c = io::buffer();
-    say_link_part(text, n, from, to, line, &mut a, &mut b, &mut c)
-}
-
-// The export of a link as lines of a file, 32 bytes to a line.
-fn say_export_lines(line: &mut [u8], s: &[u8]) {
-    let mut i = 0;
-    while i < s.len() {
-        let next = share(s.len(), i);
-        let a = link_titles::add_run_line(line, 0, &s[i..next]);
-        say_line(line, a);
-        i = next;
-    }
-}
-
-fn share(n: usize, from: usize) -> usize
-    requires { ⌜ from < n ⌝ }
-    ensures { λ r. ⌜ (from < r) × (r ≤ n) ⌝ }
-{
-    if n - from < 32 {
-        return n;
-    }
-    from + 32
-}
-
-fn say_written(line: &mut [u8], room: &[u8], n: usize) {
-    if n == 0 {
-        let a = link_titles::add_run_line(line, 0, b"");
-        say_line(line, a);
-        return;
-    }
-    if n <= room.len() {
-        say_export_lines(line, &room[0..n]);
-    }
-}
-
-fn write_link(line: &mut [u8], a: &[u8], b: &[u8], c: &[u8]) {
-    let mut room = rooms::run_room();
-    write_link_with(line, a, b, c, &mut room);
-}
-
-fn write_link_with(line: &mut [u8], a: &[u8], b: &[u8], c: &[u8], room: &mut [u8]) {
-    match isis_export::export(a, b, c, room) {
-        Written::Bytes(n) => say_written(line, room, n),
-        Written::Refused(x) => {
-            let p = link_titles::add_no_run(line, 0, x);
-            say_line(line, p);
-        }
-    }
-}
-
-fn write_link_part(
+fn say_link_alone(
     text: &[[u8; 4096]],
     n: usize,
     from: usize,
     to: usize,
+    why: bool,
     line: &mut [u8],
-    a: &mut [u8],
-    b: &mut [u8],
-    c: &mut [u8],
-) {
-    let i = fetch(text, n, from, to, 0, a);
-    let j = fetch(text, n, from, to, 1, b);
-    let k = fetch(text, n, from, to, 2, c);
-    write_link(line, &a[0..i], &b[0..j], &c[0..k]);
-}
-
-fn write_part(text: &[[u8; 4096]], n: usize, from: usize, to: usize, line: &mut [u8]) {
+) -> bool {
     let mut a = io::buffer();
     let mut b = io::buffer();
     let mut c = io::buffer();
-    say_title(text, n, from, line);
-    write_link_part(text, n, from, to, line, &mut a, &mut b, &mut c);
+    say_link_part(text, n, from, to, why, line, &mut a, &mut b, &mut c)
 }
 
-// One part of a text: shown, or its link written as BGP-LS. The lines before the first link name nothing, unless a run stands there.
+// One part of a text: shown, told in sentences, or its link written as BGP-LS. The lines before the first link name nothing, unless a run stands there.
 fn say_if_part(
     text: &[[u8; 4096]],
     n: usize,
     from: usize,
     part: Section,
-    write: bool,
+    mode: Mode,
     line: &mut [u8],
 ) {
     let to = part.to;
@@ -323,11 +292,11 @@ fn say_if_part(
             return;
         }
     }
-    if write {
-        write_part(text, n, from, to, line);
-        return;
+    match mode {
+        Mode::All => say_part(text, n, from, part, false, line),
+        Mode::Why => say_part(text, n, from, part, true, line),
+        Mode::Exports => show_export::write_part(text, n, from, to, line),
     }
-    say_part(text, n, from, part, line);
 }
 
 // Where the next part begins; past the end after the last.
@@ -341,13 +310,13 @@ fn part_after(n: usize, from: usize, to: usize) -> usize
     n + 1
 }
 
-fn say_parts(text: &[[u8; 4096]], n: usize, write: bool, line: &mut [u8])
+fn say_parts(text: &[[u8; 4096]], n: usize, mode: Mode, line: &mut [u8])
     requires { ⌜ n ≤ 2097152 ⌝ }
 {
     let mut from: usize = 0;
     while from <= n {
         let part = link_file::section_at(text, n, from);
-        say_if_part(text, n, from, part, write, line);
+        say_if_part(text, n, from, part, mode, line);
         from = part_after(n, from, part.to);
     }
 }
@@ -369,8 +338,8 @@ fn say_no_link(line: &mut [u8], path: &[u8]) {
     say_line(line, a);
 }
 
-// A whole text, of n characters; nothing but one line where it is not in order. With `write`, each link's export alone, in the form of a file.
-pub fn say_text(path: &[u8], text: &[[u8; 4096]], n: usize, write: bool, line: &mut [u8]) {
+// A whole text, of n characters; nothing but one line where it is not in order.
+pub fn say_text(path: &[u8], text: &[[u8; 4096]], n: usize, mode: Mode, line: &mut [u8]) {
     if 2097152 < n {
         say_too_long(line, path, link_file::line_at(text, n, 2097152));
         return;
@@ -386,7 +355,7 @@ pub fn say_text(path: &[u8], text: &[[u8; 4096]], n: usize, write: bool, line: &
                 say_no_link(line, path);
                 return;
             }
-            say_parts(text, n, write, line);
+            say_parts(text, n, mode, line);
         }
     }
 }

@@ -8,10 +8,10 @@ use Rattle.inspect.proofs.show_all.Statement.{statement}
 use Rattle.inspect.proofs.show_all.Tie as tie
 
 abbrev Inv-loop : tie.InvT-loop
-Inv-loop first write text₀ line₀ count i₀ text line i = (length text ≡ length text₀) × (length line ≡ length line₀)
+Inv-loop first mode text₀ line₀ count i₀ text line i = (length text ≡ length text₀) × (length line ≡ length line₀)
 
 abbrev μ-loop : tie.MeasureT-loop
-μ-loop first write text₀ line₀ count i₀ text line i = count - i
+μ-loop first mode text₀ line₀ count i₀ text line i = count - i
 
 arg-count-requires : tie.Need-arg-count-requires Inv-loop μ-loop
 arg-count-requires c κs = search needs

@@ -6,23 +6,14 @@ use borrow.Author.Needs.{needs}
 use Rattle.link_sentences.proofs.add_whole_sentence.Statement.{statement}
 use Rattle.link_sentences.proofs.add_whole_sentence.Tie as tie
 
-add-kind-requires : tie.Need-add-kind-requires
-add-kind-requires c κs = search needs
+add-subject-requires : tie.Need-add-subject-requires
+add-subject-requires c κs = search needs
 
 slice-aggregate-add-text : tie.Need-slice-aggregate-add-text
 slice-aggregate-add-text c = search needs
 
 add-text-requires : tie.Need-add-text-requires
 add-text-requires c κs = search needs
-
-add-subject-requires : tie.Need-add-subject-requires
-add-subject-requires c κs = search needs
-
-slice-aggregate-add-text-2 : tie.Need-slice-aggregate-add-text-2
-slice-aggregate-add-text-2 c = search needs
-
-add-text-requires-2 : tie.Need-add-text-requires-2
-add-text-requires-2 c κs = search needs
 
 add-sentence-requires : tie.Need-add-sentence-requires
 add-sentence-requires c κs = search needs
@@ -35,18 +26,15 @@ same-length-2 c = search needs
 
 returns : tie.Need-returns
 unfolding wholeSentence
-returns c = c .before .before .before .before .before .before .before .before .before .before .before .before .before .before .before .before .before .before .before .before .before .before .before .add-kind .ensures and (c .before .before .before .before .before .before .before .before .before .before .before .before .before .before .before .before .before .before .add-text .ensures and c .before .before .before .before .before .before .before .before .before .before .before .before .before .before .add-subject .ensures) and (c .before .before .before .before .before .before .before .before .before .add-text2 .ensures and c .before .before .before .before .add-sentence .ensures)
+returns c = c .before .before .before .before .before .before .before .before .before .before .before .before .before .before .add-subject .ensures and (c .before .before .before .before .before .before .before .before .before .add-text .ensures and c .before .before .before .before .add-sentence .ensures)
 
 pub add-whole-sentence-spec : {M : Type 1} → statement M
 add-whole-sentence-spec =
     tie.close
     (tie.spec
-    add-kind-requires
+    add-subject-requires
     slice-aggregate-add-text
     add-text-requires
-    add-subject-requires
-    slice-aggregate-add-text-2
-    add-text-requires-2
     add-sentence-requires
     same-length
     same-length-2

@@ -8,10 +8,10 @@ use Rattle.show_file.proofs.say_parts.Statement.{statement}
 use Rattle.show_file.proofs.say_parts.Tie as tie
 
 abbrev Inv-loop : tie.InvT-loop
-Inv-loop text n write line₀ from₀ line from = length line ≡ length line₀
+Inv-loop text n mode line₀ from₀ line from = length line ≡ length line₀
 
 abbrev μ-loop : tie.MeasureT-loop
-μ-loop text n write line₀ from₀ line from = n + 1 - from
+μ-loop text n mode line₀ from₀ line from = n + 1 - from
 
 loop-holds : tie.Need-loop-holds Inv-loop μ-loop
 loop-holds c = search needs

@@ -1,11 +1,11 @@
--- `show_file::say_export_lines` is safe and ends.
+-- `show_export::say_export_lines` is safe and ends.
 -- Assumes nothing.
 use borrow.Author.Needs.{needs}
 use Prim.Native.Nat.{_-_, _≤_}
 use mathlib.Core.Path.{_≡_}
 use lib.ListN.{length}
-use Rattle.show_file.proofs.say_export_lines.Statement.{statement}
-use Rattle.show_file.proofs.say_export_lines.Tie as tie
+use Rattle.show_export.proofs.say_export_lines.Statement.{statement}
+use Rattle.show_export.proofs.say_export_lines.Tie as tie
 
 abbrev Inv-loop : tie.InvT-loop
 Inv-loop line₀ s i₀ line i = (i ≤ length s) × (length line ≡ length line₀)
