@@ -63,49 +63,20 @@ fn say_values(
     }
 }
 
-// The flags of the values, and by which rule they come.
-fn say_rules(
-    line: &mut [u8],
-    link: bool,
-    a: &[u8],
-    b: &[u8],
-    c: &[u8],
-    leads: &[u32; 128],
-    code: usize,
-    first: usize,
-    xs: &mut [u32],
-)
-    requires { ⌜ first ≤ 1000 ⌝ }
-{
-    say_row(line, Line::Flag, link, a, b, c, leads, code, first, xs);
-    say_row(
-        line,
-        Line::Reason(Part::From),
-        link,
-        a,
-        b,
-        c,
-        leads,
-        code,
-        first,
-        xs,
-    );
-    say_row(
-        line,
-        Line::Reason(Part::Why),
-        link,
-        a,
-        b,
-        c,
-        leads,
-        code,
-        first,
-        xs,
-    );
+// The lines behind those of the values, in order.
+fn line_behind(k: usize) -> Line {
+    match k {
+        0 => Line::Flag,
+        1 => Line::Reason(Part::From),
+        2 => Line::Reason(Part::Why),
+        3 => Line::Reason(Part::LFlag),
+        4 => Line::Reason(Part::Holder),
+        _ => Line::Reason(Part::Place),
+    }
 }
 
-// Where they come from: the L-flags, the advertisements and the values by their places.
-fn say_places(
+// The flags of the values, and where they come from.
+fn say_reasons(
     line: &mut [u8],
     link: bool,
     a: &[u8],
@@ -118,42 +89,11 @@ fn say_places(
 )
     requires { ⌜ first ≤ 1000 ⌝ }
 {
-    say_row(
-        line,
-        Line::Reason(Part::LFlag),
-        link,
-        a,
-        b,
-        c,
-        leads,
-        code,
-        first,
-        xs,
-    );
-    say_row(
-        line,
-        Line::Reason(Part::Holder),
-        link,
-        a,
-        b,
-        c,
-        leads,
-        code,
-        first,
-        xs,
-    );
-    say_row(
-        line,
-        Line::Reason(Part::Place),
-        link,
-        a,
-        b,
-        c,
-        leads,
-        code,
-        first,
-        xs,
-    );
+    let mut k: usize = 0;
+    while k < 6 {
+        say_row(line, line_behind(k), link, a, b, c, leads, code, first, xs);
+        k += 1;
+    }
 }
 
 // ---- lists of more than 32 numbers
@@ -370,8 +310,7 @@ fn say_lines(
     requires { ⌜ first ≤ 1000 ⌝ }
 {
     say_values(line, link, a, b, c, leads, code, first, xs);
-    say_rules(line, link, a, b, c, leads, code, first, xs);
-    say_places(line, link, a, b, c, leads, code, first, xs);
+    say_reasons(line, link, a, b, c, leads, code, first, xs);
 }
 
 // The row of a kind that is there.
