@@ -1,0 +1,161 @@
+//! A report as text.
+use crate::elements;
+use crate::input::RunName;
+use crate::layout::{padded, wrap};
+use crate::library::Refusal;
+use crate::listing::{self, Listing};
+use crate::names::applications;
+use crate::reasons;
+use crate::refusals;
+use crate::report::{Facts, Item, Report};
+use crate::table;
+use crate::values;
+use std::io::{self, Write};
+
+/// One line: sizes, the named applications and the length of the export, or the refusal.
+pub fn brief(report: &Report, export: Option<&[u8]>) -> String {
+    let item = &report.item;
+    let sizes = match item.is_link() {
+        true => {
+            let len = |name| item.run(name).len();
+            format!("A {}, B {}, C {} bytes", len(RunName::A), len(RunName::B), len(RunName::C))
+        }
+        false => format!("BGP-LS {} bytes", item.run(RunName::BgpLs).len()),
+    };
+    let rest = match &report.facts {
+        Ok(facts) => outcome(item, facts, export),
+        Err(refusal) => format!("{}{}", refusals::sentence(refusal), line_of(item, refusal)),
+    };
+    format!("link {}: {sizes}; {rest}", item.title())
+}
+
+fn outcome(item: &Item, facts: &Facts, export: Option<&[u8]>) -> String {
+    let named = match facts.named.is_empty() {
+        true => "names nobody".to_string(),
+        false => format!("names {}", applications(&facts.named).join(", ")),
+    };
+    match export.filter(|_| item.is_link()) {
+        Some(bytes) => format!("{named}; export {} bytes", bytes.len()),
+        None => named,
+    }
+}
+
+/// The line of the file where a fault stands.
+fn line_of(item: &Item, refusal: &Refusal) -> String {
+    let run = item.entry.run(refusal.place.run);
+    let line = run.and_then(|r| r.line_of(refusal.place.offset));
+    match line.filter(|_| refusals::has_place(refusal)) {
+        Some(line) => format!(" (line {line})"),
+        None => String::new(),
+    }
+}
+
+/// Everything.
+pub fn write(out: &mut dyn Write, report: &Report, export: Option<&[u8]>) -> io::Result<()> {
+    writeln!(out, "{}", brief(report, export))?;
+    if let Err(refusal) = &report.facts {
+        bytes_around(out, &report.item, refusal)?;
+    }
+    write_elements(out, report)?;
+    if let Ok(facts) = &report.facts {
+        write_facts(out, facts)?;
+    }
+    match export.filter(|bytes| report.item.is_link() && !bytes.is_empty()) {
+        Some(bytes) => write_export(out, bytes),
+        None => Ok(()),
+    }
+}
+
+fn bytes_around(out: &mut dyn Write, item: &Item, refusal: &Refusal) -> io::Result<()> {
+    let Some((start, before, from)) = refusals::around(item, refusal) else {
+        return Ok(());
+    };
+    let gap = if before.is_empty() { "" } else { " " };
+    let run = refusal.place.run;
+    writeln!(out, "  {run} from {start}: {before}{gap}[{from}]")
+}
+
+fn write_elements(out: &mut dyn Write, report: &Report) -> io::Result<()> {
+    let facts = report.facts.as_ref().ok();
+    for (run, bytes) in report.item.runs() {
+        if bytes.is_empty() {
+            continue;
+        }
+        let lines = match report.list(run) {
+            Some(list) => Listing { run, bytes, list, facts }.lines(),
+            None if run == RunName::C && bytes.len() <= 1024 => listing::srlgs(bytes),
+            None => continue,
+        };
+        writeln!(out, "  {run}: offset, type, length, value, what becomes of it")?;
+        write_lines(out, &lines)?;
+    }
+    Ok(())
+}
+
+fn write_lines(out: &mut dyn Write, lines: &[String]) -> io::Result<()> {
+    for line in lines {
+        writeln!(out, "  {line}")?;
+    }
+    Ok(())
+}
+
+fn write_facts(out: &mut dyn Write, facts: &Facts) -> io::Result<()> {
+    let table = table::lines(facts);
+    if table.is_empty() && facts.of_the_link.is_empty() {
+        return writeln!(out, "  nobody gets anything");
+    }
+    if !table.is_empty() {
+        writeln!(out, "  who gets what")?;
+        for line in &table {
+            writeln!(out, "{line}")?;
+        }
+    }
+    for fact in facts.of_the_link.iter() {
+        let Some(value) = &fact.value else { continue };
+        let text = values::text(fact.kind, value);
+        let text = format!("{} {}, for everyone: {text}", fact.kind.code, fact.kind.name);
+        hanging(out, "  ", &text)?;
+    }
+    writeln!(out, "  why: A 12 is the byte at offset 12 of run A, counted from 0")?;
+    for column in &facts.columns {
+        for (title, clauses) in reasons::of_column(facts, column) {
+            reason(out, &title, &clauses.join("; "))?;
+        }
+    }
+    for fact in facts.of_the_link.iter().filter(|f| f.value.is_some()) {
+        let why = reasons::rule(&fact.why, fact.kind.code);
+        reason(out, &fact.kind.code.to_string(), &format!("{why}: {}", reasons::stands(fact)))?;
+    }
+    Ok(())
+}
+
+/// A reason beside its title, or below it where the title is long.
+fn reason(out: &mut dyn Write, title: &str, text: &str) -> io::Result<()> {
+    if text.is_empty() {
+        return Ok(());
+    }
+    const TITLE: usize = 10;
+    let mut title = title.to_string();
+    if title.chars().count() > TITLE {
+        writeln!(out, "    {title}")?;
+        title.clear();
+    }
+    hanging(out, &format!("    {} ", padded(&title, TITLE)), text)
+}
+
+/// A text whose lines stand under each other behind a front.
+fn hanging(out: &mut dyn Write, front: &str, text: &str) -> io::Result<()> {
+    let width = front.chars().count();
+    for (i, line) in wrap(text, 80 - width).iter().enumerate() {
+        let front = if i == 0 { front.to_string() } else { " ".repeat(width) };
+        writeln!(out, "{front}{line}")?;
+    }
+    Ok(())
+}
+
+fn write_export(out: &mut dyn Write, bytes: &[u8]) -> io::Result<()> {
+    let list = elements::of_bgp_ls(bytes);
+    let listing = Listing { run: RunName::BgpLs, bytes, list: &list, facts: None };
+    writeln!(out, "  export: offset, type, length, value, for whom")?;
+    write_lines(out, &listing.lines())
+}
