@@ -232,7 +232,7 @@ impl<'a> Walker<'a> {
         };
         let name = match (number, kind) {
             (ASLA, _) if self.width == 1 => "ASLA",
-            (SRLG_TLV, _) if self.width == 1 => "SRLG of applications",
+            (SRLG_TLV, _) if self.width == 1 => "app-specific SRLG",
             (ASLA_TLV, _) if self.width == 2 => "ASLA",
             (_, Some(kind)) => kind.name,
             _ => "an unknown element",

@@ -2,7 +2,7 @@
 use crate::elements::{Advertisement, Body, Element, Ignored, List};
 use crate::input::RunName;
 use crate::library::{Application, Subject};
-use crate::names::{applications, Kind, RSVP_TE};
+use crate::names::{self, Kind, RSVP_TE};
 use crate::report::Facts;
 
 /// What becomes of an element: a word that stays the same, and a sentence.
@@ -68,18 +68,16 @@ impl Fates<'_> {
         }
         let named = found.named();
         if found.is_general() {
-            return fate("general", "general: for all that nothing names");
+            let whom = if self.facts.is_some() { ": for all not named" } else { "" };
+            return fate("general", format!("general{whom}"));
         }
         if named.is_empty() {
             return fate("neither", "neither: its masks have no bit, so it names nobody");
         }
-        let who = applications(&named).join(", ");
+        let who = who(&named);
         if found.l_flag {
-            let legacy = if self.run == RunName::B { "C" } else { "legacy" };
-            let text = format!(
-                "names {who} with the L-flag, byte {}: {legacy} values for it",
-                found.flags
-            );
+            let legacy = if self.run == RunName::B { "the SRLGs of C" } else { "legacy values" };
+            let text = format!("names {who}, L-flag (byte {}): {legacy}", found.flags);
             return fate("names", text);
         }
         let overruled = match self.run {
@@ -96,11 +94,7 @@ impl Fates<'_> {
             let hit: Vec<Application> =
                 named.iter().filter(|a| other.names(**a)).copied().collect();
             if !hit.is_empty() {
-                text = format!(
-                    "; but the L-flag at {} decides for {}",
-                    other.flags,
-                    applications(&hit).join(", ")
-                );
+                text = format!("; but the L-flag at {} decides for {}", other.flags, who(&hit));
                 break;
             }
         }
@@ -191,7 +185,7 @@ impl Fates<'_> {
         let only = reasons.len() == 1 && takers.is_empty();
         let texts = reasons.iter().map(|(text, all)| match only {
             true => text.clone(),
-            false => format!("{text} for {}", applications(all).join(", ")),
+            false => format!("{text} for {}", who(all)),
         });
         fate(word, texts.collect::<Vec<String>>().join("; "))
     }
@@ -240,6 +234,13 @@ impl Fates<'_> {
     fn element_at(&self, value: usize) -> usize {
         value - if self.is_bgp_ls() { 4 } else { 2 }
     }
+}
+
+/// Applications, each in one piece where a line is broken.
+fn who(all: &[Application]) -> String {
+    let all: Vec<String> =
+        names::applications(all).iter().map(|a| a.replace(' ', "\u{A0}")).collect();
+    all.join(", ")
 }
 
 fn shadowed(by: usize) -> Fate {

@@ -60,13 +60,13 @@ pub struct Entry {
     /// The line where it begins.
     pub line: usize,
     pub runs: Vec<Run>,
-    /// Whether one of its lines is faulty, so that its bytes are not known.
-    pub faulty: bool,
+    /// What is wrong with its lines. If anything is, its bytes are not known.
+    pub faults: Vec<Fault>,
 }
 
 impl Entry {
     fn new(name: Option<String>, line: usize) -> Entry {
-        Entry { name, line, runs: Vec::new(), faulty: false }
+        Entry { name, line, runs: Vec::new(), faults: Vec::new() }
     }
 
     pub fn run(&self, name: RunName) -> Option<&Run> {
@@ -101,7 +101,13 @@ pub struct Fault {
 #[derive(Clone, Debug, Default, PartialEq, Eq)]
 pub struct File {
     pub entries: Vec<Entry>,
-    pub faults: Vec<Fault>,
+}
+
+impl File {
+    /// What is wrong with its lines.
+    pub fn faults(&self) -> impl Iterator<Item = &Fault> {
+        self.entries.iter().flat_map(|e| &e.faults)
+    }
 }
 
 /// What is wrong in a line: the column, counted from 0 in bytes, and words.
@@ -138,8 +144,7 @@ impl Reader {
         // Columns are counted in characters, as editors do.
         let before = line.get(..at).unwrap_or(line);
         let column = String::from_utf8_lossy(before).chars().count() + 1;
-        self.file.faults.push(Fault { line: number, column, what });
-        self.entry(number).faulty = true;
+        self.entry(number).faults.push(Fault { line: number, column, what });
         self.dump = None;
     }
 
@@ -232,7 +237,7 @@ mod tests {
 
     fn bytes(text: &str, name: RunName) -> Vec<u8> {
         let file = read(text.as_bytes());
-        assert_eq!(file.faults, [], "{text}");
+        assert_eq!(file.faults().next(), None, "{text}");
         file.entries[0].bytes(name).to_vec()
     }
 
@@ -269,16 +274,17 @@ mod tests {
     fn every_faulty_line_is_told() {
         let text = "link x\nA 12 0G\nD 12\nlink y\nA 12 03\nlink z\nÄ 00\nC 1\n";
         let file = read(text.as_bytes());
-        let places: Vec<(usize, usize)> = file.faults.iter().map(|f| (f.line, f.column)).collect();
+        let places: Vec<(usize, usize)> = file.faults().map(|f| (f.line, f.column)).collect();
         assert_eq!(places, [(2, 7), (3, 1), (7, 1), (8, 3)]);
-        let faulty: Vec<bool> = file.entries.iter().map(|e| e.faulty).collect();
+        let faulty: Vec<bool> = file.entries.iter().map(|e| !e.faults.is_empty()).collect();
         assert_eq!(faulty, [true, false, true]);
     }
 
     #[test]
     fn columns_are_counted_in_characters() {
         let file = read("A 12 é".as_bytes());
-        assert_eq!((file.faults[0].line, file.faults[0].column), (1, 6));
-        assert!(file.faults[0].what.contains("'é'"));
+        let fault = file.faults().next().unwrap();
+        assert_eq!((fault.line, fault.column), (1, 6));
+        assert!(fault.what.contains("'é'"));
     }
 }

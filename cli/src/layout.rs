@@ -1,6 +1,7 @@
 //! Text in columns.
 
-/// Lines of at most so many characters, broken at blanks, or anywhere where there is none.
+/// Lines of at most so many characters, broken at blanks, or anywhere where there is none. What is
+/// to stay together has no-break spaces, which become blanks.
 pub fn wrap(text: &str, width: usize) -> Vec<String> {
     let width = width.max(1);
     let mut lines = Vec::new();
@@ -23,7 +24,12 @@ pub fn wrap(text: &str, width: usize) -> Vec<String> {
     if !line.is_empty() || lines.is_empty() {
         lines.push(line);
     }
-    lines
+    lines.iter().map(|line| line.replace('\u{A0}', " ")).collect()
+}
+
+/// A text that is broken behind its semicolons alone.
+pub fn unbroken(text: &str) -> String {
+    text.replace(' ', "\u{A0}").replace(";\u{A0}", "; ")
 }
 
 /// Where a long word is broken: behind its last comma that fits, or where the line ends.

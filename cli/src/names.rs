@@ -47,7 +47,7 @@ const fn kind(
 
 /// The fourteen kinds, by their codes.
 pub static KINDS: [Kind; 14] = [
-    kind(1088, Some(3), "administrative group", "group", Form::Bits),
+    kind(1088, Some(3), "administrative group", "grp bits", Form::Bits),
     kind(1089, Some(9), "maximum bandwidth", "maximum", Form::Bandwidth),
     kind(1090, Some(10), "reservable bandwidth", "reservable", Form::Bandwidth),
     kind(1091, Some(11), "unreserved bandwidth", "unreserved", Form::Bandwidths),
@@ -60,7 +60,7 @@ pub static KINDS: [Kind; 14] = [
     kind(1118, Some(37), "residual bandwidth", "residual", Form::Bandwidth),
     kind(1119, Some(38), "available bandwidth", "available", Form::Bandwidth),
     kind(1120, Some(39), "utilized bandwidth", "utilized", Form::Bandwidth),
-    kind(1173, Some(14), "extended group", "extended", Form::Bits),
+    kind(1173, Some(14), "extended group", "ext bits", Form::Bits),
 ];
 
 /// The code of a BGP-LS ASLA TLV.

@@ -21,13 +21,14 @@ pub fn lines(facts: &Facts) -> Vec<String> {
     let kinds = facts.kinds();
     let mut notes = Notes::new();
     let mut lines = Vec::new();
-    if kinds.is_empty() && facts.columns.len() == 2 {
+    if kinds.is_empty() {
         return lines;
     }
     let most = WIDTHS[1].0;
     for block in facts.columns.chunks(most) {
         lines.extend(block_lines(facts, &kinds, block, &mut notes));
     }
+    lines.extend(legend(facts));
     for (i, note) in notes.iter().enumerate() {
         let number = format!("    [{}] ", i + 1);
         let rest = " ".repeat(number.len());
@@ -54,7 +55,7 @@ fn block_lines(
 ) -> Vec<String> {
     let (most, blanks) = measures(block.len());
     let mut rows: Vec<(String, Vec<String>)> = vec![
-        (String::new(), block.iter().map(|c| head(facts, c)).collect()),
+        ("  who gets what".into(), block.iter().map(|c| head(facts, c)).collect()),
         (String::new(), block.iter().map(|c| more(c)).collect()),
     ];
     for kind in kinds {
@@ -96,18 +97,32 @@ fn more(column: &[usize]) -> String {
     }
 }
 
+/// Whom the columns of several applications stand for.
+fn legend(facts: &Facts) -> Vec<String> {
+    let several = facts.columns.iter().filter(|c| c.len() > 1);
+    let named = |i: &usize| facts.named[i - 2];
+    let one = |column: &Vec<usize>| {
+        let members: Vec<Application> = column.iter().map(named).collect();
+        let all = names::applications(&members).join(", ");
+        let text = format!("{} {}: {all}", head(facts, column), more(column));
+        wrap(&text, WIDTHS[0].1 - 4).into_iter().map(|line| format!("    {line}"))
+    };
+    several.flat_map(one).collect()
+}
+
 /// A value in at most so many characters; a longer one becomes a note.
 fn cell(fact: Option<&Fact>, most: usize, notes: &mut Notes) -> String {
     let Some((kind, value)) = fact.and_then(|f| Some((f.kind, f.value.as_ref()?))) else {
         return "-".into();
     };
     let text = values::text(kind, value);
+    let text = text.strip_prefix("bits ").unwrap_or(&text);
     if text.chars().count() <= most {
-        return text;
+        return text.into();
     }
     let note = match value {
         Value::Srlgs(all) => values::numbers(all, " "),
-        _ => text,
+        _ => text.into(),
     };
     let number = notes.iter().position(|n| *n == note).unwrap_or_else(|| {
         notes.push(note);

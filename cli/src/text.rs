@@ -1,10 +1,10 @@
 //! A report as text.
 use crate::elements;
 use crate::input::RunName;
-use crate::layout::{padded, wrap};
+use crate::layout::{padded, unbroken, wrap};
 use crate::library::Refusal;
 use crate::listing::{self, Listing};
-use crate::names::applications;
+use crate::names::{applications, Kind};
 use crate::reasons;
 use crate::refusals;
 use crate::report::{Facts, Item, Report};
@@ -58,7 +58,7 @@ pub fn write(out: &mut dyn Write, report: &Report, export: Option<&[u8]>) -> io:
     }
     write_elements(out, report)?;
     if let Ok(facts) = &report.facts {
-        write_facts(out, facts)?;
+        write_facts(out, facts, report.item.is_link())?;
     }
     match export.filter(|bytes| report.item.is_link() && !bytes.is_empty()) {
         Some(bytes) => write_export(out, bytes),
@@ -78,76 +78,73 @@ fn bytes_around(out: &mut dyn Write, item: &Item, refusal: &Refusal) -> io::Resu
 fn write_elements(out: &mut dyn Write, report: &Report) -> io::Result<()> {
     let facts = report.facts.as_ref().ok();
     for (run, bytes) in report.item.runs() {
-        if bytes.is_empty() {
-            continue;
-        }
-        let lines = match report.list(run) {
+        let listed = match report.list(run) {
             Some(list) => Listing { run, bytes, list, facts }.lines(),
             None if run == RunName::C && bytes.len() <= 1024 => listing::srlgs(bytes),
-            None => continue,
+            None => Vec::new(),
         };
-        writeln!(out, "  {run}: offset, type, length, value, what becomes of it")?;
-        write_lines(out, &lines)?;
+        if !bytes.is_empty() && !listed.is_empty() {
+            writeln!(out, "  {run}: offset, type, length, value, what becomes of it")?;
+            lines(out, &listed)?;
+        }
     }
     Ok(())
 }
 
-fn write_lines(out: &mut dyn Write, lines: &[String]) -> io::Result<()> {
+/// Lines as they are.
+pub fn lines(out: &mut dyn Write, lines: &[String]) -> io::Result<()> {
     for line in lines {
-        writeln!(out, "  {line}")?;
+        writeln!(out, "{line}")?;
     }
     Ok(())
 }
 
-fn write_facts(out: &mut dyn Write, facts: &Facts) -> io::Result<()> {
+fn write_facts(out: &mut dyn Write, facts: &Facts, is_link: bool) -> io::Result<()> {
     let table = table::lines(facts);
-    if table.is_empty() && facts.of_the_link.is_empty() {
+    let found = facts.of_the_link.iter().filter_map(|f| Some((f, f.value.as_ref()?)));
+    if table.is_empty() && found.clone().next().is_none() {
         return writeln!(out, "  nobody gets anything");
     }
-    if !table.is_empty() {
-        writeln!(out, "  who gets what")?;
-        for line in &table {
-            writeln!(out, "{line}")?;
-        }
+    lines(out, &table)?;
+    for (fact, value) in found {
+        let Kind { code, name, .. } = fact.kind;
+        let text = unbroken(&values::text(fact.kind, value));
+        let why = reasons::rule(fact, is_link);
+        let text =
+            format!("{code} {name}, for everyone: {text} ({why}, {})", reasons::stands(fact));
+        hanging(out, "  ", "    ", &text)?;
     }
-    for fact in facts.of_the_link.iter() {
-        let Some(value) = &fact.value else { continue };
-        let text = values::text(fact.kind, value);
-        let text = format!("{} {}, for everyone: {text}", fact.kind.code, fact.kind.name);
-        hanging(out, "  ", &text)?;
+    if table.is_empty() {
+        return Ok(());
     }
-    writeln!(out, "  why: A 12 is the byte at offset 12 of run A, counted from 0")?;
-    for column in &facts.columns {
-        for (title, clauses) in reasons::of_column(facts, column) {
-            reason(out, &title, &clauses.join("; "))?;
-        }
+    match is_link {
+        true => writeln!(out, "  why (A 12 is the byte at offset 12 of run A, counted from 0)")?,
+        false => writeln!(out, "  why (bytes are told by their offsets, counted from 0)")?,
     }
-    for fact in facts.of_the_link.iter().filter(|f| f.value.is_some()) {
-        let why = reasons::rule(&fact.why, fact.kind.code);
-        reason(out, &fact.kind.code.to_string(), &format!("{why}: {}", reasons::stands(fact)))?;
+    let mut before = String::new();
+    for (title, text) in reasons::all(facts, is_link) {
+        reason(out, if title == before { "" } else { &title }, &text)?;
+        before = title;
     }
     Ok(())
 }
 
 /// A reason beside its title, or below it where the title is long.
 fn reason(out: &mut dyn Write, title: &str, text: &str) -> io::Result<()> {
-    if text.is_empty() {
-        return Ok(());
-    }
     const TITLE: usize = 10;
-    let mut title = title.to_string();
+    let blank = " ".repeat(3 + TITLE + 1);
     if title.chars().count() > TITLE {
-        writeln!(out, "    {title}")?;
-        title.clear();
+        hanging(out, "   ", "   ", title)?;
+        return hanging(out, &blank, &blank, text);
     }
-    hanging(out, &format!("    {} ", padded(&title, TITLE)), text)
+    hanging(out, &format!("   {} ", padded(title, TITLE)), &blank, text)
 }
 
-/// A text whose lines stand under each other behind a front.
-fn hanging(out: &mut dyn Write, front: &str, text: &str) -> io::Result<()> {
-    let width = front.chars().count();
-    for (i, line) in wrap(text, 80 - width).iter().enumerate() {
-        let front = if i == 0 { front.to_string() } else { " ".repeat(width) };
+/// A text in lines, with one thing in front of the first and another in front of the others.
+fn hanging(out: &mut dyn Write, first: &str, others: &str, text: &str) -> io::Result<()> {
+    let width = 80 - first.chars().count().max(others.chars().count());
+    for (i, line) in wrap(text, width).iter().enumerate() {
+        let front = if i == 0 { first } else { others };
         writeln!(out, "{front}{line}")?;
     }
     Ok(())
@@ -157,5 +154,5 @@ fn write_export(out: &mut dyn Write, bytes: &[u8]) -> io::Result<()> {
     let list = elements::of_bgp_ls(bytes);
     let listing = Listing { run: RunName::BgpLs, bytes, list: &list, facts: None };
     writeln!(out, "  export: offset, type, length, value, for whom")?;
-    write_lines(out, &listing.lines())
+    lines(out, &listing.lines())
 }

@@ -96,7 +96,7 @@ fn shifted(decimal: &str, places: usize) -> String {
     }
 }
 
-/// The bits that are set, the lowest of each word first: `0-3,17`, or `none`.
+/// The bits that are set, the lowest of each word first: `bits 0-3,17`, or `no bit`.
 pub fn bits(words: &[u32]) -> String {
     let set = |(i, w): (usize, &u32)| {
         let w = *w;
@@ -104,8 +104,8 @@ pub fn bits(words: &[u32]) -> String {
     };
     let all: Vec<usize> = words.iter().enumerate().flat_map(set).collect();
     match all.is_empty() {
-        true => "none".into(),
-        false => ranges(&all).join(","),
+        true => "no bit".into(),
+        false => format!("bits {}", ranges(&all).join(",")),
     }
 }
 
@@ -251,9 +251,9 @@ mod tests {
 
     #[test]
     fn groups_are_listed_by_bits() {
-        assert_eq!(shown(1088, &[0, 0, 0, 0x0F]), "0-3");
-        assert_eq!(shown(1088, &[0, 0, 0, 0]), "none");
-        assert_eq!(shown(1173, &[0, 0, 0, 1, 0x80, 0, 0, 0]), "0,63");
+        assert_eq!(shown(1088, &[0, 0, 0, 0x0F]), "bits 0-3");
+        assert_eq!(shown(1088, &[0, 0, 0, 0]), "no bit");
+        assert_eq!(shown(1173, &[0, 0, 0, 1, 0x80, 0, 0, 0]), "bits 0,63");
     }
 
     #[test]
