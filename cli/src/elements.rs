@@ -267,7 +267,7 @@ impl<'a> Walker<'a> {
             1091 if length != 32 => "32",
             1092 if length != 3 => "3",
             1115 if length != 8 => "8",
-            1173 if length % 4 != 0 || !(4..=252).contains(&length) => {
+            1173 if !length.is_multiple_of(4) || !(4..=252).contains(&length) => {
                 "a multiple of 4 from 4 to 252"
             }
             1091 | 1092 | 1115 | 1173 => "",
@@ -377,7 +377,7 @@ impl<'a> Walker<'a> {
                 found.unread.start = found.unread.end;
             }
         }
-        if found.srlgs.len() % 4 != 0 {
+        if !found.srlgs.len().is_multiple_of(4) {
             let name = self.title(element.number);
             let has = found.srlgs.len();
             let what =
@@ -431,8 +431,8 @@ impl<'a> Walker<'a> {
         };
         let length = frame.value.len();
         let must_be = match kind.form {
-            Form::Srlgs if length % 4 != 0 => "a multiple of 4",
-            Form::Bits if kind.code == 1173 && (length == 0 || length % 4 != 0) => {
+            Form::Srlgs if !length.is_multiple_of(4) => "a multiple of 4",
+            Form::Bits if kind.code == 1173 && (length == 0 || !length.is_multiple_of(4)) => {
                 "a multiple of 4, and not 0"
             }
             Form::Bandwidths if length != 32 => "32",

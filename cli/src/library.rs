@@ -116,13 +116,18 @@ impl<'a> Source<'a> {
         Ok(Fact {
             kind,
             value,
-            place: part.map(|p| self.place(p)),
+            place: part.map(|p| self.place_of(p)),
             length: part.map_or(0, |p| p.bytes.len()),
             why: self.why(whom, kind)?,
         })
     }
 
-    fn place(&self, part: Part) -> Place {
+    /// Where the value of a kind stands that a subject gets.
+    pub fn place(&self, whom: Subject, code: u16) -> Option<Place> {
+        self.part(whom, code).map(|p| self.place_of(p))
+    }
+
+    fn place_of(&self, part: Part) -> Place {
         let run = match self {
             Source::Link(_) => RunName::A,
             Source::BgpLs(_) => RunName::BgpLs,

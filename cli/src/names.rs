@@ -53,13 +53,13 @@ pub static KINDS: [Kind; 14] = [
     kind(1091, Some(11), "unreserved bandwidth", "unreserved", Form::Bandwidths),
     kind(1092, Some(18), "TE metric", "TE metric", Form::Number),
     kind(1096, None, "SRLG", "SRLG", Form::Srlgs),
-    kind(1114, Some(33), "link delay", "delay", Form::Delay),
-    kind(1115, Some(34), "min/max link delay", "min/max", Form::Delays),
+    kind(1114, Some(33), "delay", "delay", Form::Delay),
+    kind(1115, Some(34), "min/max delay", "min/max", Form::Delays),
     kind(1116, Some(35), "delay variation", "variation", Form::Delay),
-    kind(1117, Some(36), "link loss", "loss", Form::Loss),
+    kind(1117, Some(36), "loss", "loss", Form::Loss),
     kind(1118, Some(37), "residual bandwidth", "residual", Form::Bandwidth),
     kind(1119, Some(38), "available bandwidth", "available", Form::Bandwidth),
-    kind(1120, Some(39), "utilized bandwidth", "utilized", Form::Bandwidth),
+    kind(1120, Some(39), "utilised bandwidth", "utilised", Form::Bandwidth),
     kind(1173, Some(14), "extended group", "ext bits", Form::Bits),
 ];
 

@@ -32,7 +32,7 @@ becomes of it, who gets what and why, and the exports.
                                      APP: sr-policy, lfa, flex-algo, rsvp-te,
                                      general, standard-6, user-5; CODE: 1092
   inspect --json FILE..              one JSON document a link, in one line
-  inspect --bgpls FILE..             the exports as a file that can be read again
+  inspect --bgpls FILE..             the exports as a file to be read again
   inspect --pcap CAPTURE FILE..      the exports as BGP UPDATEs for Wireshark
   inspect --help | --version
 

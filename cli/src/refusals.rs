@@ -44,14 +44,14 @@ pub fn has_place(refusal: &Refusal) -> bool {
     !matches!(refusal.number, 1 | 2 | 5..=7)
 }
 
-/// The bytes around a fault, up to eight before it and sixteen from it on, and where they begin.
+/// The bytes around a fault, up to six before it and twelve from it on, and where they begin.
 pub fn around(item: &Item, refusal: &Refusal) -> Option<(usize, String, String)> {
     if !has_place(refusal) {
         return None;
     }
     let run = item.run(refusal.place.run);
     let at = refusal.place.offset.min(run.len());
-    let start = at.saturating_sub(8);
-    let end = run.len().min(at + 16);
+    let start = at.saturating_sub(6);
+    let end = run.len().min(at + 12);
     Some((start, hex(&run[start..at]), hex(&run[at..end])))
 }

@@ -10,33 +10,95 @@ use crate::values::{self, Value};
 const LABEL: usize = 16;
 /// A column can be so narrow, and no narrower.
 const NARROW: usize = 9;
-/// A table of up to four groups has at most 80 characters in a line, one of up to eight 120.
+/// So many columns go into a line of so many characters: four groups into 80, eight into 120.
 const WIDTHS: [(usize, usize); 2] = [(6, 80), (10, 120)];
 
-/// Values that are too long for a column and stand below the table, by their numbers.
-type Notes = Vec<String>;
+/// What stands in one place of the table.
+#[derive(Clone, Debug, Default, PartialEq, Eq)]
+struct Cell {
+    text: String,
+    /// The note with the whole value, where it is too long for its column.
+    note: Option<usize>,
+}
 
-/// The lines of the table; none where nobody gets anything.
-pub fn lines(facts: &Facts) -> Vec<String> {
-    let kinds = facts.kinds();
-    let mut notes = Notes::new();
-    let mut lines = Vec::new();
-    if kinds.is_empty() {
-        return lines;
-    }
-    let most = WIDTHS[1].0;
-    for block in facts.columns.chunks(most) {
-        lines.extend(block_lines(facts, &kinds, block, &mut notes));
-    }
-    lines.extend(legend(facts));
-    for (i, note) in notes.iter().enumerate() {
-        let number = format!("    [{}] ", i + 1);
-        let rest = " ".repeat(number.len());
-        for (j, line) in wrap(note, WIDTHS[0].1 - number.len()).into_iter().enumerate() {
-            lines.push(format!("{}{line}", if j == 0 { &number } else { &rest }));
+/// The table.
+pub struct Table {
+    kinds: Vec<&'static Kind>,
+    /// The first application of each column, and how many more there are.
+    heads: Vec<[String; 2]>,
+    /// A row for each kind.
+    rows: Vec<Vec<Cell>>,
+    notes: Vec<String>,
+    legend: Vec<String>,
+}
+
+impl Table {
+    pub fn of(facts: &Facts) -> Table {
+        let kinds = facts.kinds();
+        let mut notes = Vec::new();
+        let mut rows = Vec::new();
+        for kind in &kinds {
+            let mut row = Vec::new();
+            for block in facts.columns.chunks(WIDTHS[1].0) {
+                let (most, _) = measures(block.len());
+                for column in block {
+                    let fact = facts.all[column[0]].facts.iter().find(|f| f.kind == *kind);
+                    row.push(cell(fact, most, &mut notes));
+                }
+            }
+            rows.push(row);
         }
+        let heads = facts.columns.iter().map(|c| [head(facts, c), more(c)]).collect();
+        Table { kinds, heads, rows, notes, legend: legend(facts) }
     }
-    lines
+
+    pub fn is_empty(&self) -> bool {
+        self.kinds.is_empty()
+    }
+
+    /// What is shown of a kind in a column, with the note if there is one.
+    pub fn shown(&self, code: u16, column: usize) -> Option<&str> {
+        let row = self.kinds.iter().position(|k| k.code == code)?;
+        let cell = self.rows[row].get(column)?;
+        Some(cell.note.map_or(&cell.text, |n| &self.notes[n]))
+    }
+
+    pub fn lines(&self) -> Vec<String> {
+        let mut lines = Vec::new();
+        let columns: Vec<usize> = (0..self.heads.len()).collect();
+        for block in columns.chunks(WIDTHS[1].0) {
+            lines.extend(self.block(block));
+        }
+        for text in &self.legend {
+            hang(&mut lines, "    ", text);
+        }
+        for (i, note) in self.notes.iter().enumerate() {
+            hang(&mut lines, &format!("    [{}] ", i + 1), note);
+        }
+        lines
+    }
+
+    /// The lines of columns that stand side by side.
+    fn block(&self, columns: &[usize]) -> Vec<String> {
+        let (_, blanks) = measures(columns.len());
+        let of = |column: usize| {
+            let head = self.heads[column].iter().map(String::as_str);
+            let cells = self.rows.iter().map(move |row| row[column].text.as_str());
+            head.chain(cells)
+        };
+        let labels = self.kinds.iter().map(|k| format!("  {} {}", k.code, k.short));
+        let labels = ["  who gets what".to_string(), String::new()].into_iter().chain(labels);
+        let mut lines: Vec<String> = labels.map(|label| padded(&label, LABEL)).collect();
+        for column in columns {
+            let width = widest(of(*column));
+            for (line, text) in lines.iter_mut().zip(of(*column)) {
+                *line += &" ".repeat(blanks);
+                *line += &padded(text, width);
+            }
+        }
+        let lines = lines.iter().map(|line| line.trim_end().to_string());
+        lines.filter(|line| !line.is_empty()).collect()
+    }
 }
 
 /// How wide a column may be, and how many blanks stand before it.
@@ -47,41 +109,15 @@ fn measures(columns: usize) -> (usize, usize) {
     (each - blanks, blanks)
 }
 
-fn block_lines(
-    facts: &Facts,
-    kinds: &[&'static Kind],
-    block: &[Vec<usize>],
-    notes: &mut Notes,
-) -> Vec<String> {
-    let (most, blanks) = measures(block.len());
-    let mut rows: Vec<(String, Vec<String>)> = vec![
-        ("  who gets what".into(), block.iter().map(|c| head(facts, c)).collect()),
-        (String::new(), block.iter().map(|c| more(c)).collect()),
-    ];
-    for kind in kinds {
-        let cells = block.iter().map(|column| {
-            let fact = facts.all[column[0]].facts.iter().find(|f| f.kind == *kind);
-            cell(fact, most, notes)
-        });
-        let label = format!("  {} {}", kind.code, kind.short);
-        rows.push((label, cells.collect()));
+/// A text in lines under each other, behind a front.
+fn hang(lines: &mut Vec<String>, front: &str, text: &str) {
+    for (i, line) in wrap(text, WIDTHS[0].1 - front.len()).into_iter().enumerate() {
+        let front = if i == 0 { front.to_string() } else { " ".repeat(front.len()) };
+        lines.push(format!("{front}{line}"));
     }
-    rows.retain(|(label, cells)| !label.is_empty() || cells.iter().any(|c| !c.is_empty()));
-    let width = |i: usize| widest(rows.iter().map(|(_, cells)| cells[i].as_str()));
-    let widths: Vec<usize> = (0..block.len()).map(width).collect();
-    let line = |(label, cells): &(String, Vec<String>)| {
-        let mut line = padded(label, LABEL);
-        for (cell, width) in cells.iter().zip(&widths) {
-            line += &" ".repeat(blanks);
-            line += &padded(cell, *width);
-        }
-        line.trim_end().to_string()
-    };
-    rows.iter().map(line).collect()
 }
 
-/// What stands over a column: its first application.
-pub fn head(facts: &Facts, column: &[usize]) -> String {
+fn head(facts: &Facts, column: &[usize]) -> String {
     match facts.all[column[0]].whom {
         Subject::General => "general".into(),
         Subject::Standard(n) => names::short(Application::Standard(n as u8)),
@@ -89,7 +125,6 @@ pub fn head(facts: &Facts, column: &[usize]) -> String {
     }
 }
 
-/// How many more there are in it.
 fn more(column: &[usize]) -> String {
     match column.len() {
         1 => String::new(),
@@ -100,25 +135,23 @@ fn more(column: &[usize]) -> String {
 /// Whom the columns of several applications stand for.
 fn legend(facts: &Facts) -> Vec<String> {
     let several = facts.columns.iter().filter(|c| c.len() > 1);
-    let named = |i: &usize| facts.named[i - 2];
-    let one = |column: &Vec<usize>| {
-        let members: Vec<Application> = column.iter().map(named).collect();
+    let text = |column: &Vec<usize>| {
+        let members: Vec<Application> = column.iter().map(|i| facts.named[i - 2]).collect();
         let all = names::applications(&members).join(", ");
-        let text = format!("{} {}: {all}", head(facts, column), more(column));
-        wrap(&text, WIDTHS[0].1 - 4).into_iter().map(|line| format!("    {line}"))
+        format!("{} {}: {all}", head(facts, column), more(column))
     };
-    several.flat_map(one).collect()
+    several.map(text).collect()
 }
 
 /// A value in at most so many characters; a longer one becomes a note.
-fn cell(fact: Option<&Fact>, most: usize, notes: &mut Notes) -> String {
+fn cell(fact: Option<&Fact>, most: usize, notes: &mut Vec<String>) -> Cell {
     let Some((kind, value)) = fact.and_then(|f| Some((f.kind, f.value.as_ref()?))) else {
-        return "-".into();
+        return Cell { text: "-".into(), note: None };
     };
     let text = values::text(kind, value);
     let text = text.strip_prefix("bits ").unwrap_or(&text);
     if text.chars().count() <= most {
-        return text.into();
+        return Cell { text: text.into(), note: None };
     }
     let note = match value {
         Value::Srlgs(all) => values::numbers(all, " "),
@@ -130,11 +163,9 @@ fn cell(fact: Option<&Fact>, most: usize, notes: &mut Notes) -> String {
     });
     let mark = format!("[{}]", number + 1);
     let about = match value {
-        Value::Bandwidth(bits) => values::about(*bits),
+        Value::Bandwidth(bits) => values::about(*bits).map(|about| format!("{about}{mark}")),
         _ => None,
     };
-    match about.map(|a| format!("{a}{mark}")) {
-        Some(both) if both.len() <= most => both,
-        _ => mark,
-    }
+    let text = about.filter(|text| text.len() <= most).unwrap_or(mark);
+    Cell { text, note: Some(number) }
 }

@@ -8,7 +8,7 @@ use crate::names::{applications, Kind};
 use crate::reasons;
 use crate::refusals;
 use crate::report::{Facts, Item, Report};
-use crate::table;
+use crate::table::Table;
 use crate::values;
 use std::io::{self, Write};
 
@@ -100,12 +100,14 @@ pub fn lines(out: &mut dyn Write, lines: &[String]) -> io::Result<()> {
 }
 
 fn write_facts(out: &mut dyn Write, facts: &Facts, is_link: bool) -> io::Result<()> {
-    let table = table::lines(facts);
+    let table = Table::of(facts);
     let found = facts.of_the_link.iter().filter_map(|f| Some((f, f.value.as_ref()?)));
     if table.is_empty() && found.clone().next().is_none() {
         return writeln!(out, "  nobody gets anything");
     }
-    lines(out, &table)?;
+    if !table.is_empty() {
+        lines(out, &table.lines())?;
+    }
     for (fact, value) in found {
         let Kind { code, name, .. } = fact.kind;
         let text = unbroken(&values::text(fact.kind, value));
