@@ -83,19 +83,24 @@ impl fmt::Display for Json {
 }
 
 fn quoted(f: &mut fmt::Formatter<'_>, text: &str) -> fmt::Result {
+    let is_plain = |c: char| c >= ' ' && !matches!(c, '"' | '\\' | '\u{7F}');
     f.write_char('"')?;
+    if text.chars().all(is_plain) {
+        f.write_str(text)?;
+        return f.write_char('"');
+    }
     for c in text.chars() {
         match c {
             '"' | '\\' => write!(f, "\\{c}")?,
-            c if c < ' ' || c == '\u{7F}' => write!(f, "\\u{:04x}", u32::from(c))?,
-            c => f.write_char(c)?,
+            c if is_plain(c) => f.write_char(c)?,
+            c => write!(f, "\\u{:04x}", u32::from(c))?,
         }
     }
     f.write_char('"')
 }
 
 fn hex(bytes: &[u8]) -> String {
-    values::hex(bytes).replace(' ', "")
+    values::hex_with(bytes, "")
 }
 
 /// A report as a document.

@@ -13,10 +13,21 @@ pub enum Value {
     Srlgs(Vec<u32>),
 }
 
-/// Bytes in hex, two digits each.
+/// Bytes in hex, two digits each, with something between them.
+pub fn hex_with(bytes: &[u8], between: &str) -> String {
+    const DIGITS: [u8; 16] = *b"0123456789ABCDEF";
+    let mut text = String::with_capacity((2 + between.len()) * bytes.len());
+    for (i, byte) in bytes.iter().enumerate() {
+        text.push_str(if i == 0 { "" } else { between });
+        text.push(char::from(DIGITS[usize::from(byte >> 4)]));
+        text.push(char::from(DIGITS[usize::from(byte & 15)]));
+    }
+    text
+}
+
+/// Bytes in hex, with blanks between them.
 pub fn hex(bytes: &[u8]) -> String {
-    let pairs: Vec<String> = bytes.iter().map(|b| format!("{b:02X}")).collect();
-    pairs.join(" ")
+    hex_with(bytes, " ")
 }
 
 /// Four bytes each as numbers; what is left at the end is left out.
@@ -27,6 +38,9 @@ pub fn words(bytes: &[u8]) -> Vec<u32> {
 
 /// The same number as a plain decimal, exactly.
 fn decimal(x: f64) -> String {
+    if x.fract() == 0.0 {
+        return format!("{x:.0}");
+    }
     let all = format!("{x:.160}");
     all.trim_end_matches('0').trim_end_matches('.').to_string()
 }
