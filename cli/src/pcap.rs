@@ -1,5 +1,5 @@
 //! Exports as BGP UPDATE messages in a capture file that Wireshark opens: a packet for each link,
-//! with an NLRI of its own (RFC 7752) and the export as attribute 29.
+//! with an NLRI of its own (RFC 9552) and the export as attribute 29.
 use std::io::{self, Write};
 
 /// A BGP message has no more bytes (RFC 4271).
