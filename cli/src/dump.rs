@@ -18,6 +18,8 @@ struct Offset {
     end: usize,
     /// With a colon behind it, it is nothing else.
     colon: bool,
+    /// Two blanks behind it, or six digits, as dumps without a colon have them.
+    looks_so: bool,
 }
 
 impl Offset {
@@ -83,7 +85,8 @@ fn offset(line: &[u8], from: usize) -> Option<Offset> {
     let colon = line.get(digits.end) == Some(&b':') && ends(digits.end + 1);
     let end = digits.end + usize::from(colon);
     let fits = if colon { len >= 3 } else { len >= 4 && start == from };
-    (fits && ends(end)).then_some(Offset { digits, end, colon })
+    let looks_so = len == 6 || blanks(&line[end..]) >= 2;
+    (fits && ends(end)).then_some(Offset { digits, end, colon, looks_so })
 }
 
 /// A line of a dump; none where it is no such line.
@@ -92,58 +95,71 @@ fn dump_line(
     offset: &Offset,
     before: Option<&Dump>,
 ) -> Result<Option<(Vec<u8>, Dump)>, Wrong> {
-    let at = offset.digits.start;
-    let all = groups(line, offset.end);
-    let Some(count) = text_column(line, &all).or_else(|| whole(line, offset.end, &all)) else {
-        return if offset.is_certain() { plain(line, offset.end).map(|_| None) } else { Ok(None) };
+    let Some(bytes) = behind(line, offset, before.is_some())? else {
+        return Ok(None);
     };
-    let groups = &all[..count];
     let follows = before.is_some_and(|dump| offset.is(line, dump.next));
-    if groups.is_empty() && !offset.colon && !follows {
+    if bytes.is_empty() && !offset.colon && !follows {
         return Ok(None);
     }
-    let longest = if offset.colon { 4 } else { 2 };
-    if groups.iter().any(|g| g.len() > longest || g.len() % 2 == 1) {
-        if !offset.is_certain() && before.is_none() {
-            return Ok(None);
-        }
-        let what = "a dump in words, whose bytes may be swapped: make it with xxd -g 1, hexdump -C or od -t x1";
-        return Err((at, what.into()));
+    if !follows && !judge(line, offset, before).map_err(|what| (offset.digits.start, what))? {
+        return Ok(None);
     }
-    if !follows {
-        judge(line, offset, before).map_err(|what| (at, what))?;
-    }
-    let bytes = bytes_of(line, groups);
     let start = match before {
         Some(dump) => dump.next,
         None => offset.value(line, 16).unwrap_or(0),
     };
-    let next = start + bytes.len();
+    let next = start.saturating_add(bytes.len());
     Ok(Some((bytes, Dump { next })))
 }
 
-/// Whether digits that no line before leads to are an offset; else why not.
-fn judge(line: &[u8], offset: &Offset, before: Option<&Dump>) -> Result<(), String> {
+/// The bytes behind an offset, in pairs; none where the line is no dump's. Pairs of pairs are read
+/// behind a colon, and other groups refused where they can be nothing but a dump's.
+fn behind(line: &[u8], offset: &Offset, in_dump: bool) -> Result<Option<Vec<u8>>, Wrong> {
+    let all = groups(line, offset.end);
+    let Some(count) = text_column(line, &all).or_else(|| whole(line, offset.end, &all)) else {
+        return match offset.is_certain() || offset.looks_so {
+            true => plain(line, offset.end).map(Some),
+            false => Ok(None),
+        };
+    };
+    let groups = &all[..count];
+    let longest = if offset.colon { 4 } else { 2 };
+    if groups.iter().all(|g| g.len() <= longest && g.len() % 2 == 0) {
+        return Ok(Some(bytes_of(line, groups)));
+    }
+    if !offset.is_certain() && !in_dump {
+        return Ok(None);
+    }
+    let what =
+        "a dump in words, whose bytes may be swapped: make it with xxd -g 1, hexdump -C or od -t x1";
+    Err((offset.digits.start, what.into()))
+}
+
+/// Whether digits that no line before leads to are an offset; refused where they could be bytes too.
+fn judge(line: &[u8], offset: &Offset, before: Option<&Dump>) -> Result<bool, String> {
     let text = offset.text(line);
+    let is_zero = offset.is(line, 0);
     match before {
         Some(dump) => {
             Err(format!("the dump has offset {text} here, and {:x} (hex) should follow", dump.next))
         }
-        None if offset.is_certain() || offset.is(line, 0) => Ok(()),
+        None if offset.is_certain() || offset.looks_so && is_zero => Ok(true),
+        None if !offset.looks_so && !is_zero => Ok(false),
         None => Err(format!(
             "is {text} an offset or bytes? Write '{text}:' for an offset, or bytes in pairs"
         )),
     }
 }
 
-/// Groups of hex digits, blanks between them.
+/// Groups of hex digits, with what can stand between bytes between them.
 fn groups(line: &[u8], from: usize) -> Vec<Range<usize>> {
     let mut all = Vec::new();
     let mut at = from;
     loop {
-        at += blanks(&line[at..]);
+        at += line[at..].iter().take_while(|b| is_between(**b)).count();
         let len = line[at..].iter().take_while(|b| b.is_ascii_hexdigit()).count();
-        let ends = line.get(at + len).is_none_or(u8::is_ascii_whitespace);
+        let ends = line.get(at + len).is_none_or(|b| is_between(*b));
         if len == 0 || !ends {
             return all;
         }
@@ -264,6 +280,9 @@ mod tests {
             "0000  12 03 00 00 0a",
             "\t0x0000:  1203 0000 0a                            .....",
             "0000  12 03 00\n0003  00 0a",
+            "0010: 12:03:00\n0013: 00:0a",
+            "0000  12:03:00:00:0a",
+            "0000: 0x12, 0x03, 0x00, 0x00, 0x0a",
         ] {
             assert_eq!(read(text).as_deref(), Ok(&M[..]), "{text}");
         }
@@ -290,11 +309,15 @@ mod tests {
     fn what_could_be_two_things_is_refused() {
         for (text, word) in [
             ("0050  12 03 00", "offset or bytes"),
+            ("000050 12 03 00", "offset or bytes"),
+            ("0000 12 03 00", "offset or bytes"),
             ("0000000 0312 0000 000a", "swapped"),
             ("00000000: 00000312 0000000a", "swapped"),
             ("0000  12 03\n0040  00 00", "should follow"),
             ("0000  12 03\n00 00", "has none"),
             ("00000000  00 00\n*\n00000010", "repeat"),
+            ("0050  0x12 0x03", "offset or bytes"),
+            ("ffffffffffffffff: 12\n0000  03", "should follow"),
             ("12 0", "half a byte"),
             ("12 0G", "no hex digit: here stands 'G'"),
             ("12 .", "no hex digit"),
@@ -309,5 +332,7 @@ mod tests {
         assert_eq!(read("1E61 0003 000000").unwrap().len(), 7);
         assert_eq!(read("0462 0018 04000000").unwrap().len(), 8);
         assert_eq!(read("00000000").unwrap().len(), 4);
+        assert_eq!(read("1203 00 00 0A").unwrap().len(), 5);
+        assert_eq!(read("12030000 0A").unwrap().len(), 5);
     }
 }

@@ -62,7 +62,8 @@ fn unwritten(error: &io::Error) -> ExitCode {
     if error.kind() == io::ErrorKind::BrokenPipe {
         return ExitCode::SUCCESS;
     }
-    wrong(&format!("cannot write: {error}"))
+    let _ = writeln!(io::stderr(), "inspect: cannot write: {error}");
+    ExitCode::from(2)
 }
 
 fn wrong(what: &str) -> ExitCode {
