@@ -33,15 +33,15 @@ impl Fates<'_> {
         match &element.body {
             Body::Advertisement(found) => self.advertisement(found),
             Body::Attribute(kind) => self.top_attribute(element, kind),
-            Body::Identifier(_) | Body::PassedOver(_) | Body::Unknown => self.unknown(element),
+            Body::Identifier | Body::PassedOver | Body::Unknown => self.unknown(element),
         }
     }
 
     /// What becomes of an element inside an advertisement.
     pub fn inner(&self, element: &Element, holder: &Element) -> Fate {
         match (&element.body, &holder.body) {
-            (Body::Identifier(_), _) => fate("identifier", ""),
-            (Body::PassedOver(_), _) => fate("unknown", "passed over inside an ASLA"),
+            (Body::Identifier, _) => fate("identifier", ""),
+            (Body::PassedOver, _) => fate("unknown", "passed over inside an ASLA"),
             (Body::Attribute(kind), Body::Advertisement(found)) => match self.facts {
                 Some(facts) => self.inner_attribute(element, kind, holder, found, facts),
                 None => fate("attribute", ""),
@@ -89,14 +89,15 @@ impl Fates<'_> {
 
     /// Of the applications that an advertisement names, those that another names with L.
     fn overruled(&self, named: &[Application]) -> String {
+        let mut left = named.to_vec();
         let mut text = String::new();
         for (_, other) in self.list.live().filter(|(_, a)| a.l_flag) {
-            let hit: Vec<Application> =
-                named.iter().filter(|a| other.names(**a)).copied().collect();
+            let (hit, rest): (Vec<Application>, Vec<Application>) =
+                left.into_iter().partition(|a| other.names(*a));
             if !hit.is_empty() {
-                text = format!("; but the L-flag at {} decides for {}", other.flags, who(&hit));
-                break;
+                text += &format!("; but the L-flag at {} decides for {}", other.flags, who(&hit));
             }
+            left = rest;
         }
         text
     }

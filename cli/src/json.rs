@@ -1,14 +1,14 @@
 //! A report as a JSON document in one line. docs/inspect.md lists the keys.
-use crate::elements::{self, Advertisement, Body, Element, List};
+use crate::elements::{Advertisement, Body, Element, List};
 use crate::fates::{Fate, Fates};
 use crate::input::{Entry, RunName};
 use crate::library::{Application, Fact, Place, Refusal, Rule, Why};
-use crate::listing;
 use crate::names;
 use crate::reasons;
 use crate::refusals;
 use crate::report::{Facts, Item, Report};
 use crate::values::{self, Value};
+use crate::walker;
 use std::fmt::{self, Write};
 
 /// A JSON value.
@@ -169,17 +169,17 @@ fn run(report: &Report, (name, bytes): (RunName, &[u8])) -> Json {
 fn elements(bytes: &[u8], list: &List, fates: &Fates) -> Json {
     let of = |e: &Element| {
         let inner = e.inner.elements.iter();
-        let inner = inner.map(|i| element(bytes, i, fates.inner(i, e), fates.run, Vec::new()));
-        element(bytes, e, fates.top(e), fates.run, inner.collect())
+        let inner = inner.map(|i| element(bytes, i, fates.inner(i, e), Vec::new()));
+        element(bytes, e, fates.top(e), inner.collect())
     };
     Json::List(list.elements.iter().map(of).collect())
 }
 
-fn element(bytes: &[u8], e: &Element, fate: Fate, run: RunName, inner: Vec<Json>) -> Json {
+fn element(bytes: &[u8], e: &Element, fate: Fate, inner: Vec<Json>) -> Json {
     let mut all = vec![
         ("offset", e.offset.into()),
         ("type", usize::from(e.number).into()),
-        ("name", listing::name(run, e).into()),
+        ("name", e.name.into()),
         ("length", e.value.len().into()),
         ("bytes", hex(&bytes[e.value.clone()]).into()),
     ];
@@ -189,11 +189,9 @@ fn element(bytes: &[u8], e: &Element, fate: Fate, run: RunName, inner: Vec<Json>
             all.push(("text", values::text(kind, &value).into()));
             all.push(("value", of_value(&value)));
         }
-        Body::Identifier(_) => {
-            all.push(("text", values::identifier(&bytes[e.value.clone()]).into()))
-        }
+        Body::Identifier => all.push(("text", values::identifier(&bytes[e.value.clone()]).into())),
         Body::Advertisement(found) => all.extend(advertisement(bytes, found)),
-        Body::PassedOver(_) | Body::Unknown => {}
+        Body::PassedOver | Body::Unknown => {}
     }
     all.push(("fate", fate.word.into()));
     all.push(("note", fate.text.replace('\u{A0}', " ").into()));
@@ -294,7 +292,7 @@ fn why(why: &Why) -> Json {
 }
 
 fn exported(bytes: &[u8]) -> Json {
-    let tlvs = elements::of_bgp_ls(bytes);
+    let tlvs = walker::of_bgp_ls(bytes);
     let fates = Fates { run: RunName::BgpLs, list: &tlvs, facts: None };
     Json::Object(vec![
         ("length", bytes.len().into()),

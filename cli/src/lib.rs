@@ -19,3 +19,4 @@ pub mod standin;
 pub mod table;
 pub mod text;
 pub mod values;
+pub mod walker;

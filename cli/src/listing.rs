@@ -3,7 +3,6 @@ use crate::elements::{Advertisement, Body, Element, List};
 use crate::fates::Fates;
 use crate::input::RunName;
 use crate::layout::{padded, unbroken, widest, wrap};
-use crate::names::{ASLA, ASLA_TLV, SRLG_TLV};
 use crate::report::Facts;
 use crate::values::{self, hex, numbers, words};
 use std::ops::Range;
@@ -87,7 +86,7 @@ impl Listing<'_> {
     fn row(&self, element: &Element, indent: &str, fate: String) -> Row {
         Row {
             offset: element.offset,
-            title: format!("{indent}{} {}", element.number, name(self.run, element)),
+            title: format!("{indent}{} {}", element.number, element.name),
             length: element.value.len(),
             value: self.value(element),
             fate,
@@ -99,9 +98,9 @@ impl Listing<'_> {
         match &element.body {
             Body::Attribute(kind) if kind.code == 1096 => numbers(&words(bytes), " "),
             Body::Attribute(kind) => unbroken(&values::text(kind, &values::of_bytes(kind, bytes))),
-            Body::Identifier(_) => values::identifier(bytes),
+            Body::Identifier => values::identifier(bytes),
             Body::Advertisement(found) => self.header(found, element),
-            Body::PassedOver(_) | Body::Unknown => hex(bytes),
+            Body::PassedOver | Body::Unknown => hex(bytes),
         }
     }
 
@@ -117,20 +116,6 @@ impl Listing<'_> {
 fn part(title: &str, range: Range<usize>, value: String, fate: &str) -> Row {
     let title = format!("  {title}");
     Row { offset: range.start, title, length: range.len(), value, fate: fate.into() }
-}
-
-/// What an element is called.
-pub fn name(run: RunName, element: &Element) -> &'static str {
-    match &element.body {
-        Body::Attribute(kind) => kind.name,
-        Body::Identifier(known) => known.name,
-        Body::PassedOver(name) => name,
-        Body::Advertisement(_) | Body::Unknown => match (run, element.number) {
-            (RunName::A, ASLA) | (RunName::BgpLs, ASLA_TLV) => "ASLA",
-            (RunName::B, SRLG_TLV) => "app-specific SRLG",
-            _ => "unknown",
-        },
-    }
 }
 
 /// The legacy SRLG values of run C.

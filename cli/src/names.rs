@@ -22,45 +22,94 @@ pub enum Form {
     Srlgs,
 }
 
+/// How long a value may be.
+#[derive(Clone, Copy, Debug, PartialEq, Eq)]
+pub enum Length {
+    Is(usize),
+    /// A multiple of 4, from the first to the second.
+    Words(usize, usize),
+    /// There is no such element.
+    None,
+}
+
+impl Length {
+    /// What a length that is not allowed must be.
+    pub fn must_be(self, length: usize) -> Option<String> {
+        match self {
+            Length::Is(right) if length != right => Some(right.to_string()),
+            Length::Words(least, most)
+                if !length.is_multiple_of(4) || !(least..=most).contains(&length) =>
+            {
+                Some(match (least, most) {
+                    (0, usize::MAX) => "a multiple of 4".into(),
+                    (_, usize::MAX) => "a multiple of 4, and not 0".into(),
+                    _ => format!("a multiple of 4 from {least} to {most}"),
+                })
+            }
+            _ => None,
+        }
+    }
+}
+
 /// One of the fourteen kinds.
 #[derive(Debug, PartialEq, Eq)]
 pub struct Kind {
     /// Its BGP-LS code.
     pub code: u16,
-    /// Its IS-IS type; none for SRLGs, which have TLVs of their own.
+    /// Its IS-IS type, and how long it is there; SRLGs have TLVs of their own.
     pub isis: Option<u8>,
+    pub isis_length: Length,
+    /// How long it is in BGP-LS.
+    pub length: Length,
     pub name: &'static str,
     /// A name of at most nine characters, for the table.
     pub short: &'static str,
     pub form: Form,
 }
 
+/// A kind with the same length in IS-IS and in BGP-LS.
 const fn kind(
     code: u16,
-    isis: Option<u8>,
+    isis: u8,
+    length: usize,
     name: &'static str,
     short: &'static str,
     form: Form,
 ) -> Kind {
-    Kind { code, isis, name, short, form }
+    let length = Length::Is(length);
+    Kind { code, isis: Some(isis), isis_length: length, length, name, short, form }
 }
+
+const NO_LIMIT: usize = usize::MAX;
 
 /// The fourteen kinds, by their codes.
 pub static KINDS: [Kind; 14] = [
-    kind(1088, Some(3), "administrative group", "grp bits", Form::Bits),
-    kind(1089, Some(9), "maximum bandwidth", "maximum", Form::Bandwidth),
-    kind(1090, Some(10), "reservable bandwidth", "reservable", Form::Bandwidth),
-    kind(1091, Some(11), "unreserved bandwidth", "unreserved", Form::Bandwidths),
-    kind(1092, Some(18), "TE metric", "TE metric", Form::Number),
-    kind(1096, None, "SRLG", "SRLG", Form::Srlgs),
-    kind(1114, Some(33), "delay", "delay", Form::Delay),
-    kind(1115, Some(34), "min/max delay", "min/max", Form::Delays),
-    kind(1116, Some(35), "delay variation", "variation", Form::Delay),
-    kind(1117, Some(36), "loss", "loss", Form::Loss),
-    kind(1118, Some(37), "residual bandwidth", "residual", Form::Bandwidth),
-    kind(1119, Some(38), "available bandwidth", "available", Form::Bandwidth),
-    kind(1120, Some(39), "utilised bandwidth", "utilised", Form::Bandwidth),
-    kind(1173, Some(14), "extended group", "ext bits", Form::Bits),
+    kind(1088, 3, 4, "administrative group", "grp bits", Form::Bits),
+    kind(1089, 9, 4, "maximum bandwidth", "maximum", Form::Bandwidth),
+    kind(1090, 10, 4, "reservable bandwidth", "reservable", Form::Bandwidth),
+    kind(1091, 11, 32, "unreserved bandwidth", "unreserved", Form::Bandwidths),
+    Kind {
+        isis_length: Length::Is(3),
+        ..kind(1092, 18, 4, "TE metric", "TE metric", Form::Number)
+    },
+    Kind {
+        isis: None,
+        isis_length: Length::None,
+        length: Length::Words(0, NO_LIMIT),
+        ..kind(1096, 0, 0, "SRLG", "SRLG", Form::Srlgs)
+    },
+    kind(1114, 33, 4, "delay", "delay", Form::Delay),
+    kind(1115, 34, 8, "min/max delay", "min/max", Form::Delays),
+    kind(1116, 35, 4, "delay variation", "variation", Form::Delay),
+    kind(1117, 36, 4, "loss", "loss", Form::Loss),
+    kind(1118, 37, 4, "residual bandwidth", "residual", Form::Bandwidth),
+    kind(1119, 38, 4, "available bandwidth", "available", Form::Bandwidth),
+    kind(1120, 39, 4, "utilised bandwidth", "utilised", Form::Bandwidth),
+    Kind {
+        isis_length: Length::Words(4, 252),
+        length: Length::Words(4, NO_LIMIT),
+        ..kind(1173, 14, 4, "extended group", "ext bits", Form::Bits)
+    },
 ];
 
 /// The code of a BGP-LS ASLA TLV.
@@ -89,12 +138,12 @@ impl Kind {
 #[derive(Debug, PartialEq, Eq)]
 pub struct Identifier {
     pub number: u16,
-    pub length: usize,
+    pub length: Length,
     pub name: &'static str,
 }
 
 const fn identifier(number: u16, length: usize, name: &'static str) -> Identifier {
-    Identifier { number, length, name }
+    Identifier { number, length: Length::Is(length), name }
 }
 
 /// The identifiers that are known.

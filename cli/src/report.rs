@@ -1,9 +1,10 @@
 //! All that is known of a link or a BGP-LS run, gathered once for whatever shows it.
-use crate::elements::{self, List};
+use crate::elements::List;
 use crate::input::{Entry, RunName};
 use crate::library::{Application, Fact, Refusal, Source, Subject};
 use crate::names::{Kind, KINDS, RSVP_TE};
 use crate::refusals;
+use crate::walker;
 use nakhshirul::{BgpLs, Link};
 
 /// A link or a BGP-LS run of a file.
@@ -128,10 +129,10 @@ fn lists(source: &Source) -> Vec<(RunName, List)> {
     let fits = |run: &[u8], most: usize| run.len() <= most;
     match source {
         Source::Link(l) if fits(l.a, 2048) && fits(l.b, 2048) => {
-            vec![(RunName::A, elements::of_a(l.a)), (RunName::B, elements::of_b(l.b))]
+            vec![(RunName::A, walker::of_a(l.a)), (RunName::B, walker::of_b(l.b))]
         }
         Source::BgpLs(r) if fits(r.run, 524_288) => {
-            vec![(RunName::BgpLs, elements::of_bgp_ls(r.run))]
+            vec![(RunName::BgpLs, walker::of_bgp_ls(r.run))]
         }
         _ => Vec::new(),
     }

@@ -1,7 +1,8 @@
 //! A stand-in for the library's `why` until it has one.
-use crate::elements::{self, Advertisement, Body, Element, List};
+use crate::elements::{Advertisement, Body, Element, List};
 use crate::input::RunName;
 use crate::library::{Application, Place, Rule, Source, Subject, Why};
+use crate::walker;
 
 fn holds(e: &Element, place: usize) -> bool {
     e.value.contains(&place)
@@ -13,9 +14,9 @@ fn carries_srlg(e: &Element, a: &Advertisement) -> bool {
 
 pub fn why(source: &Source, whom: Subject, code: u16, place: Option<usize>) -> Why {
     let (list, run) = match source {
-        Source::BgpLs(r) => (elements::of_bgp_ls(r.run), RunName::BgpLs),
-        Source::Link(l) if code == 1096 => (elements::of_b(l.b), RunName::B),
-        Source::Link(l) => (elements::of_a(l.a), RunName::A),
+        Source::BgpLs(r) => (walker::of_bgp_ls(r.run), RunName::BgpLs),
+        Source::Link(l) if code == 1096 => (walker::of_b(l.b), RunName::B),
+        Source::Link(l) => (walker::of_a(l.a), RunName::A),
     };
     let at = |rule, offset: Option<usize>| Why {
         rule,

@@ -1,5 +1,4 @@
 //! A report as text.
-use crate::elements;
 use crate::input::RunName;
 use crate::layout::{padded, unbroken, wrap};
 use crate::library::Refusal;
@@ -10,6 +9,7 @@ use crate::refusals;
 use crate::report::{Facts, Item, Report};
 use crate::table::Table;
 use crate::values;
+use crate::walker;
 use std::io::{self, Write};
 
 /// One line: sizes, the named applications and the length of the export, or the refusal.
@@ -153,7 +153,7 @@ fn hanging(out: &mut dyn Write, first: &str, others: &str, text: &str) -> io::Re
 }
 
 fn write_export(out: &mut dyn Write, bytes: &[u8]) -> io::Result<()> {
-    let list = elements::of_bgp_ls(bytes);
+    let list = walker::of_bgp_ls(bytes);
     let listing = Listing { run: RunName::BgpLs, bytes, list: &list, facts: None };
     writeln!(out, "  export: offset, type, length, value, for whom")?;
     lines(out, &listing.lines())
