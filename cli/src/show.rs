@@ -88,7 +88,10 @@ impl<'o> Show<'o> {
         if let (Some(capture), Mode::Pcap(name)) = (self.capture.take(), &self.mode) {
             let links = capture.links;
             match capture.finish() {
-                Ok(()) => writeln!(self.errors, "inspect: {name}: {links} updates")?,
+                Ok(()) => {
+                    let s = if links == 1 { "" } else { "s" };
+                    writeln!(self.errors, "inspect: {name}: {links} UPDATE{s}")?;
+                }
                 Err(e) => {
                     let told = format!("{name}: {}", reason(&e));
                     self.fault(&told)?;
