@@ -136,7 +136,7 @@ run-sound r = sound-then _ _ (sound-if _ 1 (omega arith) (omega arith)) (sound-f
 
 -- Refused by 1 to 7, in one of three runs.
 abbrev pub IsRefusal : List ℕ → Type 0
-IsRefusal w = (129 ≤ getD w 0 0) × (getD w 0 0 ≤ 135) × (getD w 1 0 ≤ 2)
+IsRefusal w = (129 ≤ getD w 0 0) × (getD w 0 0 ≤ 135) × (getD w 3 0 ≤ 2)
 
 refusal-told : (r : Refusal) → Known r → IsRefusal (refusalWords r)
 refusal-told r k = (omega arith, omega arith, k .2)

@@ -13,7 +13,7 @@ use Rattle.linkstate.specs.Bytes.{bytesAt}
 use Rattle.linkstate.specs.Replies.{Verdict, accepted, refused, refusedIf, _then_, unless, faultOfCall, fault, Reading, whole, pair, bandwidth, part, count, Reply, absent, found, askRefused}
 use Rattle.linkstate.specs.Attributes.{Attribute, ofKind}
 use Rattle.linkstate.specs.Questions.{Source, Subject, generally, standardNo, userNo, numberTooHigh, beforeAnswer, given, answer, ask, unwritten, value, bytesOfFirst}
-use Rattle.statuses.specs.Words.{nothing, whomOf, least, refusalWords, readingWords, replyWords, askWords, placeWords, valueWords}
+use Rattle.statuses.specs.Words.{nothing, two, placed, whomOf, least, refusalWords, readingWords, replyWords, askWords, placeWords, valueWords}
 
 -- ---- numbers above 63
 
@@ -108,22 +108,22 @@ status-3 (askRefused r) m h = absurd (omega arith)
 
 -- The bytes at the place that the value functions tell are those that `value` hands back; where they tell none, it hands back none.
 module _ (s : Source) (whom : Subject) (k : ℕ) where
-  of-first : (p n : ℕ) (ts : List Attribute) → placeWords ts ≡ 4 ∷ p ∷ n ∷ [] → bytesAt (s .bytes) p n ≡ bytesOfFirst (s .bytes) ts
+  of-first : (p n : ℕ) (ts : List Attribute) → placeWords (s .run) ts ≡ placed 4 p n (s .run) → bytesAt (s .bytes) p n ≡ bytesOfFirst (s .bytes) ts
   unfolding placeWords bytesOfFirst
   of-first p n [] e = absurd (let z : _≡_ {A = ℕ} 0 4 = cc in omega arith)
   of-first p n (t ∷ ts) e = let x : t .at ≡ p = cc in let y : t .len ≡ n = cc in rw (x, y)
 
-  pub value-stands : (p n : ℕ) → valueWords s whom k ≡ 4 ∷ p ∷ n ∷ [] → bytesAt (s .bytes) p n ≡ value s whom k
+  pub value-stands : (p n : ℕ) → valueWords s whom k ≡ placed 4 p n (s .run) → bytesAt (s .bytes) p n ≡ value s whom k
   unfolding valueWords value unless
   value-stands p n = go (beforeAnswer s whom k) (eqb k 1096)
     where
-      go : (v : Verdict) (b : Bool) → unless v (λ r. nothing) (cond b nothing (placeWords (ofKind k (given s whom k)))) ≡ 4 ∷ p ∷ n ∷ []
+      go : (v : Verdict) (b : Bool) → unless v (λ r. nothing) (cond b nothing (placeWords (s .run) (ofKind k (given s whom k)))) ≡ placed 4 p n (s .run)
           → bytesAt (s .bytes) p n ≡ unless v (λ r. []) (cond b [] (bytesOfFirst (s .bytes) (ofKind k (given s whom k))))
       go (refused r) b e = absurd (let z : _≡_ {A = ℕ} 0 4 = cc in omega arith)
       go accepted true e = absurd (let z : _≡_ {A = ℕ} 0 4 = cc in omega arith)
       go accepted false e = of-first p n (ofKind k (given s whom k)) e
 
-  of-none : (ts : List Attribute) → placeWords ts ≡ nothing → [] ≡ bytesOfFirst (s .bytes) ts
+  of-none : (ts : List Attribute) → placeWords (s .run) ts ≡ nothing → [] ≡ bytesOfFirst (s .bytes) ts
   unfolding placeWords bytesOfFirst
   of-none [] e = refl
   of-none (t ∷ ts) e = absurd (let z : _≡_ {A = ℕ} 0 4 = cc in omega arith)
@@ -132,7 +132,7 @@ module _ (s : Source) (whom : Subject) (k : ℕ) where
   unfolding valueWords value unless
   value-none = go (beforeAnswer s whom k) (eqb k 1096)
     where
-      go : (v : Verdict) (b : Bool) → unless v (λ r. nothing) (cond b nothing (placeWords (ofKind k (given s whom k)))) ≡ nothing
+      go : (v : Verdict) (b : Bool) → unless v (λ r. nothing) (cond b nothing (placeWords (s .run) (ofKind k (given s whom k)))) ≡ nothing
           → [] ≡ unless v (λ r. []) (cond b [] (bytesOfFirst (s .bytes) (ofKind k (given s whom k))))
       go (refused r) b e = refl
       go accepted true e = refl

@@ -1,11 +1,11 @@
-// Answers as a C program reads them: a status and two numbers. What each status says is `specs/Words.antt`.
+// Answers as a C program reads them: a status and four numbers. What each status says is `specs/Words.antt`.
 ghost use mathlib.Core.Path.{_≡_};
-ghost use mathlib.Core.List.{[], _∷_};
+ghost use mathlib.Core.List.{_∷_};
 ghost use Prim.Native.Nat.{_+_};
 ghost use lib.ListN.{length};
 ghost use Rattle.linkstate.specs.Bytes.{number};
 ghost use Rattle.replies.specs.Told.{toldRun, toldRefusal, toldReading, toldAnswer, toldNamed, toldWritten, subjectOf};
-ghost use Rattle.statuses.specs.Words.{words, nothing, whomOf, least, runNumber, refusalWords, readingWords, replyWords, namedWords, lengthWords};
+ghost use Rattle.statuses.specs.Words.{words, two, nothing, placed, whomOf, least, runNumber, refusalWords, readingWords, replyWords, namedWords, lengthWords};
 use replies::Answer;
 use replies::Named;
 use replies::Reading;
@@ -14,46 +14,26 @@ use replies::Run;
 use replies::Subject;
 use replies::Written;
 
-// A status with the two numbers of its reply.
+// A status with the four numbers of its reply.
 pub struct Words {
     pub status: u64,
-    pub first: u64,
-    pub second: u64,
+    pub reply: [u64; 4],
+}
+
+fn two_words(status: u64, first: u64, second: u64) -> Words
+    ensures { λ r. ⌜ words r ≡ two status first second ⌝ }
+{
+    Words {
+        status,
+        reply: [first, second, 0, 0],
+    }
 }
 
 // Absent.
 pub fn no_words() -> Words
     ensures { λ r. ⌜ words r ≡ nothing ⌝ }
 {
-    Words {
-        status: 0,
-        first: 0,
-        second: 0,
-    }
-}
-
-// A value by its place.
-pub fn place_words(place: usize, len: usize) -> Words
-    ensures { λ r. ⌜ words r ≡ 4 ∷ place ∷ len ∷ [] ⌝ }
-{
-    Words {
-        status: 4,
-        first: place as u64,
-        second: len as u64,
-    }
-}
-
-// A bandwidth, by the four bytes of its value.
-pub fn bits_words(v: &[u8]) -> Words
-    requires { ⌜ length (now v) ≡ 4 ⌝ }
-    ensures { λ r. ⌜ words r ≡ 3 ∷ number (now (v .entry)) ∷ 0 ∷ [] ⌝ }
-{
-    let bits = octets::read32(v, 0) as u64;
-    Words {
-        status: 3,
-        first: bits,
-        second: 0,
-    }
+    two_words(0, 0, 0)
 }
 
 fn run_number(run: Run) -> u64
@@ -63,8 +43,28 @@ fn run_number(run: Run) -> u64
         Run::A => 0,
         Run::B => 1,
         Run::BgpLs => 2,
-        Run::C => 3,
+        Run::C => 7,
     }
+}
+
+// A value by its place.
+pub fn place_words(run: Run, place: usize, len: usize) -> Words
+    ensures { λ r. ⌜ words r ≡ placed 4 place len (toldRun run) ⌝ }
+{
+    let of_run = run_number(run);
+    Words {
+        status: 4,
+        reply: [place as u64, len as u64, of_run, 0],
+    }
+}
+
+// A bandwidth, by the four bytes of its value.
+pub fn bits_words(v: &[u8]) -> Words
+    requires { ⌜ length (now v) ≡ 4 ⌝ }
+    ensures { λ r. ⌜ words r ≡ two 3 (number (now (v .entry))) 0 ⌝ }
+{
+    let bits = octets::read32(v, 0) as u64;
+    two_words(3, bits, 0)
 }
 
 fn refusal_status(number: u8) -> u64
@@ -83,8 +83,7 @@ pub fn refusal_words(x: Refusal) -> Words
     let of_run = run_number(run);
     Words {
         status,
-        first: of_run,
-        second: offset,
+        reply: [offset, 0, of_run, 0],
     }
 }
 
@@ -93,30 +92,15 @@ pub fn reading_words(x: Reading) -> Words
     ensures { λ r. ⌜ words r ≡ readingWords 0 (toldReading x) ⌝ }
 {
     match x {
-        Reading::Number(n) => Words {
-            status: 1,
-            first: n as u64,
-            second: 0,
-        },
-        Reading::Pair(m, n) => Words {
-            status: 2,
-            first: m as u64,
-            second: n as u64,
-        },
-        Reading::Bandwidth(_) => Words {
-            status: 3,
-            first: 0,
-            second: 0,
-        },
+        Reading::Number(n) => two_words(1, n as u64, 0),
+        Reading::Pair(m, n) => two_words(2, m as u64, n as u64),
+        Reading::Bandwidth(_) => two_words(3, 0, 0),
         Reading::Part { place, length } => {
+            let run = place.run;
             let offset = place.offset;
-            place_words(offset, length)
+            place_words(run, offset, length)
         }
-        Reading::Count(n) => Words {
-            status: 5,
-            first: n as u64,
-            second: 0,
-        },
+        Reading::Count(n) => two_words(5, n as u64, 0),
     }
 }
 
@@ -135,11 +119,7 @@ pub fn named_words(x: Named) -> Words
     ensures { λ r. ⌜ words r ≡ namedWords (toldNamed x) ⌝ }
 {
     match x {
-        Named::Listed { standard, user } => Words {
-            status: 6,
-            first: standard,
-            second: user,
-        },
+        Named::Listed { standard, user } => two_words(6, standard, user),
         Named::Refused(y) => refusal_words(y),
     }
 }
@@ -148,11 +128,7 @@ pub fn length_words(x: Written) -> Words
     ensures { λ r. ⌜ words r ≡ lengthWords (toldWritten x) ⌝ }
 {
     match x {
-        Written::Bytes(n) => Words {
-            status: 7,
-            first: n as u64,
-            second: 0,
-        },
+        Written::Bytes(n) => two_words(7, n as u64, 0),
         Written::Refused(y) => refusal_words(y),
     }
 }
@@ -179,11 +155,11 @@ pub fn subject(who: u8, number: u64) -> Subject
     }
 }
 
-// The two numbers of the reply are written, and the status is the result.
-pub fn hand_over(w: Words, reply: &mut [u64; 2]) -> u64
+// The four numbers of the reply are written, and the status is the result.
+pub fn hand_over(w: Words, reply: &mut [u64; 4]) -> u64
     ensures { λ r. ⌜ r ∷ now (reply .exit) ≡ words w ⌝ }
 {
-    let both = [w.first, w.second];
-    *reply = both;
+    let numbers = w.reply;
+    *reply = numbers;
     w.status
 }
