@@ -255,6 +255,37 @@ impl fmt::Display for Place {
     }
 }
 
+/// The rule that gave a subject its kind, or gave it none.
+#[derive(Clone, Copy, Debug, PartialEq, Eq, Hash)]
+pub enum Rule {
+    /// An advertisement with the L-flag names the application: legacy values.
+    LFlag = 0,
+    /// Advertisements name the application (RSVP-TE: and have the kind).
+    Named = 1,
+    /// The general set was asked for.
+    General = 2,
+    /// Nothing names the application: the general set.
+    Unnamed = 3,
+    /// Legacy values, without an L-flag: what RSVP-TE is given by no advertisement that names it, or
+    /// a bandwidth that no ASLA gives.
+    Legacy = 4,
+    /// An ASLA gives a bandwidth.
+    Carried = 5,
+    /// The top level of a BGP-LS run: a bandwidth, or RSVP-TE's kinds.
+    Top = 6,
+}
+
+/// Why a subject gets what it gets of a kind, be it absent.
+#[derive(Clone, Copy, Debug, PartialEq, Eq, Hash)]
+pub struct Why {
+    /// The rule.
+    pub rule: Rule,
+    /// The advertisement that decides by it, or holds the value; of SRLGs the first that counts.
+    pub advertisement: Option<Place>,
+    /// The run of the legacy values, where the rule is [`Rule::Legacy`].
+    pub legacy: Option<Run>,
+}
+
 /// Why a call was refused. After one nothing was written.
 #[derive(Clone, Copy, Debug, PartialEq, Eq, Hash)]
 #[non_exhaustive]
@@ -553,6 +584,33 @@ impl Reply {
         }
         let [standard, user, ..] = self.0;
         Ok(Applications { standard, user })
+    }
+
+    pub(crate) fn why(&self, status: u64) -> Result<Why, Refusal> {
+        if status != 16 {
+            return Err(self.refusal(status));
+        }
+        let [number, offset, ..] = self.0;
+        let rule = match number {
+            0 => Rule::LFlag,
+            1 => Rule::Named,
+            2 => Rule::General,
+            3 => Rule::Unnamed,
+            4 => Rule::Legacy,
+            5 => Rule::Carried,
+            6 => Rule::Top,
+            n => unreachable!("rule {n}"),
+        };
+        let told = offset != u64::MAX;
+        Ok(Why {
+            rule,
+            advertisement: told.then(|| Place {
+                run: self.run(),
+                offset: offset as usize,
+                fragment: self.fragment(),
+            }),
+            legacy: (rule == Rule::Legacy).then(|| self.run()),
+        })
     }
 
     pub(crate) fn written<'o>(&self, status: u64, out: &'o [u8]) -> Result<&'o [u8], Refusal> {

@@ -36,8 +36,8 @@ mod answers;
 mod ffi;
 
 pub use answers::{
-    Answer, Application, Applications, Bandwidth, Iter, Kind, Part, Place, Reading, Refusal, Run,
-    Subject,
+    Answer, Application, Applications, Bandwidth, Iter, Kind, Part, Place, Reading, Refusal, Rule,
+    Run, Subject, Why,
 };
 
 use answers::Reply;
@@ -181,6 +181,49 @@ impl<'a> Link<'a> {
         reply.part(status, self.a)
     }
 
+    /// By which rule the subject gets the kind, and which advertisement decides. Every question that
+    /// [`Link::ask`] answers has an answer here, found or absent.
+    ///
+    /// ```
+    /// use nakhshirul::{code, Link, Place, Rule, Run, Subject};
+    ///
+    /// let a = [
+    ///     0x12, 3, 0, 0, 10, // TE metric
+    ///     0x10, 3, 0x81, 0, 0x40, // ASLA with the L-flag that names SR Policy
+    ///     0x10, 7, 0, 0, 0x12, 3, 0, 0, 30, // ASLA that names nobody
+    /// ];
+    /// let link = Link { a: &a, b: &[], c: &[] };
+    /// let why = link.why(Subject::Standard(1), code::TE_METRIC).unwrap();
+    /// assert_eq!(why.rule, Rule::LFlag);
+    /// assert_eq!(why.advertisement, Some(Place { run: Run::A, offset: 5, fragment: 0 }));
+    ///
+    /// let why = link.why(Subject::Standard(2), code::TE_METRIC).unwrap();
+    /// assert_eq!((why.rule, why.advertisement.unwrap().offset), (Rule::Unnamed, 10));
+    ///
+    /// // RSVP-TE is named nowhere: its SRLGs are those of run C, be there some or none.
+    /// let why = link.why(Subject::Standard(0), code::SRLG).unwrap();
+    /// assert_eq!((why.rule, why.advertisement, why.legacy), (Rule::Legacy, None, Some(Run::C)));
+    /// ```
+    pub fn why(&self, whom: Subject, code: u16) -> Result<Why, Refusal> {
+        let mut reply = Reply::new();
+        // SAFETY: as in `ask`.
+        let status = unsafe {
+            ffi::nakhshirul_why(
+                self.a.as_ptr(),
+                self.a.len(),
+                self.b.as_ptr(),
+                self.b.len(),
+                self.c.as_ptr(),
+                self.c.len(),
+                whom.who(),
+                whom.number(),
+                code,
+                reply.as_mut_ptr(),
+            )
+        };
+        reply.why(status)
+    }
+
     /// The applications other than RSVP-TE that the link names.
     ///
     /// ```
@@ -322,6 +365,33 @@ impl<'a> BgpLs<'a> {
             )
         };
         reply.part(status, self.run)
+    }
+
+    /// By which rule the subject gets the kind, as [`Link::why`].
+    ///
+    /// ```
+    /// use nakhshirul::{code, BgpLs, Rule, Subject};
+    ///
+    /// // An ASLA TLV that names nobody, with a TE metric of 30.
+    /// let run = BgpLs { run: &[0x04, 0x62, 0, 12, 0, 0, 0, 0, 0x04, 0x44, 0, 4, 0, 0, 0, 30] };
+    /// let why = run.why(Subject::User(5), code::TE_METRIC).unwrap();
+    /// assert_eq!((why.rule, why.advertisement.unwrap().offset), (Rule::Unnamed, 0));
+    /// assert_eq!(run.why(Subject::Standard(0), code::TE_METRIC).unwrap().rule, Rule::Top);
+    /// ```
+    pub fn why(&self, whom: Subject, code: u16) -> Result<Why, Refusal> {
+        let mut reply = Reply::new();
+        // SAFETY: as in `Link::ask`.
+        let status = unsafe {
+            ffi::nakhshirul_run_why(
+                self.run.as_ptr(),
+                self.run.len(),
+                whom.who(),
+                whom.number(),
+                code,
+                reply.as_mut_ptr(),
+            )
+        };
+        reply.why(status)
     }
 
     /// The applications other than RSVP-TE that the run names.
