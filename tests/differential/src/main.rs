@@ -85,10 +85,10 @@ extern "C" {
 struct Linked;
 
 impl Library for Linked {
-    fn call(&self, runs: &[&[u8]], request: &Request, lent: &Lent) -> u64 {
+    fn call(&self, runs: &[Run], request: &Request, lent: &Lent) -> u64 {
         // The runs are whole, and `lent` has the room that the request says.
         unsafe {
-            match runs {
+            match *runs {
                 [a, b, c] => call_link(a, b, c, request, lent),
                 [run] => call_run(run, request, lent),
                 _ => panic!("a call has three runs or one"),
@@ -97,10 +97,11 @@ impl Library for Linked {
     }
 }
 
-unsafe fn call_link(a: &[u8], b: &[u8], c: &[u8], request: &Request, lent: &Lent) -> u64 {
-    let (a, a_len) = (a.as_ptr(), a.len());
-    let (b, b_len) = (b.as_ptr(), b.len());
-    let (c, c_len) = (c.as_ptr(), c.len());
+/// A pointer with its length.
+type Run = (*const u8, usize);
+
+unsafe fn call_link(a: Run, b: Run, c: Run, request: &Request, lent: &Lent) -> u64 {
+    let ((a, a_len), (b, b_len), (c, c_len)) = (a, b, c);
     let reply = lent.reply;
     match *request {
         Request::Ask { who, number, code, room } => {
@@ -116,8 +117,7 @@ unsafe fn call_link(a: &[u8], b: &[u8], c: &[u8], request: &Request, lent: &Lent
     }
 }
 
-unsafe fn call_run(run: &[u8], request: &Request, lent: &Lent) -> u64 {
-    let (run, run_len) = (run.as_ptr(), run.len());
+unsafe fn call_run((run, run_len): Run, request: &Request, lent: &Lent) -> u64 {
     match *request {
         Request::Ask { who, number, code, room } => {
             nakhshirul_run_ask(run, run_len, who, number, code, lent.list, room, lent.reply)
