@@ -12,6 +12,7 @@ use lib.Seq.{take-length}
 use Rattle.linkstate.specs.Bytes.{bytesAt}
 use Rattle.linkstate.specs.Replies.{Verdict, accepted, refused, refusedIf, _then_, unless, faultOfCall, fault, Reading, whole, pair, bandwidth, part, count, Reply, absent, found, askRefused}
 use Rattle.linkstate.specs.Attributes.{Attribute, ofKind}
+use Rattle.linkstate.specs.Why.{Why, unlessAskRefused}
 use Rattle.linkstate.specs.Questions.{Source, Subject, generally, standardNo, userNo, numberTooHigh, beforeAnswer, given, answer, ask, unwritten, value, bytesOfFirst}
 use Rattle.statuses.specs.Words.{nothing, two, placed, whomOf, least, refusalWords, readingWords, replyWords, askWords, placeWords, valueWords}
 
@@ -38,6 +39,10 @@ module _ (s : Source) (k : ℕ) (v w : Subject) (hv : numberTooHigh v ≡ true) 
   place-high : valueWords s v k ≡ valueWords s w k
   unfolding valueWords unless fault
   place-high = rw (← before-high, refused-high)
+
+  why-high : (x y : Why) → unlessAskRefused s v k x ≡ unlessAskRefused s w k y
+  unfolding unlessAskRefused unless fault
+  why-high x y = rw (← before-high, refused-high)
 
 -- ---- whom a call asks about
 
@@ -70,6 +75,9 @@ module _ (s : Source) (k : ℕ) where
   pub ask-words-low : (list : List ℕ) (who n : ℕ) → askWords s (whomOf who (least n)) k list ≡ askWords s (whomOf who n) k list
   unfolding askWords
   ask-words-low list who n = rw (asked-low list who n, value-low who n)
+
+  pub why-low : (f : Subject → Why) (who n : ℕ) → unlessAskRefused s (whomOf who (least n)) k (f (whomOf who (least n))) ≡ unlessAskRefused s (whomOf who n) k (f (whomOf who n))
+  why-low f = low (λ v. unlessAskRefused s v k (f v)) (λ v w hv hw. why-high s k v w hv hw (f v) (f w))
 
   pub value-words-low : (who n : ℕ) → valueWords s (whomOf who (least n)) k ≡ valueWords s (whomOf who n) k
   value-words-low = low (λ v. valueWords s v k) (λ v w hv hw. place-high s k v w hv hw)

@@ -6,6 +6,7 @@ use lib.Dec.{eqb, ltb}
 use Rattle.linkstate.specs.Bytes.{number}
 use Rattle.linkstate.specs.Replies.{Run, runA, runB, runC, runBgpLs, Refusal, unless, Reading, whole, pair, bandwidth, part, count, Reply, absent, found, askRefused, Named, listed, namedRefused, Length, bytes, exportRefused}
 use Rattle.linkstate.specs.Attributes.{Attribute, ofKind}
+use Rattle.linkstate.specs.Why.{ruleNumber, Holder, heldAt, legacyIn, nowhere, Why, because, whyRefused}
 use Rattle.linkstate.specs.Questions.{Source, Subject, generally, standardNo, userNo, given, beforeAnswer, ask, value}
 use Rattle.statuses.specs.declared.Words.{Words}
 
@@ -75,3 +76,13 @@ namedWords (namedRefused r) = refusalWords r
 abbrev pub lengthWords : Length → List ℕ
 lengthWords (bytes n) = two 7 n 0
 lengthWords (exportRefused r) = refusalWords r
+
+-- Why a subject gets its kind: the rule, the offset of the advertisement, all ones where none is told, and its run; of legacy values theirs.
+abbrev pub heldNumbers : Holder → List ℕ
+heldNumbers (heldAt p) = p .offset ∷ runNumber (p .run) ∷ 0 ∷ []
+heldNumbers (legacyIn run) = 18446744073709551615 ∷ runNumber run ∷ 0 ∷ []
+heldNumbers nowhere = 18446744073709551615 ∷ 0 ∷ 0 ∷ []
+
+abbrev pub whyWords : Why → List ℕ
+whyWords (because rule holder) = 16 ∷ ruleNumber rule ∷ heldNumbers holder
+whyWords (whyRefused r) = refusalWords r

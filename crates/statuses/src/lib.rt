@@ -4,14 +4,18 @@ ghost use mathlib.Core.List.{_∷_};
 ghost use Prim.Native.Nat.{_+_};
 ghost use lib.ListN.{length};
 ghost use Rattle.linkstate.specs.Bytes.{number};
-ghost use Rattle.replies.specs.Told.{toldRun, toldRefusal, toldReading, toldAnswer, toldNamed, toldWritten, subjectOf};
-ghost use Rattle.statuses.specs.Words.{words, two, nothing, placed, whomOf, least, runNumber, refusalWords, readingWords, replyWords, namedWords, lengthWords};
+ghost use Rattle.linkstate.specs.Why.{ruleNumber};
+ghost use Rattle.replies.specs.Told.{toldRun, toldRefusal, toldReading, toldAnswer, toldNamed, toldWritten, toldRule, toldHolder, toldWhy, subjectOf};
+ghost use Rattle.statuses.specs.Words.{words, two, nothing, placed, whomOf, least, runNumber, refusalWords, readingWords, replyWords, namedWords, lengthWords, heldNumbers, whyWords};
 use replies::Answer;
+use replies::Holder;
 use replies::Named;
 use replies::Reading;
 use replies::Refusal;
+use replies::Rule;
 use replies::Run;
 use replies::Subject;
+use replies::Why;
 use replies::Written;
 
 // A status with the four numbers of its reply.
@@ -130,6 +134,59 @@ pub fn length_words(x: Written) -> Words
     match x {
         Written::Bytes(n) => two_words(7, n as u64, 0),
         Written::Refused(y) => refusal_words(y),
+    }
+}
+
+fn rule_number(rule: Rule) -> u64
+    ensures { λ r. ⌜ r ≡ ruleNumber (toldRule rule) ⌝ }
+{
+    match rule {
+        Rule::ByL => 0,
+        Rule::Named => 1,
+        Rule::General => 2,
+        Rule::Unnamed => 3,
+        Rule::Legacy => 4,
+        Rule::Carried => 5,
+        Rule::Top => 6,
+    }
+}
+
+fn because_words(rule: u64, holder: Holder) -> Words
+    ensures { λ r. ⌜ words r ≡ 16 ∷ rule ∷ heldNumbers (toldHolder holder) ⌝ }
+{
+    match holder {
+        Holder::At(place) => {
+            let run = place.run;
+            let offset = place.offset as u64;
+            let of_run = run_number(run);
+            Words {
+                status: 16,
+                reply: [rule, offset, of_run, 0],
+            }
+        }
+        Holder::Legacy(run) => {
+            let of_run = run_number(run);
+            Words {
+                status: 16,
+                reply: [rule, 18446744073709551615, of_run, 0],
+            }
+        }
+        Holder::Nowhere => Words {
+            status: 16,
+            reply: [rule, 18446744073709551615, 0, 0],
+        },
+    }
+}
+
+pub fn why_words(x: Why) -> Words
+    ensures { λ r. ⌜ words r ≡ whyWords (toldWhy x) ⌝ }
+{
+    match x {
+        Why::Because { rule, holder } => {
+            let number = rule_number(rule);
+            because_words(number, holder)
+        }
+        Why::Refused(y) => refusal_words(y),
     }
 }
 
