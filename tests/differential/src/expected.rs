@@ -3,6 +3,7 @@
 use crate::calls::{Request, Subject};
 use crate::reference::application::{Application, Asker};
 use crate::reference::reply::{Answer, Fault, Reading, Refusal, Run};
+use crate::reference::why::{self, Why};
 use crate::reference::{bgp_ls, export, link};
 
 /// The status, the reply, and what is written to the front of the lent list and buffer.
@@ -39,6 +40,15 @@ pub fn expected(subject: &Subject, request: &Request) -> Outcome {
                 Some((offset, length)) => place(subject, offset, length),
             }
         }
+        Request::Why { who, number, code } => {
+            let Some(asker) = asker(who, number) else {
+                return refused(Refusal::of_request(Fault::ApplicationAbove63));
+            };
+            reasoned(match subject {
+                Subject::Link(link) => why::of_link(link, asker, code),
+                Subject::Run(run) => why::of_run(run, asker, code),
+            })
+        }
         Request::Named => match subject {
             Subject::Link(link) => named(link::named(link)),
             Subject::Run(run) => named(bgp_ls::named(run)),
@@ -73,6 +83,7 @@ fn run_number(run: Run) -> u64 {
         Run::A => 0,
         Run::B => 1,
         Run::BgpLs => 2,
+        Run::C => 7,
     }
 }
 
@@ -104,6 +115,21 @@ fn answered(subject: &Subject, answer: Result<Answer, Refusal>) -> Outcome {
             Outcome { list: list.clone(), ..status(5, list.len() as u64, 0) }
         }
     }
+}
+
+/// The rule, the offset of the advertisement or all ones, and its run; of legacy values theirs.
+fn reasoned(why: Result<Why, Refusal>) -> Outcome {
+    let why = match why {
+        Err(refusal) => return refused(refusal),
+        Ok(why) => why,
+    };
+    let (offset, run) = match (why.advertisement, why.legacy) {
+        (Some((run, offset)), _) => (offset as u64, run_number(run)),
+        (None, Some(run)) => (u64::MAX, run_number(run)),
+        (None, None) => (u64::MAX, 0),
+    };
+    let reply = [u64::from(why.rule), offset, run, 0];
+    Outcome { status: 16, reply, ..Outcome::default() }
 }
 
 fn named(named: Result<Vec<Application>, Refusal>) -> Outcome {

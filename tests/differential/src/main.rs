@@ -79,6 +79,26 @@ extern "C" {
         reply: *mut u64,
     ) -> u64;
     fn nakhshirul_run_named(run: *const u8, run_len: usize, reply: *mut u64) -> u64;
+    fn nakhshirul_why(
+        a: *const u8,
+        a_len: usize,
+        b: *const u8,
+        b_len: usize,
+        c: *const u8,
+        c_len: usize,
+        who: u8,
+        number: u64,
+        code: u16,
+        reply: *mut u64,
+    ) -> u64;
+    fn nakhshirul_run_why(
+        run: *const u8,
+        run_len: usize,
+        who: u8,
+        number: u64,
+        code: u16,
+        reply: *mut u64,
+    ) -> u64;
 }
 
 /// The library that the program is linked with.
@@ -110,6 +130,9 @@ unsafe fn call_link(a: Run, b: Run, c: Run, request: &Request, lent: &Lent) -> u
         Request::Value { who, number, code } => {
             nakhshirul_value(a, a_len, b, b_len, c, c_len, who, number, code, reply)
         }
+        Request::Why { who, number, code } => {
+            nakhshirul_why(a, a_len, b, b_len, c, c_len, who, number, code, reply)
+        }
         Request::Named => nakhshirul_named(a, a_len, b, b_len, c, c_len, reply),
         Request::Export { room } => {
             nakhshirul_export(a, a_len, b, b_len, c, c_len, lent.out, room, reply)
@@ -124,6 +147,9 @@ unsafe fn call_run((run, run_len): Run, request: &Request, lent: &Lent) -> u64 {
         }
         Request::Value { who, number, code } => {
             nakhshirul_run_value(run, run_len, who, number, code, lent.reply)
+        }
+        Request::Why { who, number, code } => {
+            nakhshirul_run_why(run, run_len, who, number, code, lent.reply)
         }
         Request::Named => nakhshirul_run_named(run, run_len, lent.reply),
         Request::Export { .. } => panic!("a run is not exported"),

@@ -64,7 +64,7 @@ fn the_reference_agrees_with_itself() {
 
 #[test]
 fn a_wrong_answer_is_found() {
-    let slips: [fn(&Request, &mut Outcome); 9] = [
+    let slips: [fn(&Request, &mut Outcome); 11] = [
         |_, outcome| outcome.status += u64::from(outcome.status == 135),
         |_, outcome| outcome.reply[1] += u64::from(outcome.status == 1),
         |_, outcome| outcome.reply[0] |= u64::from(outcome.status == 6),
@@ -72,6 +72,8 @@ fn a_wrong_answer_is_found() {
         |_, outcome| outcome.reply[2] ^= u64::from(outcome.status == 131),
         |_, outcome| outcome.reply[2] ^= 2 * u64::from(outcome.status == 4),
         |_, outcome| outcome.reply[3] |= u64::from(outcome.status == 0),
+        |_, outcome| outcome.reply[0] ^= u64::from(outcome.status == 16 && outcome.reply[0] > 1),
+        |_, outcome| outcome.reply[2] &= !(7 * u64::from(outcome.reply == [4, u64::MAX, 7, 0])),
         |_, outcome| {
             if let Some(last) = outcome.list.last_mut() {
                 *last ^= 1;
