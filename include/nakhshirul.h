@@ -61,6 +61,10 @@ extern "C" {
  *   NAMED      [0] the standard applications, [1] the user-defined ones:
  *              application n as 2 to the n, RSVP-TE left out
  *   WRITTEN    [0] the number of bytes written to the front of out
+ *   WHY        [0] the rule, [1] the offset of the first byte (the type) of
+ *              the advertisement that decides by it or holds the value,
+ *              NAKHSHIRUL_NOWHERE where none is told, [2] its run, [3] the
+ *              fragment
  *   REFUSED    and above: refused, by number (status - NAKHSHIRUL_REFUSED);
  *              [0] the offset of the first byte of the innermost faulty
  *              element, [2] the run it stands in, [3] the fragment
@@ -75,6 +79,7 @@ extern "C" {
 #define NAKHSHIRUL_SRLGS 5
 #define NAKHSHIRUL_NAMED 6
 #define NAKHSHIRUL_WRITTEN 7
+#define NAKHSHIRUL_WHY 16
 #define NAKHSHIRUL_REFUSED 128
 
 /*
@@ -101,10 +106,43 @@ extern "C" {
 #define NAKHSHIRUL_NO_APPLICATION 6
 #define NAKHSHIRUL_NO_KIND 7
 
-/* The run that a place or a refusal is in, in reply[2]. */
+/* The run that a place or a refusal is in, in reply[2]; run c for WHY alone. */
 #define NAKHSHIRUL_RUN_A 0
 #define NAKHSHIRUL_RUN_B 1
 #define NAKHSHIRUL_RUN_BGPLS 2
+#define NAKHSHIRUL_RUN_C 7
+
+/*
+ * Rules of WHY, with the advertisement that is told. Attributes of run a and
+ * SRLGs of run b are judged each by themselves.
+ *
+ *   L_FLAG   an advertisement with the L-flag names the application, so that
+ *            legacy values count: the first such
+ *   NAMED    advertisements name it (and, for RSVP-TE, have the kind): the one
+ *            that holds the value; of SRLGs, which count together, and where
+ *            none has the kind, the first that names it
+ *   GENERAL  the general set was asked for: the one that holds the value, of
+ *            SRLGs the first general one; none where there is no value
+ *   UNNAMED  nothing names the application, so that the general set counts:
+ *            as for GENERAL
+ *   LEGACY   legacy values without an L-flag, be they there or not: RSVP-TE's
+ *            where no advertisement that names it has the kind, and a
+ *            bandwidth (1089 to 1091) that no ASLA gives. No advertisement;
+ *            reply[2] is the run of the legacy values, a or c
+ *   CARRIED  a bandwidth that an ASLA gives: that ASLA
+ *   TOP      a bandwidth, or what RSVP-TE gets, at the top level of a BGP-LS
+ *            run: no advertisement
+ */
+#define NAKHSHIRUL_RULE_L_FLAG 0
+#define NAKHSHIRUL_RULE_NAMED 1
+#define NAKHSHIRUL_RULE_GENERAL 2
+#define NAKHSHIRUL_RULE_UNNAMED 3
+#define NAKHSHIRUL_RULE_LEGACY 4
+#define NAKHSHIRUL_RULE_CARRIED 5
+#define NAKHSHIRUL_RULE_TOP 6
+
+/* The offset of no advertisement. */
+#define NAKHSHIRUL_NOWHERE UINT64_MAX
 
 /*
  * Whom a question is about (`who` and `number`): the general set, what every
@@ -153,17 +191,20 @@ extern "C" {
 /*
  * The bytes of stack that a call takes at most, as measured. nakhshirul_run_ask
  * takes NAKHSHIRUL_STACK_RUN_ASK only for code 1096 where more than 512 SRLGs
- * are found; for up to 512 it takes NAKHSHIRUL_STACK_RUN_ASK_512, and for any
- * other code as much as nakhshirul_run_value.
+ * are found, repeats counted; for up to 512 it takes
+ * NAKHSHIRUL_STACK_RUN_ASK_512, and for any other code no more than
+ * NAKHSHIRUL_STACK_RUN_VALUE.
  */
 #define NAKHSHIRUL_STACK_ASK 8192
 #define NAKHSHIRUL_STACK_VALUE 1024
 #define NAKHSHIRUL_STACK_NAMED 1024
 #define NAKHSHIRUL_STACK_EXPORT 76800
+#define NAKHSHIRUL_STACK_WHY 1024
 #define NAKHSHIRUL_STACK_RUN_ASK 1581056
 #define NAKHSHIRUL_STACK_RUN_ASK_512 10240
 #define NAKHSHIRUL_STACK_RUN_VALUE 1024
 #define NAKHSHIRUL_STACK_RUN_NAMED 1024
+#define NAKHSHIRUL_STACK_RUN_WHY 1024
 
 /*
  * One kind of one subject of a link: ABSENT to SRLGS, or refused. `list` is
@@ -186,6 +227,17 @@ uint64_t nakhshirul_value(const uint8_t *a, size_t a_len,
                           const uint8_t *c, size_t c_len,
                           uint8_t who, uint64_t number, uint16_t code,
                           uint64_t *reply);
+
+/*
+ * By which rule the subject of the same question gets the kind, or gets none,
+ * and which advertisement decides: WHY, or refused as nakhshirul_ask is, but
+ * never by NO_ROOM.
+ */
+uint64_t nakhshirul_why(const uint8_t *a, size_t a_len,
+                        const uint8_t *b, size_t b_len,
+                        const uint8_t *c, size_t c_len,
+                        uint8_t who, uint64_t number, uint16_t code,
+                        uint64_t *reply);
 
 /* The applications that a link names on either side: NAMED, or refused. */
 uint64_t nakhshirul_named(const uint8_t *a, size_t a_len,
@@ -210,6 +262,10 @@ uint64_t nakhshirul_run_ask(const uint8_t *run, size_t run_len,
 uint64_t nakhshirul_run_value(const uint8_t *run, size_t run_len,
                               uint8_t who, uint64_t number, uint16_t code,
                               uint64_t *reply);
+
+uint64_t nakhshirul_run_why(const uint8_t *run, size_t run_len,
+                            uint8_t who, uint64_t number, uint16_t code,
+                            uint64_t *reply);
 
 uint64_t nakhshirul_run_named(const uint8_t *run, size_t run_len,
                               uint64_t *reply);

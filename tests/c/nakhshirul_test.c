@@ -174,6 +174,16 @@ static struct answer run_value(struct run r, unsigned who, uint64_t number, unsi
     return take(nakhshirul_run_value(r.bytes, r.len, (uint8_t)who, number, (uint16_t)code, lend()));
 }
 
+static struct answer why(struct link l, unsigned who, uint64_t number, unsigned code)
+{
+    return take(nakhshirul_why(l.a.bytes, l.a.len, l.b.bytes, l.b.len, l.c.bytes, l.c.len, (uint8_t)who, number, (uint16_t)code, lend()));
+}
+
+static struct answer run_why(struct run r, unsigned who, uint64_t number, unsigned code)
+{
+    return take(nakhshirul_run_why(r.bytes, r.len, (uint8_t)who, number, (uint16_t)code, lend()));
+}
+
 static struct answer named(struct link l)
 {
     return take(nakhshirul_named(l.a.bytes, l.a.len, l.b.bytes, l.b.len, l.c.bytes, l.c.len, lend()));
@@ -438,6 +448,58 @@ static void runs(void)
     CHECK(refused(run_ask(run_of(zeros, 524289), GENERAL, 0, 1092), NAKHSHIRUL_TOO_LONG, NAKHSHIRUL_RUN_A, 0));
 }
 
+/* ---- why */
+
+static int by(struct answer r, unsigned rule, unsigned run, uint64_t offset)
+{
+    return is_whole(r, NAKHSHIRUL_WHY, rule, offset, run);
+}
+
+static int by_none(struct answer r, unsigned rule)
+{
+    return is_whole(r, NAKHSHIRUL_WHY, rule, NAKHSHIRUL_NOWHERE, 0);
+}
+
+static int by_legacy(struct answer r, unsigned run)
+{
+    return is_whole(r, NAKHSHIRUL_WHY, NAKHSHIRUL_RULE_LEGACY, NAKHSHIRUL_NOWHERE, run);
+}
+
+static void reasons(void)
+{
+    static const uint8_t carried[] = {M, 0x10, 0x08, 0x00, 0x00, 0x09, 0x04, 0x00, 0x00, 0x00, 0x01};
+    static const uint8_t cut[] = {M, 0x12};
+    struct run none = run_of(NULL, 0);
+    struct link l = only_a(RUN(mzg));
+    CHECK(by(why(l, STANDARD, 1, 1092), NAKHSHIRUL_RULE_L_FLAG, NAKHSHIRUL_RUN_A, 5));
+    CHECK(by(why(l, STANDARD, 1, 1114), NAKHSHIRUL_RULE_L_FLAG, NAKHSHIRUL_RUN_A, 5));
+    CHECK(by(why(l, STANDARD, 2, 1092), NAKHSHIRUL_RULE_UNNAMED, NAKHSHIRUL_RUN_A, 10));
+    CHECK(by_none(why(l, STANDARD, 2, 1114), NAKHSHIRUL_RULE_UNNAMED));
+    CHECK(by(why(l, GENERAL, 99, 1092), NAKHSHIRUL_RULE_GENERAL, NAKHSHIRUL_RUN_A, 10));
+    CHECK(by_none(why(l, GENERAL, 0, 1096), NAKHSHIRUL_RULE_GENERAL));
+    CHECK(by_legacy(why(l, STANDARD, 0, 1092), NAKHSHIRUL_RUN_A));
+    CHECK(by_legacy(why(l, STANDARD, 0, 1096), NAKHSHIRUL_RUN_C));
+    CHECK(by_legacy(why(l, USER, 5, 1089), NAKHSHIRUL_RUN_A));
+    CHECK(by(why(only_a(RUN(msg)), STANDARD, 1, 1092), NAKHSHIRUL_RULE_NAMED, NAKHSHIRUL_RUN_A, 5));
+    CHECK(by(why(only_a(RUN(empty_named)), STANDARD, 1, 1092), NAKHSHIRUL_RULE_NAMED, NAKHSHIRUL_RUN_A, 0));
+    CHECK(by(why(only_a(RUN(carried)), USER, 63, 1089), NAKHSHIRUL_RULE_CARRIED, NAKHSHIRUL_RUN_A, 5));
+    l = link_of(RUN(just_g), RUN(srlg_7), none);
+    CHECK(by(why(l, STANDARD, 1, 1096), NAKHSHIRUL_RULE_NAMED, NAKHSHIRUL_RUN_B, 0));
+    CHECK(by(why(l, STANDARD, 1, 1092), NAKHSHIRUL_RULE_UNNAMED, NAKHSHIRUL_RUN_A, 0));
+    CHECK(refused(why(l, STANDARD, 64, 1), NAKHSHIRUL_NO_APPLICATION, NAKHSHIRUL_RUN_A, 0));
+    CHECK(refused(why(l, 3, 0, 1092), NAKHSHIRUL_NO_APPLICATION, NAKHSHIRUL_RUN_A, 0));
+    CHECK(refused(why(l, STANDARD, 1, 1122), NAKHSHIRUL_NO_KIND, NAKHSHIRUL_RUN_A, 0));
+    CHECK(refused(why(only_a(RUN(cut)), STANDARD, 1, 1092), NAKHSHIRUL_CUT, NAKHSHIRUL_RUN_A, 5));
+    CHECK(refused(why(link_of(none, none, run_of(msg, 5)), STANDARD, 1, 1092), NAKHSHIRUL_ODD_SRLGS, NAKHSHIRUL_RUN_A, 0));
+    CHECK(by_none(run_why(RUN(msg_export), STANDARD, 0, 1092), NAKHSHIRUL_RULE_TOP));
+    CHECK(by_none(run_why(RUN(msg_export), USER, 1, 1089), NAKHSHIRUL_RULE_TOP));
+    CHECK(by(run_why(RUN(msg_export), STANDARD, 1, 1092), NAKHSHIRUL_RULE_NAMED, NAKHSHIRUL_RUN_BGPLS, 24));
+    CHECK(by(run_why(RUN(msg_export), USER, 1, 1092), NAKHSHIRUL_RULE_UNNAMED, NAKHSHIRUL_RUN_BGPLS, 8));
+    CHECK(by(run_why(RUN(msg_export), GENERAL, 1, 1092), NAKHSHIRUL_RULE_GENERAL, NAKHSHIRUL_RUN_BGPLS, 8));
+    CHECK(by_none(run_why(RUN(msg_export), GENERAL, 1, 1096), NAKHSHIRUL_RULE_GENERAL));
+    CHECK(refused(run_why(run_of(msg_export, 43), GENERAL, 1, 1092), NAKHSHIRUL_CUT, NAKHSHIRUL_RUN_BGPLS, 24));
+}
+
 /* ---- null pointers with length 0 */
 
 static uint64_t null_ask(struct link l, unsigned code)
@@ -455,7 +517,9 @@ static void nulls(void)
         CHECK(absent(value(l, USER, 5, codes[i])));
         CHECK(absent(take(nakhshirul_run_ask(NULL, 0, GENERAL, 0, (uint16_t)codes[i], NULL, 0, lend()))));
         CHECK(absent(run_value(none, STANDARD, 1, codes[i])));
+        CHECK(why(l, USER, 5, codes[i]).status == NAKHSHIRUL_WHY && run_why(none, USER, 5, codes[i]).status == NAKHSHIRUL_WHY);
     }
+    CHECK(by_none(why(l, USER, 5, 1092), NAKHSHIRUL_RULE_UNNAMED) && by_none(run_why(none, USER, 5, 1092), NAKHSHIRUL_RULE_UNNAMED));
     CHECK(is(named(l), NAKHSHIRUL_NAMED, 0, 0) && is(run_named(none), NAKHSHIRUL_NAMED, 0, 0));
     CHECK(is(take(nakhshirul_export(NULL, 0, NULL, 0, NULL, 0, NULL, 0, lend())), NAKHSHIRUL_WRITTEN, 0, 0));
     CHECK(is(export_to(l, OUT), NAKHSHIRUL_WRITTEN, 0, 0) && out_untouched_from(0));
@@ -662,6 +726,7 @@ int main(int count, char **words)
     group("export", exports);
     group("refusals", refusals);
     group("BGP-LS runs", runs);
+    group("why", reasons);
     group("null with length 0", nulls);
     group("most SRLGs of a link", most_of_a_link);
     group("most SRLGs of a run", most_of_a_run);
