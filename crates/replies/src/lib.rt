@@ -52,7 +52,7 @@ pub enum Written {
     Refused(Refusal),
 }
 
-// The rule that gave a subject its kind: an advertisement with L names the application; some name it; the general set was asked for; none names the application,
+// The rule that gave a subject its kind: an advertisement with L names the application; some name it; the general set was asked for; none names it,
 // so that the general set counts; legacy without an L-flag; an ASLA gives a bandwidth; the top level of a BGP-LS run.
 pub enum Rule {
     ByL,
