@@ -15,7 +15,6 @@ pub mod reasons;
 pub mod refusals;
 pub mod report;
 pub mod show;
-pub mod standin;
 pub mod table;
 pub mod text;
 pub mod values;

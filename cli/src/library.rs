@@ -1,11 +1,10 @@
 //! All that is asked of the proved library.
 use crate::input::RunName;
 use crate::names::{Form, Kind};
-use crate::standin;
 use crate::values::Value;
-use nakhshirul::{Answer, BgpLs, Link, Part, Reading};
+use nakhshirul::{Answer, BgpLs, Link, Part, Reading, Run};
 
-pub use nakhshirul::{Application, Subject};
+pub use nakhshirul::{Application, Rule, Subject};
 
 /// What can be asked: a link, or a BGP-LS run.
 #[derive(Clone, Copy, Debug)]
@@ -31,25 +30,6 @@ pub struct Why {
     pub legacy: Option<RunName>,
 }
 
-/// The rules of who gets what.
-#[derive(Clone, Copy, Debug, PartialEq, Eq, Hash)]
-pub enum Rule {
-    /// An advertisement with L names the application.
-    LFlag,
-    /// Advertisements name it.
-    Named,
-    /// The general set was asked for.
-    General,
-    /// Nothing names it, so the general set.
-    Unnamed,
-    /// Legacy, without an L-flag.
-    Legacy,
-    /// A bandwidth that an ASLA carries.
-    Carried,
-    /// The top of a BGP-LS run.
-    Top,
-}
-
 /// What a subject gets of a kind, from where and why.
 #[derive(Clone, Debug, PartialEq, Eq)]
 pub struct Fact {
@@ -72,28 +52,31 @@ pub struct Refusal {
 
 impl From<nakhshirul::Refusal> for Refusal {
     fn from(refusal: nakhshirul::Refusal) -> Refusal {
-        use nakhshirul::Refusal::{Cut, Length};
-        let (run, offset) = match refusal {
-            Cut { run, offset } | Length { run, offset } => (run_name(run), offset),
-            _ => (RunName::A, 0),
-        };
-        Refusal {
-            number: refusal.number(),
-            place: Place { run, offset },
-            what: refusal.to_string(),
+        // A refusal that is not about an element names run A and offset 0.
+        let place = refusal.place().map_or(Place { run: RunName::A, offset: 0 }, Place::from);
+        Refusal { number: refusal.number(), place, what: refusal.to_string() }
+    }
+}
+
+impl From<nakhshirul::Place> for Place {
+    fn from(place: nakhshirul::Place) -> Place {
+        Place { run: place.run.into(), offset: place.offset }
+    }
+}
+
+impl From<Run> for RunName {
+    fn from(run: Run) -> RunName {
+        match run {
+            Run::A => RunName::A,
+            Run::B => RunName::B,
+            Run::BgpLs => RunName::BgpLs,
+            Run::C => RunName::C,
+            _ => unreachable!("{run} is no run of a link or of BGP-LS"),
         }
     }
 }
 
-fn run_name(run: nakhshirul::Run) -> RunName {
-    match run {
-        nakhshirul::Run::A => RunName::A,
-        nakhshirul::Run::B => RunName::B,
-        nakhshirul::Run::BgpLs => RunName::BgpLs,
-    }
-}
-
-/// Room for all SRLGs that a link or a run can have.
+/// Room for all SRLGs of a link: 2,048 bytes of B and 1,024 of C have no more.
 const SRLGS_OF_A_LINK: usize = 768;
 
 impl<'a> Source<'a> {
@@ -106,33 +89,21 @@ impl<'a> Source<'a> {
         Ok(all.iter().collect())
     }
 
-    /// What a subject gets of a kind, of a source that is not refused.
+    /// What a subject gets of a kind, from where and why.
     pub fn fact(&self, whom: Subject, kind: &'static Kind) -> Result<Fact, Refusal> {
+        let why = self.why(whom, kind.code)?;
         let part = self.part(whom, kind.code);
         let value = match (part, kind.form) {
             (None, Form::Srlgs) | (Some(_), _) => self.value(whom, kind.code)?,
             (None, _) => None,
         };
-        Ok(Fact {
-            kind,
-            value,
-            place: part.map(|p| self.place_of(p)),
-            length: part.map_or(0, |p| p.bytes.len()),
-            why: self.why(whom, kind)?,
-        })
+        let length = part.map_or(0, |p| p.bytes.len());
+        Ok(Fact { kind, value, place: part.map(place_of), length, why })
     }
 
     /// Where the value of a kind stands that a subject gets.
     pub fn place(&self, whom: Subject, code: u16) -> Option<Place> {
-        self.part(whom, code).map(|p| self.place_of(p))
-    }
-
-    fn place_of(&self, part: Part) -> Place {
-        let run = match self {
-            Source::Link(_) => RunName::A,
-            Source::BgpLs(_) => RunName::BgpLs,
-        };
-        Place { run, offset: part.offset }
+        self.part(whom, code).map(place_of)
     }
 
     fn part(&self, whom: Subject, code: u16) -> Option<Part<'a>> {
@@ -165,9 +136,16 @@ impl<'a> Source<'a> {
         })
     }
 
-    fn why(&self, whom: Subject, kind: &'static Kind) -> Result<Why, Refusal> {
-        let place = self.part(whom, kind.code).map(|p| p.offset);
-        Ok(standin::why(self, whom, kind.code, place))
+    fn why(&self, whom: Subject, code: u16) -> Result<Why, Refusal> {
+        let why = match self {
+            Source::Link(link) => link.why(whom, code)?,
+            Source::BgpLs(run) => run.why(whom, code)?,
+        };
+        Ok(Why {
+            rule: why.rule,
+            advertisement: why.advertisement.map(Place::from),
+            legacy: why.legacy.map(RunName::from),
+        })
     }
 
     /// The export of a link, in the room that is lent; the bytes of a BGP-LS run as they are.
@@ -180,6 +158,10 @@ impl<'a> Source<'a> {
             Source::BgpLs(run) => Ok(run.run),
         }
     }
+}
+
+fn place_of(part: Part) -> Place {
+    Place { run: part.run.into(), offset: part.offset }
 }
 
 /// Room for any export.
