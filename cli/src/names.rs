@@ -51,8 +51,8 @@ impl Length {
     }
 }
 
-/// One of the fourteen kinds.
-#[derive(Debug, PartialEq, Eq)]
+/// One of the fourteen kinds. Two are the same when their codes are.
+#[derive(Debug, Eq)]
 pub struct Kind {
     /// Its BGP-LS code.
     pub code: u16,
@@ -118,6 +118,12 @@ pub const ASLA_TLV: u16 = 1122;
 pub const ASLA: u16 = 16;
 /// The type of the IS-IS TLV with SRLGs of applications.
 pub const SRLG_TLV: u16 = 238;
+
+impl PartialEq for Kind {
+    fn eq(&self, other: &Kind) -> bool {
+        self.code == other.code
+    }
+}
 
 impl Kind {
     pub fn of_code(code: u16) -> Option<&'static Kind> {
