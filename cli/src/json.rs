@@ -153,12 +153,12 @@ fn head(file: &str, entry: &Entry) -> Vec<(&'static str, Json)> {
 }
 
 fn refused(item: &Item, refusal: &Refusal) -> Json {
-    let run = item.entry.run(refusal.place.run).filter(|_| refusals::has_place(refusal));
+    let place = refusals::place(refusal);
     Json::Object(vec![
         ("number", usize::from(refusal.number).into()),
-        ("run", refusal.place.run.to_string().into()),
-        ("offset", refusal.place.offset.into()),
-        ("line", run.and_then(|r| r.line_of(refusal.place.offset)).into()),
+        ("run", place.run.to_string().into()),
+        ("offset", place.offset.into()),
+        ("line", refusals::line(item, refusal).into()),
         ("what", refusal.what.as_str().into()),
     ])
 }

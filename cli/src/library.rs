@@ -46,14 +46,14 @@ pub struct Fact {
 #[derive(Clone, Debug, PartialEq, Eq)]
 pub struct Refusal {
     pub number: u8,
-    pub place: Place,
+    /// The element that is to blame, if one is.
+    pub place: Option<Place>,
     pub what: String,
 }
 
 impl From<nakhshirul::Refusal> for Refusal {
     fn from(refusal: nakhshirul::Refusal) -> Refusal {
-        // A refusal that is not about an element names run A and offset 0.
-        let place = refusal.place().map_or(Place { run: RunName::A, offset: 0 }, Place::from);
+        let place = refusal.place().map(Place::from);
         Refusal { number: refusal.number(), place, what: refusal.to_string() }
     }
 }
