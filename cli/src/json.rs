@@ -226,7 +226,7 @@ fn advertisement(bytes: &[u8], found: &Advertisement) -> Vec<(&'static str, Json
 }
 
 fn applications(all: &[Application]) -> Json {
-    list(all.iter().map(|a| names::application(*a)))
+    list(all.iter().map(Application::to_string))
 }
 
 fn srlgs(all: &[u32]) -> Json {

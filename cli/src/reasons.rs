@@ -172,12 +172,7 @@ pub fn all(facts: &Facts, is_link: bool) -> Vec<(String, String)> {
 }
 
 fn title(whom: &[Subject]) -> String {
-    let application = |s: &Subject| match *s {
-        Subject::General => None,
-        Subject::Standard(n) => Some(Application::Standard(n as u8)),
-        Subject::User(n) => Some(Application::User(n as u8)),
-    };
-    let named: Vec<Application> = whom.iter().filter_map(application).collect();
+    let named: Vec<Application> = whom.iter().filter_map(|w| names::application(*w)).collect();
     let general = whom.contains(&Subject::General).then(|| names::subject(Subject::General));
     let all: Vec<String> = general.into_iter().chain(names::applications(&named)).collect();
     all.join(", ")
