@@ -121,7 +121,10 @@ pub fn document(report: &Report, export: Option<&[u8]>) -> Json {
     let mut all = head(item.file, item.entry);
     all.push(("source", if item.is_link() { "isis" } else { "bgp-ls" }.into()));
     all.push(("refused", report.facts.as_ref().err().map(|r| refused(item, r)).into()));
-    all.push(("runs", Json::List(item.runs().into_iter().map(|r| run(report, r)).collect())));
+    all.push((
+        "runs",
+        Json::List(item.source.runs().into_iter().map(|r| run(report, r)).collect()),
+    ));
     if let Ok(facts) = &report.facts {
         all.push(("named", applications(&facts.named)));
         all.push(("link", Json::List(facts.of_the_link.iter().map(fact).collect())));

@@ -25,13 +25,8 @@ pub fn explained(item: &Item, lists: &[(RunName, List)], mut refusal: Refusal) -
 }
 
 fn too_long(item: &Item) -> Option<String> {
-    let most = |name| match name {
-        RunName::C => 1024,
-        RunName::BgpLs => 524_288,
-        RunName::A | RunName::B => 2048,
-    };
-    let long = item.runs().into_iter().find(|(name, run)| run.len() > most(*name));
-    long.map(|(name, run)| format!("{name} has {} bytes, at most {}", run.len(), most(name)))
+    let long = item.source.runs().into_iter().find(|(name, run)| run.len() > name.longest());
+    long.map(|(name, run)| format!("{name} has {} bytes, at most {}", run.len(), name.longest()))
 }
 
 /// The run and offset that a refusal names: run A and 0 where no element is to blame.

@@ -61,10 +61,10 @@ pub fn write(out: &mut dyn Write, report: &Report, export: Option<&[u8]>) -> io:
 
 fn write_elements(out: &mut dyn Write, report: &Report) -> io::Result<()> {
     let facts = report.facts.as_ref().ok();
-    for (run, bytes) in report.item.runs() {
+    for (run, bytes) in report.item.source.runs() {
         let listed = match report.list(run) {
             Some(list) => Listing { run, bytes, list, facts }.lines(),
-            None if run == RunName::C && bytes.len() <= 1024 => listing::srlgs(bytes),
+            None if run == RunName::C && bytes.len() <= run.longest() => listing::srlgs(bytes),
             None => Vec::new(),
         };
         if !bytes.is_empty() && !listed.is_empty() {
