@@ -175,9 +175,13 @@ fn whole(line: &[u8], from: usize, groups: &[Range<usize>]) -> Option<usize> {
     (rest.is_empty() || rest[0] == b'#').then_some(groups.len())
 }
 
+/// No tool prints more groups in a line.
+const MOST_GROUPS: usize = 256;
+
 /// How many groups are bytes, where a column of text behind them repeats them.
 fn text_column(line: &[u8], groups: &[Range<usize>]) -> Option<usize> {
-    (1..=groups.len()).rev().find(|count| {
+    let most = if groups.len() > 2 * MOST_GROUPS { 0 } else { groups.len() };
+    (1..=most).rev().find(|count| {
         let rest = &line[groups[count - 1].end..];
         blanks(rest) >= 2 && repeats(rest, &bytes_of(line, &groups[..*count]))
     })
