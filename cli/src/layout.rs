@@ -4,6 +4,9 @@
 /// to stay together has no-break spaces, which become blanks.
 pub fn wrap(text: &str, width: usize) -> Vec<String> {
     let width = width.max(1);
+    if text.chars().count() <= width {
+        return vec![text.replace('\u{A0}', " ")];
+    }
     let mut lines = Vec::new();
     let mut line = String::new();
     for word in text.split(' ') {

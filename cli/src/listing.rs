@@ -161,11 +161,12 @@ impl Columns {
     /// Value and fate side by side, or one below the other where the value is long.
     fn texts(&self, row: &Row) -> Vec<String> {
         let beside = |value: &str, fate: &str| format!("{}  {fate}", padded(value, self.value));
-        let len = row.value.chars().count();
-        if row.fate.is_empty()
-            || len > self.value && len + 2 + row.fate.chars().count() <= self.right
-        {
-            return wrap(&format!("{}  {}", row.value, row.fate), self.right);
+        let [value, fate] = [&row.value, &row.fate].map(|text| text.chars().count());
+        if fate == 0 {
+            return wrap(&row.value, self.right);
+        }
+        if value.max(self.value) + 2 + fate <= self.right {
+            return vec![beside(&row.value, &row.fate).replace('\u{A0}', " ")];
         }
         let mut values = wrap(&row.value, self.right);
         let last = values.pop().unwrap_or_default();
@@ -190,8 +191,10 @@ fn laid_out(rows: &[Row]) -> Vec<String> {
         let front = columns.front(row);
         let blank = " ".repeat(front.chars().count());
         for (i, text) in columns.texts(row).iter().enumerate() {
-            let front = if i == 0 { &front } else { &blank };
-            lines.push(format!("{front}{text}").trim_end().to_string());
+            let mut line = if i == 0 { front.clone() } else { blank.clone() };
+            line.push_str(text);
+            line.truncate(line.trim_end().len());
+            lines.push(line);
         }
         let same = rows[at..].iter().take_while(|r| alike(r, row)).count();
         if same > 2 {

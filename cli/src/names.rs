@@ -187,9 +187,11 @@ pub fn application(whom: Subject) -> Option<Application> {
     }
 }
 
-/// Whether an application has a name of its own.
+/// So many standard applications, from 0 on, have names of their own.
+const NAMED: u8 = 4;
+
 fn has_name(which: Application) -> bool {
-    matches!(which, Application::Standard(_)) && !which.to_string().starts_with("standard")
+    matches!(which, Application::Standard(0..NAMED))
 }
 
 /// A subject in at most nine characters.
@@ -282,6 +284,14 @@ mod tests {
         assert_eq!(parse_subject("user5"), Some(Subject::User(5)));
         assert_eq!(parse_subject("user 64"), None);
         assert_eq!(parse_subject("users"), None);
+    }
+
+    #[test]
+    fn the_first_applications_have_names() {
+        for n in 0..64 {
+            let standard = Application::Standard(n);
+            assert_eq!(has_name(standard), !standard.to_string().starts_with("standard"));
+        }
     }
 
     #[test]
