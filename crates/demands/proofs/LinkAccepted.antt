@@ -1,14 +1,14 @@
 -- Rule L18, of an IS-IS link: its checks refuse by 1 to 4 alone, so it is accepted exactly when no number but 5 refuses its export. Assumes nothing.
-use mathlib.Core.Path.{_≡_, refl}
-use mathlib.Core.Bool.{Bool, true, cond, _&&_, _||_, not}
+use mathlib.Core.Path.{refl}
+use mathlib.Core.Bool.{Bool, cond, _&&_, _||_, not}
 use mathlib.Core.List.{List, [], _∷_}
 use Prim.Native.Nat.{ℕ, _+_, _%_}
 use lib.Dec.{ltb, eqb}
 use lib.ListN.{length}
 use Rattle.linkstate.specs.Lists.{any, member}
 use Rattle.linkstate.specs.Kinds.{wrongInA}
-use Rattle.linkstate.specs.Replies.{Run, Verdict, accepted, fault, refusedIf, _then_, runA, runB}
-use Rattle.linkstate.specs.Elements.{elements, faults}
+use Rattle.linkstate.specs.Replies.{Run, accepted, fault, runA, runB}
+use Rattle.linkstate.specs.Elements.{elements}
 use Rattle.isis.specs.MaskHeader.{lFlag, headerLength, maskTooLong, lForNobody}
 use Rattle.isis.specs.RunA.{listElements, checkAttribute, checkAsla, checkA}
 use Rattle.isis.specs.RunB.{afterNeighbour, identifierBytes, identifiers, srlgValues, knownIdentifiers, checkIdentifier, ignored, checkSrlg, checkB}

@@ -1,5 +1,5 @@
 -- Demand 2, the link's own answers: every question to an accepted IS-IS link is answered by what the link means. Assumes nothing.
-use mathlib.Core.Path.{_≡_, refl, sym, ap, ap₂, _∙_}
+use mathlib.Core.Path.{_≡_, refl, sym, ap, _∙_}
 use mathlib.Core.Bool.{Bool, true, false, cond, _||_, false≢true}
 use mathlib.Core.List.{List, [], _∷_, _++_, List·Memᴰ, List·Memᴰ·append-cases}
 use mathlib.Core.Logic.{_⊎_, inl, inr}
@@ -13,8 +13,8 @@ use Rattle.linkstate.specs.Masks.{user, others}
 use Rattle.linkstate.specs.Replies.{accepted, runA}
 use Rattle.linkstate.specs.Elements.{elements, faults}
 use Rattle.linkstate.specs.Attributes.{Attribute, ofKind}
-use Rattle.linkstate.specs.Sides.{named, generalSet, applicationSet, rsvpTeKind, bandwidthKind}
-use Rattle.linkstate.specs.Questions.{Subject, generally, standardNo, userNo, numberTooHigh, setOf, given}
+use Rattle.linkstate.specs.Sides.{named, generalSet, applicationSet}
+use Rattle.linkstate.specs.Questions.{Subject, generally, standardNo, userNo, setOf, given}
 use Rattle.linkstate.specs.Meaning.{meaning, Accepted}
 use Rattle.isis.specs.RunA.{checkA, sideA}
 use Rattle.isis.specs.RunB.{sideB}

@@ -9,7 +9,7 @@ use borrow.Author.Tests.{eqb-true, le-ltb}
 use lib.Dec.{eqb}
 use Rattle.linkstate.specs.Lists.{member}
 use Rattle.linkstate.specs.Kinds.{applicationCodes, linkCodes, isCode, isLinkCode}
-use Rattle.linkstate.specs.Masks.{user, others, asNumber}
+use Rattle.linkstate.specs.Masks.{user, others}
 use Rattle.linkstate.specs.Replies.{accepted, unless, listed}
 use Rattle.linkstate.specs.Questions.{Subject, generally, standardNo, userNo, numberTooHigh, listNamed}
 use Rattle.linkstate.specs.Meaning.{Meaning, meaning, row, Same}

@@ -2,22 +2,22 @@
 -- so a kind other than SRLG is never found without bytes, and it stands in the run at its place.
 use mathlib.Core.Path.{_≡_, refl, sym, ap, ap₂, _∙_, subst}
 use mathlib.Core.Bool.{Bool, true, false, cond, false≢true}
-use mathlib.Core.List.{List, [], _∷_, List·Memᴰ, List·Memᴰ·head}
+use mathlib.Core.List.{List, [], _∷_, List·Memᴰ}
 use Prim.Native.Nat.{ℕ, _+_, _<_}
 use native.Mathlib.Omega.{arith}
-use borrow.Author.Tests.{eqb-true, ltb-true, ltb-false}
-use lib.Dec.{eqb, ltb}
+use borrow.Author.Tests.{eqb-true}
+use lib.Dec.{eqb}
 use lib.ListN.{length, drop}
 use lib.Seq.{take-length}
-use Rattle.linkstate.specs.Lists.{keep, each, empty, put, member}
-use Rattle.linkstate.specs.Bytes.{bytesAt, distinct, words, four, bytesOfWords}
+use Rattle.linkstate.specs.Lists.{keep, each, empty, member}
+use Rattle.linkstate.specs.Bytes.{bytesAt}
 use Rattle.linkstate.specs.Kinds.{isCode, isLinkCode, wrongAtTop, wrongInside}
 use Rattle.linkstate.specs.Masks.{user, others}
-use Rattle.linkstate.specs.Replies.{runA, runBgpLs, refusalAt, accepted, refused, fault, faultOfCall, refusedIf, _then_, unless, found, askRefused, count}
+use Rattle.linkstate.specs.Replies.{runBgpLs, accepted, fault}
 use Rattle.linkstate.specs.Elements.{elements}
-use Rattle.linkstate.specs.Attributes.{Attribute, attribute, ofKind, srlgs, firstValue, valueOf, reading}
+use Rattle.linkstate.specs.Attributes.{Attribute, attribute, ofKind}
 use Rattle.linkstate.specs.Sides.{Advertisement, general, names, named, ofLive, generalSet, applicationSet}
-use Rattle.linkstate.specs.Questions.{Subject, generally, standardNo, userNo, numberTooHigh, setOf, given, beforeAnswer, firstOf, unwritten, srlgAnswer, answer, ask, bytesOfFirst, value}
+use Rattle.linkstate.specs.Questions.{Subject, generally, standardNo, userNo, numberTooHigh, setOf, given, value}
 use Rattle.linkstate.specs.Meaning.{meaning, Accepted}
 use Rattle.linkstate.specs.BgpLs.{aslaHeader, innerElements, checkInner, checkTop, advertisement, attributesOf, aslas, topLevel, runSide, runSource}
 use Rattle.linkstate.proofs.ElementLaws.{at-place, rest-place}
