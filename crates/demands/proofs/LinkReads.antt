@@ -96,6 +96,6 @@ pub link-answers : (a b c : List ℕ) → Accepted (linkSource a b c) → Answer
 link-answers a b c ok =
     record {
       reads = λ whom n k known list.
-      source-reads (linkSource a b c) ok whom n k known inA (none-sent k) (λ d t i. held a (a-passed a b c ok) b c k d known whom t i) list (unnamed a b c k);
+          source-reads (linkSource a b c) ok whom n k known inA (none-sent k) (λ d t i. held a (a-passed a b c ok) b c k d known whom t i) list (unnamed a b c k);
       names = source-lists (linkSource a b c) ok;
     }

@@ -43,6 +43,10 @@ pub record OfLink (s : Source) (sent : Sent) (most longest : ℕ) : Type 0 where
   pub bound : length (export (meaning s)) ≤ most
   pub lengths : (t : ℕ) (v : List ℕ) → List·Memᴰ (tlv t v) (tlvs (meaning s)) → length v ≤ longest
 
+-- R1 to R4. What the checks of a link refuse by.
+abbrev pub ofChecks : List ℕ
+ofChecks = 1 ∷ 2 ∷ 3 ∷ 4 ∷ []
+
 -- L18. What accepted means, of a link with these checks and this export:
 pub record LinkAccepted (checks : Verdict) (exported : List ℕ → Exported) : Type 0 where
   -- where the checks accept it, no number but 5 refuses its export,
@@ -50,7 +54,7 @@ pub record LinkAccepted (checks : Verdict) (exported : List ℕ → Exported) : 
   -- where no number but 5 refuses its export, the checks accept it,
   pub accepts : Only5Refuses exported → checks ≡ accepted
   -- and the checks refuse by 1, 2, 3 or 4 alone.
-  pub numbers : RefusesBy (1 ∷ 2 ∷ 3 ∷ 4 ∷ []) checks
+  pub numbers : RefusesBy ofChecks checks
 
 -- L18. What accepted means, of a BGP-LS run: the same with questions, 5, 6 and 7; its checks refuse by 1, 3 or 4 alone.
 pub record RunAccepted (r : List ℕ) : Type 0 where
