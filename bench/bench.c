@@ -38,7 +38,7 @@ static const char *const entry_names[ENTRIES] = {
 static const char *const link_names[] = { "small", "medium", "large" };
 
 static uint64_t call(enum entry e, const struct link *k) {
-    uint64_t reply[2];
+    uint64_t reply[4];
     switch (e) {
     case ASK:
         return nakhshirul_ask(k->a.bytes, k->a.len, k->b.bytes, k->b.len, k->c.bytes, k->c.len, k->who, k->number, 1092, list, MOST / 4, reply);

@@ -44,38 +44,50 @@ static void group(const char *name, void (*run)(void))
 #define GUARD 0xA5A5A5A5A5A5A5A5u
 
 struct answer {
-    uint64_t status, first, second;
+    uint64_t status, reply[4];
 };
 
-static uint64_t lent[4];
+static uint64_t lent[6];
 
 static uint64_t *lend(void)
 {
-    lent[0] = lent[1] = lent[2] = lent[3] = GUARD;
+    size_t i;
+    for (i = 0; i < 6; i++)
+        lent[i] = GUARD;
     return lent + 1;
 }
 
 static struct answer take(uint64_t status)
 {
     struct answer r;
-    check(lent[0] == GUARD && lent[3] == GUARD, "only the two numbers of the reply are written", __LINE__);
+    check(lent[0] == GUARD && lent[5] == GUARD, "only the four numbers of the reply are written", __LINE__);
     r.status = status;
-    r.first = lent[1];
-    r.second = lent[2];
+    memcpy(r.reply, lent + 1, sizeof r.reply);
     return r;
+}
+
+static int is_whole(struct answer r, uint64_t status, uint64_t first, uint64_t second, uint64_t third)
+{
+    if (r.status == status && r.reply[0] == first && r.reply[1] == second && r.reply[2] == third && r.reply[3] == 0)
+        return 1;
+    printf("  answered %llu with %llu, %llu, %llu, %llu\n", (unsigned long long)r.status, (unsigned long long)r.reply[0], (unsigned long long)r.reply[1],
+           (unsigned long long)r.reply[2], (unsigned long long)r.reply[3]);
+    return 0;
 }
 
 static int is(struct answer r, uint64_t status, uint64_t first, uint64_t second)
 {
-    if (r.status == status && r.first == first && r.second == second)
-        return 1;
-    printf("  answered %llu with %llu, %llu\n", (unsigned long long)r.status, (unsigned long long)r.first, (unsigned long long)r.second);
-    return 0;
+    return is_whole(r, status, first, second, 0);
+}
+
+static int place(struct answer r, unsigned run, uint64_t offset, uint64_t length)
+{
+    return is_whole(r, NAKHSHIRUL_PLACE, offset, length, run);
 }
 
 static int refused(struct answer r, unsigned number, unsigned run, uint64_t offset)
 {
-    return is(r, NAKHSHIRUL_REFUSED + number, run, offset);
+    return is_whole(r, NAKHSHIRUL_REFUSED + number, offset, 0, run);
 }
 
 /* A link or a BGP-LS run. */
@@ -93,7 +105,7 @@ static const uint8_t nothing[1] = {0};
 static struct run run_of(const uint8_t *bytes, size_t len)
 {
     struct run r;
-    r.bytes = len > 0 ? bytes : nothing;
+    r.bytes = bytes;
     r.len = len;
     return r;
 }
@@ -162,6 +174,16 @@ static struct answer run_value(struct run r, unsigned who, uint64_t number, unsi
     return take(nakhshirul_run_value(r.bytes, r.len, (uint8_t)who, number, (uint16_t)code, lend()));
 }
 
+static struct answer why(struct link l, unsigned who, uint64_t number, unsigned code)
+{
+    return take(nakhshirul_why(l.a.bytes, l.a.len, l.b.bytes, l.b.len, l.c.bytes, l.c.len, (uint8_t)who, number, (uint16_t)code, lend()));
+}
+
+static struct answer run_why(struct run r, unsigned who, uint64_t number, unsigned code)
+{
+    return take(nakhshirul_run_why(r.bytes, r.len, (uint8_t)who, number, (uint16_t)code, lend()));
+}
+
 static struct answer named(struct link l)
 {
     return take(nakhshirul_named(l.a.bytes, l.a.len, l.b.bytes, l.b.len, l.c.bytes, l.c.len, lend()));
@@ -214,6 +236,8 @@ static const uint8_t just_g[] = {G};
 /* A TLV 238 that names SR Policy, with a link identifier of type 4 and SRLG 7. */
 static const uint8_t srlg_7[] = {0xEE, 0x19, 1, 2, 3, 4, 5, 6, 7, 0x01, 0x00, 0x40, 0x0A, 0x04, 0x08, 0, 0, 0, 1, 0, 0, 0, 2, 0, 0, 0, 7};
 
+static const unsigned codes[] = {1088, 1089, 1090, 1091, 1092, 1096, 1114, 1115, 1116, 1117, 1118, 1119, 1120, 1173};
+
 #define GENERAL NAKHSHIRUL_GENERAL
 #define STANDARD NAKHSHIRUL_STANDARD
 #define USER NAKHSHIRUL_USER
@@ -230,7 +254,6 @@ static int absent(struct answer r)
 
 static void worked_links(void)
 {
-    static const unsigned codes[] = {1088, 1089, 1090, 1091, 1092, 1096, 1114, 1115, 1116, 1117, 1118, 1119, 1120, 1173};
     struct link l = only_a(run_of(nothing, 0));
     size_t i;
     for (i = 0; i < sizeof codes / sizeof codes[0]; i++) {
@@ -284,7 +307,7 @@ static void readings(void)
     CHECK(is(ask(l, GENERAL, 0, 1090), NAKHSHIRUL_BANDWIDTH, 0x3F800000u, 0));
     CHECK(is(ask(l, STANDARD, 0, 1118), NAKHSHIRUL_BANDWIDTH, 0xFFFFFFFFu, 0));
     CHECK(absent(ask(l, STANDARD, 1, 1118)));
-    CHECK(is(ask(l, STANDARD, 0, 1173), NAKHSHIRUL_PLACE, 30, 8));
+    CHECK(place(ask(l, STANDARD, 0, 1173), NAKHSHIRUL_RUN_A, 30, 8));
     CHECK(list_untouched_from(0));
     CHECK(is(ask(l, STANDARD, 0, 1096), NAKHSHIRUL_SRLGS, 3, 0));
     CHECK(list[1] == 2 && list[2] == 9 && list[3] == 0xFFFFFFFFu && list_untouched_from(3));
@@ -296,19 +319,19 @@ static void readings(void)
 static void values(void)
 {
     struct link l = link_of(RUN(each_form), run_of(nothing, 0), RUN(four_srlgs));
-    CHECK(is(value(l, STANDARD, 0, 1088), NAKHSHIRUL_PLACE, 2, 4));
-    CHECK(is(value(l, STANDARD, 0, 1089), NAKHSHIRUL_PLACE, 8, 4));
-    CHECK(is(value(l, STANDARD, 0, 1115), NAKHSHIRUL_PLACE, 20, 8));
-    CHECK(is(value(l, STANDARD, 0, 1173), NAKHSHIRUL_PLACE, 30, 8));
+    CHECK(place(value(l, STANDARD, 0, 1088), NAKHSHIRUL_RUN_A, 2, 4));
+    CHECK(place(value(l, STANDARD, 0, 1089), NAKHSHIRUL_RUN_A, 8, 4));
+    CHECK(place(value(l, STANDARD, 0, 1115), NAKHSHIRUL_RUN_A, 20, 8));
+    CHECK(place(value(l, STANDARD, 0, 1173), NAKHSHIRUL_RUN_A, 30, 8));
     CHECK(absent(value(l, STANDARD, 0, 1092)));
     CHECK(absent(value(l, STANDARD, 0, 1096)));
     CHECK(absent(value(l, STANDARD, 64, 1088)));
     CHECK(absent(value(l, 3, 0, 1088)));
     CHECK(absent(value(l, STANDARD, 0, 1122)));
     l = only_a(RUN(msg));
-    CHECK(is(value(l, STANDARD, 0, 1092), NAKHSHIRUL_PLACE, 2, 3));
-    CHECK(is(value(l, STANDARD, 1, 1092), NAKHSHIRUL_PLACE, 12, 3));
-    CHECK(is(value(l, USER, 5, 1092), NAKHSHIRUL_PLACE, 21, 3));
+    CHECK(place(value(l, STANDARD, 0, 1092), NAKHSHIRUL_RUN_A, 2, 3));
+    CHECK(place(value(l, STANDARD, 1, 1092), NAKHSHIRUL_RUN_A, 12, 3));
+    CHECK(place(value(l, USER, 5, 1092), NAKHSHIRUL_RUN_A, 21, 3));
     CHECK(absent(value(only_a(run_of(msg, 8)), STANDARD, 0, 1092)));
 }
 
@@ -337,14 +360,14 @@ static void exports(void)
 {
     struct link l = only_a(RUN(msg));
     CHECK(sizeof msg_export == 44);
-    CHECK(is(export_to(l, 44), NAKHSHIRUL_EXPORTED, 44, 0));
+    CHECK(is(export_to(l, 44), NAKHSHIRUL_WRITTEN, 44, 0));
     CHECK(memcmp(out + 1, msg_export, 44) == 0 && out_untouched_from(44));
-    CHECK(is(export_to(l, OUT), NAKHSHIRUL_EXPORTED, 44, 0));
+    CHECK(is(export_to(l, OUT), NAKHSHIRUL_WRITTEN, 44, 0));
     CHECK(memcmp(out + 1, msg_export, 44) == 0 && out_untouched_from(44));
     CHECK(refused(export_to(l, 43), NAKHSHIRUL_NO_ROOM, NAKHSHIRUL_RUN_A, 0) && out_untouched_from(0));
     CHECK(refused(export_to(l, 0), NAKHSHIRUL_NO_ROOM, NAKHSHIRUL_RUN_A, 0) && out_untouched_from(0));
-    CHECK(is(export_to(only_a(run_of(nothing, 0)), 0), NAKHSHIRUL_EXPORTED, 0, 0) && out_untouched_from(0));
-    CHECK(is(export_to(only_a(RUN(empty_named)), OUT), NAKHSHIRUL_EXPORTED, 28, 0));
+    CHECK(is(export_to(only_a(run_of(nothing, 0)), 0), NAKHSHIRUL_WRITTEN, 0, 0) && out_untouched_from(0));
+    CHECK(is(export_to(only_a(RUN(empty_named)), OUT), NAKHSHIRUL_WRITTEN, 28, 0));
     CHECK(refused(export_to(only_a(run_of(msg, 4)), OUT), NAKHSHIRUL_CUT, NAKHSHIRUL_RUN_A, 0) && out_untouched_from(0));
 }
 
@@ -405,12 +428,12 @@ static void runs(void)
     CHECK(is(run_ask(r, STANDARD, 2, 1092), NAKHSHIRUL_NUMBER, 30, 0));
     CHECK(is(run_ask(r, USER, 5, 1092), NAKHSHIRUL_NUMBER, 30, 0));
     CHECK(is(run_ask(r, GENERAL, 99, 1092), NAKHSHIRUL_NUMBER, 30, 0));
-    CHECK(is(run_value(r, STANDARD, 1, 1092), NAKHSHIRUL_PLACE, 40, 4));
+    CHECK(place(run_value(r, STANDARD, 1, 1092), NAKHSHIRUL_RUN_BGPLS, 40, 4));
     CHECK(is(run_named(r), NAKHSHIRUL_NAMED, 2, 0));
     CHECK(absent(run_ask(run_of(nothing, 0), GENERAL, 0, 1092)) && is(run_named(run_of(nothing, 0)), NAKHSHIRUL_NAMED, 0, 0));
     r = RUN(form_each);
     CHECK(is(run_ask(r, USER, 1, 1089), NAKHSHIRUL_BANDWIDTH, 0x7FA12345u, 0));
-    CHECK(is(run_ask(r, STANDARD, 0, 1173), NAKHSHIRUL_PLACE, 12, 4));
+    CHECK(place(run_ask(r, STANDARD, 0, 1173), NAKHSHIRUL_RUN_BGPLS, 12, 4));
     CHECK(is(run_ask(r, STANDARD, 0, 1096), NAKHSHIRUL_SRLGS, 2, 0) && list[1] == 2 && list[2] == 9 && list_untouched_from(2));
     CHECK(refused(run_ask_with(r, STANDARD, 0, 1096, 1), NAKHSHIRUL_NO_ROOM, NAKHSHIRUL_RUN_A, 0) && list_untouched_from(0));
     CHECK(is(run_ask(r, STANDARD, 0, 1115), NAKHSHIRUL_PAIR, 1, 3));
@@ -423,6 +446,176 @@ static void runs(void)
     CHECK(refused(run_ask(r, USER, 1, 1), NAKHSHIRUL_NO_KIND, NAKHSHIRUL_RUN_A, 0));
     CHECK(absent(run_ask(run_of(zeros, 524288), GENERAL, 0, 1092)));
     CHECK(refused(run_ask(run_of(zeros, 524289), GENERAL, 0, 1092), NAKHSHIRUL_TOO_LONG, NAKHSHIRUL_RUN_A, 0));
+}
+
+/* ---- why */
+
+static int by(struct answer r, unsigned rule, unsigned run, uint64_t offset)
+{
+    return is_whole(r, NAKHSHIRUL_WHY, rule, offset, run);
+}
+
+static int by_none(struct answer r, unsigned rule)
+{
+    return is_whole(r, NAKHSHIRUL_WHY, rule, NAKHSHIRUL_NOWHERE, 0);
+}
+
+static int by_legacy(struct answer r, unsigned run)
+{
+    return is_whole(r, NAKHSHIRUL_WHY, NAKHSHIRUL_RULE_LEGACY, NAKHSHIRUL_NOWHERE, run);
+}
+
+static void reasons(void)
+{
+    static const uint8_t carried[] = {M, 0x10, 0x08, 0x00, 0x00, 0x09, 0x04, 0x00, 0x00, 0x00, 0x01};
+    static const uint8_t cut[] = {M, 0x12};
+    struct run none = run_of(NULL, 0);
+    struct link l = only_a(RUN(mzg));
+    CHECK(by(why(l, STANDARD, 1, 1092), NAKHSHIRUL_RULE_L_FLAG, NAKHSHIRUL_RUN_A, 5));
+    CHECK(by(why(l, STANDARD, 1, 1114), NAKHSHIRUL_RULE_L_FLAG, NAKHSHIRUL_RUN_A, 5));
+    CHECK(by(why(l, STANDARD, 2, 1092), NAKHSHIRUL_RULE_UNNAMED, NAKHSHIRUL_RUN_A, 10));
+    CHECK(by_none(why(l, STANDARD, 2, 1114), NAKHSHIRUL_RULE_UNNAMED));
+    CHECK(by(why(l, GENERAL, 99, 1092), NAKHSHIRUL_RULE_GENERAL, NAKHSHIRUL_RUN_A, 10));
+    CHECK(by_none(why(l, GENERAL, 0, 1096), NAKHSHIRUL_RULE_GENERAL));
+    CHECK(by_legacy(why(l, STANDARD, 0, 1092), NAKHSHIRUL_RUN_A));
+    CHECK(by_legacy(why(l, STANDARD, 0, 1096), NAKHSHIRUL_RUN_C));
+    CHECK(by_legacy(why(l, USER, 5, 1089), NAKHSHIRUL_RUN_A));
+    CHECK(by(why(only_a(RUN(msg)), STANDARD, 1, 1092), NAKHSHIRUL_RULE_NAMED, NAKHSHIRUL_RUN_A, 5));
+    CHECK(by(why(only_a(RUN(empty_named)), STANDARD, 1, 1092), NAKHSHIRUL_RULE_NAMED, NAKHSHIRUL_RUN_A, 0));
+    CHECK(by(why(only_a(RUN(carried)), USER, 63, 1089), NAKHSHIRUL_RULE_CARRIED, NAKHSHIRUL_RUN_A, 5));
+    l = link_of(RUN(just_g), RUN(srlg_7), none);
+    CHECK(by(why(l, STANDARD, 1, 1096), NAKHSHIRUL_RULE_NAMED, NAKHSHIRUL_RUN_B, 0));
+    CHECK(by(why(l, STANDARD, 1, 1092), NAKHSHIRUL_RULE_UNNAMED, NAKHSHIRUL_RUN_A, 0));
+    CHECK(refused(why(l, STANDARD, 64, 1), NAKHSHIRUL_NO_APPLICATION, NAKHSHIRUL_RUN_A, 0));
+    CHECK(refused(why(l, 3, 0, 1092), NAKHSHIRUL_NO_APPLICATION, NAKHSHIRUL_RUN_A, 0));
+    CHECK(refused(why(l, STANDARD, 1, 1122), NAKHSHIRUL_NO_KIND, NAKHSHIRUL_RUN_A, 0));
+    CHECK(refused(why(only_a(RUN(cut)), STANDARD, 1, 1092), NAKHSHIRUL_CUT, NAKHSHIRUL_RUN_A, 5));
+    CHECK(refused(why(link_of(none, none, run_of(msg, 5)), STANDARD, 1, 1092), NAKHSHIRUL_ODD_SRLGS, NAKHSHIRUL_RUN_A, 0));
+    CHECK(by_none(run_why(RUN(msg_export), STANDARD, 0, 1092), NAKHSHIRUL_RULE_TOP));
+    CHECK(by_none(run_why(RUN(msg_export), USER, 1, 1089), NAKHSHIRUL_RULE_TOP));
+    CHECK(by(run_why(RUN(msg_export), STANDARD, 1, 1092), NAKHSHIRUL_RULE_NAMED, NAKHSHIRUL_RUN_BGPLS, 24));
+    CHECK(by(run_why(RUN(msg_export), USER, 1, 1092), NAKHSHIRUL_RULE_UNNAMED, NAKHSHIRUL_RUN_BGPLS, 8));
+    CHECK(by(run_why(RUN(msg_export), GENERAL, 1, 1092), NAKHSHIRUL_RULE_GENERAL, NAKHSHIRUL_RUN_BGPLS, 8));
+    CHECK(by_none(run_why(RUN(msg_export), GENERAL, 1, 1096), NAKHSHIRUL_RULE_GENERAL));
+    CHECK(refused(run_why(run_of(msg_export, 43), GENERAL, 1, 1092), NAKHSHIRUL_CUT, NAKHSHIRUL_RUN_BGPLS, 24));
+}
+
+/* ---- null pointers with length 0 */
+
+static uint64_t null_ask(struct link l, unsigned code)
+{
+    return nakhshirul_ask(l.a.bytes, l.a.len, l.b.bytes, l.b.len, l.c.bytes, l.c.len, STANDARD, 0, (uint16_t)code, NULL, 0, lend());
+}
+
+static void nulls(void)
+{
+    struct run none = run_of(NULL, 0);
+    struct link l = link_of(none, none, none);
+    size_t i;
+    for (i = 0; i < sizeof codes / sizeof codes[0]; i++) {
+        CHECK(absent(take(null_ask(l, codes[i]))));
+        CHECK(absent(value(l, USER, 5, codes[i])));
+        CHECK(absent(take(nakhshirul_run_ask(NULL, 0, GENERAL, 0, (uint16_t)codes[i], NULL, 0, lend()))));
+        CHECK(absent(run_value(none, STANDARD, 1, codes[i])));
+        CHECK(why(l, USER, 5, codes[i]).status == NAKHSHIRUL_WHY && run_why(none, USER, 5, codes[i]).status == NAKHSHIRUL_WHY);
+    }
+    CHECK(by_none(why(l, USER, 5, 1092), NAKHSHIRUL_RULE_UNNAMED) && by_none(run_why(none, USER, 5, 1092), NAKHSHIRUL_RULE_UNNAMED));
+    CHECK(is(named(l), NAKHSHIRUL_NAMED, 0, 0) && is(run_named(none), NAKHSHIRUL_NAMED, 0, 0));
+    CHECK(is(take(nakhshirul_export(NULL, 0, NULL, 0, NULL, 0, NULL, 0, lend())), NAKHSHIRUL_WRITTEN, 0, 0));
+    CHECK(is(export_to(l, OUT), NAKHSHIRUL_WRITTEN, 0, 0) && out_untouched_from(0));
+    l = link_of(RUN(msg), none, RUN(four_srlgs));
+    CHECK(is(take(null_ask(l, 1092)), NAKHSHIRUL_NUMBER, 10, 0));
+    CHECK(refused(take(null_ask(l, 1096)), NAKHSHIRUL_NO_ROOM, NAKHSHIRUL_RUN_A, 0));
+    CHECK(is(ask(l, STANDARD, 0, 1096), NAKHSHIRUL_SRLGS, 3, 0));
+    CHECK(refused(take(nakhshirul_export(l.a.bytes, l.a.len, NULL, 0, l.c.bytes, l.c.len, NULL, 0, lend())), NAKHSHIRUL_NO_ROOM, NAKHSHIRUL_RUN_A, 0));
+    l = link_of(none, RUN(srlg_7), none);
+    CHECK(is(ask(l, STANDARD, 1, 1096), NAKHSHIRUL_SRLGS, 1, 0) && is(named(l), NAKHSHIRUL_NAMED, 2, 0));
+    CHECK(refused(ask(l, STANDARD, 64, 1096), NAKHSHIRUL_NO_APPLICATION, NAKHSHIRUL_RUN_A, 0));
+}
+
+/* ---- the limits that the header tells */
+
+/* A TLV 238 that names SR Policy, with a link identifier of type 4 and so many SRLGs. */
+static size_t tlv_238(uint8_t *b, unsigned count, uint32_t *srlg)
+{
+    uint8_t *p = b;
+    *p++ = 0xEE;
+    *p++ = (uint8_t)(21 + 4 * count);
+    memset(p, 0, 21);
+    p[7] = 1;
+    p[9] = 0x40;
+    p[10] = 10;
+    p[11] = 4;
+    p[12] = 8;
+    for (p += 21; count > 0; count--, ++*srlg) {
+        *p++ = (uint8_t)(*srlg >> 24);
+        *p++ = (uint8_t)(*srlg >> 16);
+        *p++ = (uint8_t)(*srlg >> 8);
+        *p++ = (uint8_t)*srlg;
+    }
+    return (size_t)(p - b);
+}
+
+/*
+ * The most SRLGs of a link: with an identifier a TLV 238 takes 22 bytes or more besides its numbers (23 where it names somebody), and has at most 58 of them,
+ * since its value has at most 255 bytes. So n TLVs have at most 58 n numbers, and at most (2048 - 22 n) / 4: 464 for n = 8, less for every other n. RSVP-TE may
+ * have run C's instead, 256 of them, never both.
+ */
+static void most_of_a_link(void)
+{
+    static uint8_t b[4096];
+    size_t len = 0, most = 0, n;
+    uint32_t next = 1;
+    for (n = 1; n <= 2048 / 22; n++) {
+        size_t by_room = (2048 - 22 * n) / 4, here = 58 * n < by_room ? 58 * n : by_room;
+        if (here > most)
+            most = here;
+    }
+    CHECK(most == NAKHSHIRUL_MAX_LINK_SRLGS && most > NAKHSHIRUL_MAX_C / 4 && (255 - 20) / 4 == 58 && (255 - 21) / 4 == 58);
+    for (n = 0; n < 8; n++)
+        len += tlv_238(b + len, 58, &next);
+    CHECK(len <= NAKHSHIRUL_MAX_B && next == NAKHSHIRUL_MAX_LINK_SRLGS + 1);
+    CHECK(is(ask(link_of(run_of(NULL, 0), run_of(b, len), run_of(NULL, 0)), STANDARD, 1, 1096), NAKHSHIRUL_SRLGS, NAKHSHIRUL_MAX_LINK_SRLGS, 0));
+    CHECK(list[1] == 1 && list[NAKHSHIRUL_MAX_LINK_SRLGS] == NAKHSHIRUL_MAX_LINK_SRLGS && list_untouched_from(NAKHSHIRUL_MAX_LINK_SRLGS));
+}
+
+/* The most SRLGs of a run: every TLV that holds some takes four bytes more, and has at most 16,383. So it takes eight, and they fill the run. */
+static void most_of_a_run(void)
+{
+    static uint8_t run[NAKHSHIRUL_MAX_RUN];
+    static uint32_t room[NAKHSHIRUL_MAX_RUN_SRLGS + 1];
+    uint32_t n;
+    size_t i;
+    for (i = n = 0; i < sizeof run; i += 4) {
+        uint32_t x = i % 65536 == 0 ? 0x0448FFFCu : ++n;
+        run[i] = (uint8_t)(x >> 24);
+        run[i + 1] = (uint8_t)(x >> 16);
+        run[i + 2] = (uint8_t)(x >> 8);
+        run[i + 3] = (uint8_t)x;
+    }
+    CHECK(n == NAKHSHIRUL_MAX_RUN_SRLGS);
+    room[NAKHSHIRUL_MAX_RUN_SRLGS] = 77;
+    CHECK(is(take(nakhshirul_run_ask(run, sizeof run, STANDARD, 0, 1096, room, NAKHSHIRUL_MAX_RUN_SRLGS, lend())), NAKHSHIRUL_SRLGS, n, 0));
+    CHECK(room[0] == 1 && room[n - 1] == n && room[n] == 77);
+    CHECK(refused(take(nakhshirul_run_ask(run, sizeof run, STANDARD, 0, 1096, room, n - 1, lend())), NAKHSHIRUL_NO_ROOM, NAKHSHIRUL_RUN_A, 0));
+}
+
+/* ---- words for people */
+
+static void texts(void)
+{
+    char text[NAKHSHIRUL_TEXT];
+    CHECK(strcmp(nakhshirul_refusal_text(named(only_a(run_of(msg, 4))).status), "an element is cut") == 0);
+    CHECK(strcmp(nakhshirul_refusal_text(named(only_a(RUN(msg))).status), "not refused") == 0);
+    CHECK(strcmp(nakhshirul_refusal_text(NAKHSHIRUL_REFUSED + 8), "not refused") == 0);
+    CHECK(strcmp(nakhshirul_kind_text(1092), "TE metric") == 0 && strcmp(nakhshirul_kind_text(1122), "no kind") == 0);
+    CHECK(strcmp(nakhshirul_application_text(GENERAL, 7, text), "general set") == 0);
+    CHECK(strcmp(nakhshirul_application_text(STANDARD, NAKHSHIRUL_SR_POLICY, text), "SR Policy") == 0);
+    CHECK(strcmp(nakhshirul_application_text(STANDARD, NAKHSHIRUL_FLEX_ALGO, text), "Flex-Algo") == 0);
+    CHECK(strcmp(nakhshirul_application_text(STANDARD, 63, text), "standard 63") == 0);
+    CHECK(strcmp(nakhshirul_application_text(USER, 3, text), "user 3") == 0);
+    CHECK(strcmp(nakhshirul_application_text(USER, 64, text), "no application") == 0);
+    CHECK(strcmp(nakhshirul_application_text(3, 0, text), "no application") == 0);
 }
 
 /* ---- the links of bench/links, and their exports */
@@ -463,20 +656,21 @@ static int alike(struct link l, struct run r, unsigned who, uint64_t number, uns
     q = run_value(r, who, number, code);
     if (x.status != y.status || p.status != q.status || memcmp(first, list, sizeof list) != 0)
         return 0;
-    if (x.status != NAKHSHIRUL_PLACE && !is(y, x.status, x.first, x.second))
+    if (x.status != NAKHSHIRUL_PLACE && !is(y, x.status, x.reply[0], x.reply[1]))
         return 0;
     if (p.status != NAKHSHIRUL_PLACE)
         return absent(p) && absent(q);
-    if (x.status == NAKHSHIRUL_PLACE && !(is(p, x.status, x.first, x.second) && is(q, y.status, y.first, y.second)))
+    if (p.reply[2] != NAKHSHIRUL_RUN_A || q.reply[2] != NAKHSHIRUL_RUN_BGPLS)
+        return 0;
+    if (x.status == NAKHSHIRUL_PLACE && (memcmp(&x, &p, sizeof x) != 0 || memcmp(&y, &q, sizeof y) != 0))
         return 0;
     if (code == 1092)
-        return p.second == 3 && q.second == 4 && memcmp(l.a.bytes + p.first, r.bytes + q.first + 1, 3) == 0;
-    return p.second == q.second && memcmp(l.a.bytes + p.first, r.bytes + q.first, (size_t)p.second) == 0;
+        return p.reply[1] == 3 && q.reply[1] == 4 && memcmp(l.a.bytes + p.reply[0], r.bytes + q.reply[0] + 1, 3) == 0;
+    return p.reply[1] == q.reply[1] && memcmp(l.a.bytes + p.reply[0], r.bytes + q.reply[0], (size_t)p.reply[1]) == 0;
 }
 
 static void bench_link(const char *name)
 {
-    static const unsigned codes[] = {1088, 1089, 1090, 1091, 1092, 1096, 1114, 1115, 1116, 1117, 1118, 1119, 1120, 1173};
     static uint8_t a[4096], b[4096], c[4096], exported[OUT];
     struct link l;
     struct run r;
@@ -488,12 +682,12 @@ static void bench_link(const char *name)
     l.c = read_file(name, "c", c, sizeof c);
     r = read_file(name, "bgpls", exported, sizeof exported);
     CHECK(r.len > 0 && r.len < OUT);
-    CHECK(is(export_to(l, r.len), NAKHSHIRUL_EXPORTED, r.len, 0));
+    CHECK(is(export_to(l, r.len), NAKHSHIRUL_WRITTEN, r.len, 0));
     CHECK(memcmp(out + 1, r.bytes, r.len) == 0 && out_untouched_from(r.len));
     CHECK(refused(export_to(l, r.len - 1), NAKHSHIRUL_NO_ROOM, NAKHSHIRUL_RUN_A, 0) && out_untouched_from(0));
     x = named(l);
     y = run_named(r);
-    CHECK(x.status == NAKHSHIRUL_NAMED && is(y, x.status, x.first, x.second));
+    CHECK(x.status == NAKHSHIRUL_NAMED && is(y, x.status, x.reply[0], x.reply[1]));
     for (i = 0; i < sizeof codes / sizeof codes[0]; i++) {
         CHECK(alike(l, r, GENERAL, 0, codes[i]));
         for (n = 0; n < 64; n++) {
@@ -532,6 +726,11 @@ int main(int count, char **words)
     group("export", exports);
     group("refusals", refusals);
     group("BGP-LS runs", runs);
+    group("why", reasons);
+    group("null with length 0", nulls);
+    group("most SRLGs of a link", most_of_a_link);
+    group("most SRLGs of a run", most_of_a_run);
+    group("words for people", texts);
     group("small link and its export", bench_small);
     group("medium link and its export", bench_medium);
     group("large link and its export", bench_large);

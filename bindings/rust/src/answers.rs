@@ -1,4 +1,5 @@
 //! What is asked, and what is answered.
+use crate::code;
 use std::error::Error;
 use std::fmt;
 
@@ -7,10 +8,35 @@ use std::fmt;
 pub enum Subject {
     /// The general set: what every application gets that nothing names.
     General,
-    /// A standard application: 0 is RSVP-TE, 1 SR Policy, 2 LFA. Above 63 a question is refused.
+    /// A standard application: 0 is RSVP-TE, 1 SR Policy, 2 LFA, 3 Flex-Algo. Above 63 a question
+    /// is refused.
     Standard(u64),
     /// A user-defined application, 0 to 63.
     User(u64),
+}
+
+/// In words: `SR Policy`, `user 5`, `general set`.
+///
+/// ```
+/// use nakhshirul::Subject;
+///
+/// assert_eq!(Subject::Standard(1).to_string(), "SR Policy");
+/// assert_eq!(Subject::Standard(17).to_string(), "standard 17");
+/// assert_eq!(Subject::User(5).to_string(), "user 5");
+/// assert_eq!(Subject::General.to_string(), "general set");
+/// ```
+impl fmt::Display for Subject {
+    fn fmt(&self, f: &mut fmt::Formatter<'_>) -> fmt::Result {
+        match self {
+            Subject::General => f.pad("general set"),
+            Subject::Standard(0) => f.pad("RSVP-TE"),
+            Subject::Standard(1) => f.pad("SR Policy"),
+            Subject::Standard(2) => f.pad("LFA"),
+            Subject::Standard(3) => f.pad("Flex-Algo"),
+            Subject::Standard(n) => f.pad(&format!("standard {n}")),
+            Subject::User(n) => f.pad(&format!("user {n}")),
+        }
+    }
 }
 
 impl Subject {
@@ -36,6 +62,7 @@ impl Subject {
 /// use nakhshirul::{Application, Subject};
 ///
 /// assert_eq!(Subject::from(Application::Standard(1)), Subject::Standard(1));
+/// assert_eq!(Application::Standard(2).to_string(), "LFA");
 /// ```
 #[derive(Clone, Copy, Debug, PartialEq, Eq, PartialOrd, Ord, Hash)]
 pub enum Application {
@@ -51,6 +78,60 @@ impl From<Application> for Subject {
             Application::Standard(n) => Subject::Standard(n.into()),
             Application::User(n) => Subject::User(n.into()),
         }
+    }
+}
+
+impl fmt::Display for Application {
+    fn fmt(&self, f: &mut fmt::Formatter<'_>) -> fmt::Result {
+        Subject::from(*self).fmt(f)
+    }
+}
+
+/// A kind by its code point, to be shown.
+///
+/// ```
+/// use nakhshirul::{code, Kind};
+///
+/// assert_eq!(Kind(code::TE_METRIC).to_string(), "TE metric (1092)");
+/// assert_eq!(Kind(code::SRLG).name(), Some("SRLG"));
+/// assert_eq!(Kind(1122).to_string(), "no kind (1122)");
+/// ```
+#[derive(Clone, Copy, Debug, PartialEq, Eq, PartialOrd, Ord, Hash)]
+pub struct Kind(
+    /// The code point.
+    pub u16,
+);
+
+impl Kind {
+    /// Its name; none where it is none of the fourteen.
+    pub fn name(self) -> Option<&'static str> {
+        Some(match self.0 {
+            code::ADMINISTRATIVE_GROUP => "administrative group",
+            code::MAXIMUM_LINK_BANDWIDTH => "maximum link bandwidth",
+            code::MAXIMUM_RESERVABLE_BANDWIDTH => "maximum reservable bandwidth",
+            code::UNRESERVED_BANDWIDTH => "unreserved bandwidth",
+            code::TE_METRIC => "TE metric",
+            code::SRLG => "SRLG",
+            code::DELAY => "delay",
+            code::MIN_MAX_DELAY => "min/max delay",
+            code::DELAY_VARIATION => "delay variation",
+            code::LOSS => "loss",
+            code::RESIDUAL_BANDWIDTH => "residual bandwidth",
+            code::AVAILABLE_BANDWIDTH => "available bandwidth",
+            code::UTILISED_BANDWIDTH => "utilised bandwidth",
+            code::EXTENDED_ADMINISTRATIVE_GROUP => "extended administrative group",
+            _ => return None,
+        })
+    }
+}
+
+impl fmt::Display for Kind {
+    fn fmt(&self, f: &mut fmt::Formatter<'_>) -> fmt::Result {
+        f.pad(&format!(
+            "{} ({})",
+            self.name().unwrap_or("no kind"),
+            self.0
+        ))
     }
 }
 
@@ -118,28 +199,96 @@ impl Bandwidth {
     }
 }
 
-/// A value's bytes in the run that was asked, and the offset of the first.
+/// A value's bytes in the run that was asked, and where they stand.
 #[derive(Clone, Copy, Debug, PartialEq, Eq, Hash)]
 pub struct Part<'a> {
     /// The offset of its first byte.
     pub offset: usize,
     /// Its bytes.
     pub bytes: &'a [u8],
+    /// The run they are in.
+    pub run: Run,
+    /// The fragment of that run, 0.
+    pub fragment: u8,
 }
 
-/// The run that a refusal is about.
+/// A run that something stands in.
 #[derive(Clone, Copy, Debug, PartialEq, Eq, Hash)]
+#[non_exhaustive]
 pub enum Run {
     /// The sub-TLVs of a link.
-    A,
+    A = 0,
     /// The TLVs 238 of a link.
-    B,
+    B = 1,
     /// A BGP-LS run.
-    BgpLs,
+    BgpLs = 2,
+    /// The legacy SRLGs of a link.
+    C = 7,
+}
+
+impl fmt::Display for Run {
+    fn fmt(&self, f: &mut fmt::Formatter<'_>) -> fmt::Result {
+        f.pad(match self {
+            Run::A => "run A",
+            Run::B => "run B",
+            Run::BgpLs => "the BGP-LS run",
+            Run::C => "run C",
+        })
+    }
+}
+
+/// Where an element begins.
+#[derive(Clone, Copy, Debug, PartialEq, Eq, Hash)]
+pub struct Place {
+    /// The run it is in.
+    pub run: Run,
+    /// The offset of its first byte.
+    pub offset: usize,
+    /// The fragment of that run, 0.
+    pub fragment: u8,
+}
+
+/// In words: `run A at 14`.
+impl fmt::Display for Place {
+    fn fmt(&self, f: &mut fmt::Formatter<'_>) -> fmt::Result {
+        f.pad(&format!("{} at {}", self.run, self.offset))
+    }
+}
+
+/// The rule that gave a subject its kind, or gave it none.
+#[derive(Clone, Copy, Debug, PartialEq, Eq, Hash)]
+pub enum Rule {
+    /// An advertisement with the L-flag names the application: legacy values.
+    LFlag = 0,
+    /// Advertisements name the application (RSVP-TE: and have the kind).
+    Named = 1,
+    /// The general set was asked for.
+    General = 2,
+    /// Nothing names the application: the general set.
+    Unnamed = 3,
+    /// Legacy values, without an L-flag: what RSVP-TE is given by no advertisement that names it, or
+    /// a bandwidth that no ASLA gives.
+    Legacy = 4,
+    /// An ASLA gives a bandwidth.
+    Carried = 5,
+    /// The top level of a BGP-LS run: a bandwidth, or RSVP-TE's kinds.
+    Top = 6,
+}
+
+/// Why a subject gets what it gets of a kind, be it absent.
+#[derive(Clone, Copy, Debug, PartialEq, Eq, Hash)]
+pub struct Why {
+    /// The rule.
+    pub rule: Rule,
+    /// The advertisement that decides by it, or holds the value; of SRLGs the first that counts.
+    pub advertisement: Option<Place>,
+    /// The run of the legacy values, where the rule is [`Rule::Legacy`].
+    pub legacy: Option<Run>,
 }
 
 /// Why a call was refused. After one nothing was written.
 #[derive(Clone, Copy, Debug, PartialEq, Eq, Hash)]
+#[non_exhaustive]
 pub enum Refusal {
     /// 1: a run is too long.
     TooLong,
@@ -152,6 +301,8 @@ pub enum Refusal {
         run: Run,
         /// The element's first byte.
         offset: usize,
+        /// The fragment of that run, 0.
+        fragment: u8,
     },
     /// 4: a known kind or link identifier has a wrong length.
     Length {
@@ -159,6 +310,8 @@ pub enum Refusal {
         run: Run,
         /// The element's first byte.
         offset: usize,
+        /// The fragment of that run, 0.
+        fragment: u8,
     },
     /// 5: the result is longer than the room that was lent.
     NoRoom,
@@ -185,33 +338,57 @@ impl Refusal {
             Refusal::NoKind => 7,
         }
     }
-}
 
-impl fmt::Display for Run {
-    fn fmt(&self, f: &mut fmt::Formatter<'_>) -> fmt::Result {
-        f.write_str(match self {
-            Run::A => "run A",
-            Run::B => "run B",
-            Run::BgpLs => "the BGP-LS run",
-        })
+    /// Where the faulty element begins, if one is to blame (3 and 4).
+    pub fn place(self) -> Option<Place> {
+        match self {
+            Refusal::Cut {
+                run,
+                offset,
+                fragment,
+            }
+            | Refusal::Length {
+                run,
+                offset,
+                fragment,
+            } => Some(Place {
+                run,
+                offset,
+                fragment,
+            }),
+            _ => None,
+        }
+    }
+
+    fn reason(self) -> &'static str {
+        match self {
+            Refusal::TooLong => "a run is too long",
+            Refusal::OddSrlgs => "the length of run C is not a multiple of 4",
+            Refusal::Cut { .. } => "an element is cut",
+            Refusal::Length { .. } => "an element has a wrong length",
+            Refusal::NoRoom => "the result is longer than the room lent",
+            Refusal::NoApplication => "there is no such application",
+            Refusal::NoKind => "the code is none of the fourteen",
+        }
     }
 }
 
+/// In words, with the number and the place.
+///
+/// ```
+/// use nakhshirul::Link;
+///
+/// // The second TE metric has two bytes.
+/// let link = Link { a: &[0x12, 3, 0, 0, 10, 0x12, 2, 0, 10], b: &[], c: &[] };
+/// let refusal = link.named().unwrap_err();
+/// assert_eq!(refusal.to_string(), "refused by 4: an element has a wrong length, run A at 5");
+/// ```
 impl fmt::Display for Refusal {
     fn fmt(&self, f: &mut fmt::Formatter<'_>) -> fmt::Result {
-        match self {
-            Refusal::TooLong => f.write_str("a run is too long"),
-            Refusal::OddSrlgs => f.write_str("the length of run C is not a multiple of 4"),
-            Refusal::Cut { run, offset } => {
-                write!(f, "an element is cut at offset {offset} of {run}")
-            }
-            Refusal::Length { run, offset } => write!(
-                f,
-                "an element has a wrong length at offset {offset} of {run}"
-            ),
-            Refusal::NoRoom => f.write_str("the result is longer than the room lent"),
-            Refusal::NoApplication => f.write_str("the application's number is above 63"),
-            Refusal::NoKind => f.write_str("the code is none of the fourteen"),
+        write!(f, "refused by {}: {}", self.number(), self.reason())?;
+        match self.place() {
+            None => Ok(()),
+            Some(place) => write!(f, ", {place}"),
         }
     }
 }
@@ -316,41 +493,62 @@ impl Iterator for Iter {
 
 impl ExactSizeIterator for Iter {}
 
-/// The two numbers of a reply, read by its status. It is proved of the library that it gives no
+/// The four numbers of a reply, read by its status. It is proved of the library that it gives no
 /// other status, and names no other run, than those that are read here.
-pub(crate) struct Reply([u64; 2]);
+pub(crate) struct Reply([u64; 4]);
 
 impl Reply {
     pub(crate) fn new() -> Reply {
-        Reply([0; 2])
+        Reply([0; 4])
     }
 
     pub(crate) fn as_mut_ptr(&mut self) -> *mut u64 {
         self.0.as_mut_ptr()
     }
 
-    fn part_of<'a>(&self, run: &'a [u8]) -> Part<'a> {
-        let offset = self.0[0] as usize;
-        let len = self.0[1] as usize;
+    fn offset(&self) -> usize {
+        self.0[0] as usize
+    }
+
+    fn run(&self) -> Run {
+        match self.0[2] {
+            0 => Run::A,
+            1 => Run::B,
+            2 => Run::BgpLs,
+            7 => Run::C,
+            n => unreachable!("run {n}"),
+        }
+    }
+
+    fn fragment(&self) -> u8 {
+        self.0[3] as u8
+    }
+
+    fn part_of<'a>(&self, bytes: &'a [u8]) -> Part<'a> {
+        let offset = self.offset();
         Part {
             offset,
-            bytes: &run[offset..offset + len],
+            bytes: &bytes[offset..offset + self.0[1] as usize],
+            run: self.run(),
+            fragment: self.fragment(),
         }
     }
 
     fn refusal(&self, status: u64) -> Refusal {
-        let offset = self.0[1] as usize;
-        let run = match self.0[0] {
-            0 => Run::A,
-            1 => Run::B,
-            2 => Run::BgpLs,
-            n => unreachable!("run {n}"),
-        };
+        let (run, offset, fragment) = (self.run(), self.offset(), self.fragment());
         match status {
             129 => Refusal::TooLong,
             130 => Refusal::OddSrlgs,
-            131 => Refusal::Cut { run, offset },
-            132 => Refusal::Length { run, offset },
+            131 => Refusal::Cut {
+                run,
+                offset,
+                fragment,
+            },
+            132 => Refusal::Length {
+                run,
+                offset,
+                fragment,
+            },
             133 => Refusal::NoRoom,
             134 => Refusal::NoApplication,
             135 => Refusal::NoKind,
@@ -364,7 +562,7 @@ impl Reply {
         run: &'a [u8],
         list: &'l [u32],
     ) -> Answer<'a, 'l> {
-        let [first, second] = self.0;
+        let [first, second, ..] = self.0;
         Answer::Found(match status {
             0 => return Answer::Absent,
             1 => Reading::Number(first as u32),
@@ -384,8 +582,35 @@ impl Reply {
         if status != 6 {
             return Err(self.refusal(status));
         }
-        let [standard, user] = self.0;
+        let [standard, user, ..] = self.0;
         Ok(Applications { standard, user })
+    }
+
+    pub(crate) fn why(&self, status: u64) -> Result<Why, Refusal> {
+        if status != 16 {
+            return Err(self.refusal(status));
+        }
+        let [number, offset, ..] = self.0;
+        let rule = match number {
+            0 => Rule::LFlag,
+            1 => Rule::Named,
+            2 => Rule::General,
+            3 => Rule::Unnamed,
+            4 => Rule::Legacy,
+            5 => Rule::Carried,
+            6 => Rule::Top,
+            n => unreachable!("rule {n}"),
+        };
+        let told = offset != u64::MAX;
+        Ok(Why {
+            rule,
+            advertisement: told.then(|| Place {
+                run: self.run(),
+                offset: offset as usize,
+                fragment: self.fragment(),
+            }),
+            legacy: (rule == Rule::Legacy).then(|| self.run()),
+        })
     }
 
     pub(crate) fn written<'o>(&self, status: u64, out: &'o [u8]) -> Result<&'o [u8], Refusal> {

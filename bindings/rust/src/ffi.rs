@@ -46,6 +46,18 @@ extern "C" {
         out_len: usize,
         reply: *mut u64,
     ) -> u64;
+    pub fn nakhshirul_why(
+        a: *const u8,
+        a_len: usize,
+        b: *const u8,
+        b_len: usize,
+        c: *const u8,
+        c_len: usize,
+        who: u8,
+        number: u64,
+        code: u16,
+        reply: *mut u64,
+    ) -> u64;
     pub fn nakhshirul_run_ask(
         run: *const u8,
         run_len: usize,
@@ -65,4 +77,12 @@ extern "C" {
         reply: *mut u64,
     ) -> u64;
     pub fn nakhshirul_run_named(run: *const u8, run_len: usize, reply: *mut u64) -> u64;
+    pub fn nakhshirul_run_why(
+        run: *const u8,
+        run_len: usize,
+        who: u8,
+        number: u64,
+        code: u16,
+        reply: *mut u64,
+    ) -> u64;
 }

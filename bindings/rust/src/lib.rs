@@ -28,14 +28,16 @@
 //! assert_eq!(run.ask(Subject::Standard(1), code::TE_METRIC, &mut []), Answer::Found(Reading::Number(20)));
 //! ```
 //!
-//! A call takes up to 2 MiB of stack: give a thread that asks for SRLGs of BGP-LS runs at least 4 MiB.
+//! [`BgpLs::ask`] takes up to 1.6 MiB of stack where a run has more than 512 SRLGs for the subject, [`Link::export`]
+//! 75 KiB, every other call less than 16 KiB.
 #![warn(missing_docs)]
 
 mod answers;
 mod ffi;
 
 pub use answers::{
-    Answer, Application, Applications, Bandwidth, Iter, Part, Reading, Refusal, Run, Subject,
+    Answer, Application, Applications, Bandwidth, Iter, Kind, Part, Place, Reading, Refusal, Rule,
+    Run, Subject, Why,
 };
 
 use answers::Reply;
@@ -78,6 +80,12 @@ pub mod code {
 
 /// No export is longer.
 pub const LONGEST_EXPORT: usize = 310_644;
+
+/// No answer of a link has more SRLGs.
+pub const MOST_LINK_SRLGS: usize = 464;
+
+/// No answer of a BGP-LS run has more SRLGs.
+pub const MOST_RUN_SRLGS: usize = 131_064;
 
 /// An IS-IS link.
 #[derive(Clone, Copy, Debug, PartialEq, Eq)]
@@ -122,7 +130,7 @@ impl<'a> Link<'a> {
     /// ```
     pub fn ask<'l>(&self, whom: Subject, code: u16, list: &'l mut [u32]) -> Answer<'a, 'l> {
         let mut reply = Reply::new();
-        // SAFETY: each pointer is that of a slice, so not null, and goes with its length; `reply` has two numbers.
+        // SAFETY: each pointer is that of a slice and goes with its length; `reply` has four numbers.
         let status = unsafe {
             ffi::nakhshirul_ask(
                 self.a.as_ptr(),
@@ -146,11 +154,11 @@ impl<'a> Link<'a> {
     /// refused, or SRLG.
     ///
     /// ```
-    /// use nakhshirul::{code, Link, Subject};
+    /// use nakhshirul::{code, Link, Run, Subject};
     ///
     /// let link = Link { a: &[0x12, 3, 0, 0, 10], b: &[], c: &[] };
     /// let part = link.value(Subject::Standard(0), code::TE_METRIC).unwrap();
-    /// assert_eq!((part.offset, part.bytes), (2, &[0, 0, 10][..]));
+    /// assert_eq!((part.run, part.offset, part.bytes), (Run::A, 2, &[0, 0, 10][..]));
     /// assert_eq!(link.value(Subject::Standard(1), code::TE_METRIC), None);
     /// ```
     pub fn value(&self, whom: Subject, code: u16) -> Option<Part<'a>> {
@@ -171,6 +179,49 @@ impl<'a> Link<'a> {
             )
         };
         reply.part(status, self.a)
+    }
+
+    /// By which rule the subject gets the kind, and which advertisement decides. Every question that
+    /// [`Link::ask`] answers has an answer here, found or absent.
+    ///
+    /// ```
+    /// use nakhshirul::{code, Link, Place, Rule, Run, Subject};
+    ///
+    /// let a = [
+    ///     0x12, 3, 0, 0, 10, // TE metric
+    ///     0x10, 3, 0x81, 0, 0x40, // ASLA with the L-flag that names SR Policy
+    ///     0x10, 7, 0, 0, 0x12, 3, 0, 0, 30, // ASLA that names nobody
+    /// ];
+    /// let link = Link { a: &a, b: &[], c: &[] };
+    /// let why = link.why(Subject::Standard(1), code::TE_METRIC).unwrap();
+    /// assert_eq!(why.rule, Rule::LFlag);
+    /// assert_eq!(why.advertisement, Some(Place { run: Run::A, offset: 5, fragment: 0 }));
+    ///
+    /// let why = link.why(Subject::Standard(2), code::TE_METRIC).unwrap();
+    /// assert_eq!((why.rule, why.advertisement.unwrap().offset), (Rule::Unnamed, 10));
+    ///
+    /// // RSVP-TE is named nowhere: its SRLGs are those of run C, be there some or none.
+    /// let why = link.why(Subject::Standard(0), code::SRLG).unwrap();
+    /// assert_eq!((why.rule, why.advertisement, why.legacy), (Rule::Legacy, None, Some(Run::C)));
+    /// ```
+    pub fn why(&self, whom: Subject, code: u16) -> Result<Why, Refusal> {
+        let mut reply = Reply::new();
+        // SAFETY: as in `ask`.
+        let status = unsafe {
+            ffi::nakhshirul_why(
+                self.a.as_ptr(),
+                self.a.len(),
+                self.b.as_ptr(),
+                self.b.len(),
+                self.c.as_ptr(),
+                self.c.len(),
+                whom.who(),
+                whom.number(),
+                code,
+                reply.as_mut_ptr(),
+            )
+        };
+        reply.why(status)
     }
 
     /// The applications other than RSVP-TE that the link names.
@@ -214,7 +265,7 @@ impl<'a> Link<'a> {
     /// assert_eq!(link.export(&mut out[..7]), Err(Refusal::NoRoom));
     ///
     /// let cut = Link { a: &[0x12, 3, 0, 0, 10, 0x12], b: &[], c: &[] };
-    /// assert_eq!(cut.export(&mut out), Err(Refusal::Cut { run: Run::A, offset: 5 }));
+    /// assert_eq!(cut.export(&mut out), Err(Refusal::Cut { run: Run::A, offset: 5, fragment: 0 }));
     /// ```
     pub fn export<'o>(&self, out: &'o mut [u8]) -> Result<&'o [u8], Refusal> {
         let mut reply = Reply::new();
@@ -271,7 +322,7 @@ impl<'a> BgpLs<'a> {
     /// // A TE metric has four bytes in BGP-LS.
     /// let run = BgpLs { run: &[0, 1, 0, 0, 0x04, 0x44, 0, 3, 0, 0, 10] };
     /// let wrong = run.ask(Subject::Standard(0), code::TE_METRIC, &mut []);
-    /// assert_eq!(wrong, Answer::Refused(Refusal::Length { run: Run::BgpLs, offset: 4 }));
+    /// assert_eq!(wrong, Answer::Refused(Refusal::Length { run: Run::BgpLs, offset: 4, fragment: 0 }));
     /// ```
     pub fn ask<'l>(&self, whom: Subject, code: u16, list: &'l mut [u32]) -> Answer<'a, 'l> {
         let mut reply = Reply::new();
@@ -314,6 +365,33 @@ impl<'a> BgpLs<'a> {
             )
         };
         reply.part(status, self.run)
+    }
+
+    /// By which rule the subject gets the kind, as [`Link::why`].
+    ///
+    /// ```
+    /// use nakhshirul::{code, BgpLs, Rule, Subject};
+    ///
+    /// // An ASLA TLV that names nobody, with a TE metric of 30.
+    /// let run = BgpLs { run: &[0x04, 0x62, 0, 12, 0, 0, 0, 0, 0x04, 0x44, 0, 4, 0, 0, 0, 30] };
+    /// let why = run.why(Subject::User(5), code::TE_METRIC).unwrap();
+    /// assert_eq!((why.rule, why.advertisement.unwrap().offset), (Rule::Unnamed, 0));
+    /// assert_eq!(run.why(Subject::Standard(0), code::TE_METRIC).unwrap().rule, Rule::Top);
+    /// ```
+    pub fn why(&self, whom: Subject, code: u16) -> Result<Why, Refusal> {
+        let mut reply = Reply::new();
+        // SAFETY: as in `Link::ask`.
+        let status = unsafe {
+            ffi::nakhshirul_run_why(
+                self.run.as_ptr(),
+                self.run.len(),
+                whom.who(),
+                whom.number(),
+                code,
+                reply.as_mut_ptr(),
+            )
+        };
+        reply.why(status)
     }
 
     /// The applications other than RSVP-TE that the run names.

@@ -2,4 +2,5 @@ pub mod MaskHeader
 pub mod RunA
 pub mod RunB
 pub mod Link
+pub mod Why
 pub mod Starred

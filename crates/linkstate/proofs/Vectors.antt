@@ -18,6 +18,8 @@ use Rattle.linkstate.specs.Questions.{Source, Subject, generally, standa
 use Rattle.linkstate.specs.Meaning.{Meaning, meaning}
 use Rattle.linkstate.specs.Export.{export}
 use Rattle.linkstate.specs.BgpLs.{runVerdict, runSource}
+use Rattle.linkstate.specs.Why.{Rule, byL, byName, generalAsked, unnamed, byLegacy, carried, atTop, ruleNumber, Why, because, whyRefused, heldAt, nowhere}
+use Rattle.linkstate.specs.RunWhy.{runWhy}
 use Rattle.linkstate.proofs.Computing.{computing}
 
 -- Whole numbers as tests.
@@ -280,3 +282,40 @@ parts = (refl, refl, refl)
 named-as-powers : listNamed (runSource (asla 12 (4 ∷ 4 ∷ 0 ∷ 0 ∷ 0xE0 ∷ 0 ∷ 0 ∷ 0 ∷ 0x80 ∷ 0 ∷ 0 ∷ 0 ∷ []))) ≡ listed 6 1
 unfolding computing asla
 named-as-powers = refl
+
+-- ---- why
+
+rule-numbers : map ruleNumber (byL ∷ byName ∷ generalAsked ∷ unnamed ∷ byLegacy ∷ carried ∷ atTop ∷ []) ≡ numbers 0 7
+unfolding computing
+rule-numbers = refl
+
+-- A metric at the top; 1122s for SR Policy, the first with SRLG 7 and the second with the metric; a general one with an SRLG TLV of no value, and one with the metric.
+why-run : List ℕ
+why-run =
+    (0x04 ∷ 0x44 ∷ 0 ∷ 4 ∷ 0 ∷ 0 ∷ 0 ∷ 10 ∷ []) ++ asla 16 (4 ∷ 0 ∷ 0 ∷ 0 ∷ 0x40 ∷ 0 ∷ 0 ∷ 0 ∷ 0x04 ∷ 0x48 ∷ 0 ∷ 4 ∷ 0 ∷ 0 ∷ 0 ∷ 7 ∷ [])
+    ++ asla 16 (4 ∷ 0 ∷ 0 ∷ 0 ∷ 0xC0 ∷ 0 ∷ 0 ∷ 0 ∷ 0x04 ∷ 0x44 ∷ 0 ∷ 4 ∷ 0 ∷ 0 ∷ 0 ∷ 20 ∷ [])
+    ++ asla 8 (0 ∷ 0 ∷ 0 ∷ 0 ∷ 0x04 ∷ 0x48 ∷ 0 ∷ 0 ∷ []) ++ asla 12 (0 ∷ 0 ∷ 0 ∷ 0 ∷ 0x04 ∷ 0x44 ∷ 0 ∷ 4 ∷ 0 ∷ 0 ∷ 0 ∷ 30 ∷ [])
+
+abbrev inRun : Rule → ℕ → Why
+inRun x n = because x (heldAt (place runBgpLs n))
+
+-- Bandwidths, whoever asks, and RSVP-TE's kinds stand at the top; SR Policy is named, of the metric in the second 1122, of the rest in the first; others have the general set.
+run-rules :
+    (map (λ whom. runWhy why-run whom 1092) (standardNo 0 ∷ standardNo 1 ∷ standardNo 2 ∷ userNo 1 ∷ generally ∷ [])
+    ≡ because atTop nowhere ∷ inRun byName 28 ∷ inRun unnamed 60 ∷ inRun unnamed 60 ∷ inRun generalAsked 60 ∷ [])
+    × (map (runWhy why-run (standardNo 1)) (1114 ∷ 1096 ∷ 1089 ∷ []) ≡ inRun byName 8 ∷ inRun byName 8 ∷ because atTop nowhere ∷ [])
+    × (map (runWhy why-run generally) (1114 ∷ 1096 ∷ 1091 ∷ []) ≡ because generalAsked nowhere ∷ because generalAsked nowhere ∷ because atTop nowhere ∷ [])
+    × (map (runWhy why-run (standardNo 2)) (1114 ∷ 1096 ∷ []) ≡ because unnamed nowhere ∷ because unnamed nowhere ∷ [])
+unfolding computing asla why-run
+run-rules = (refl, refl, refl, refl)
+
+-- Of general SRLGs the first 1122, if any has a number.
+run-general-srlgs : runWhy (why-run ++ asla 12 (0 ∷ 0 ∷ 0 ∷ 0 ∷ 0x04 ∷ 0x48 ∷ 0 ∷ 4 ∷ 0 ∷ 0 ∷ 0 ∷ 9 ∷ [])) generally 1096 ≡ inRun generalAsked 48
+unfolding computing asla why-run
+run-general-srlgs = refl
+
+run-refusals :
+    runWhy (4 ∷ []) (userNo 64) 9999 ∷ runWhy (4 ∷ []) (standardNo 63) 9999 ∷ runWhy (4 ∷ []) generally 1092 ∷ []
+    ≡ whyRefused (refusalAt 6 runA 0) ∷ whyRefused (refusalAt 7 runA 0) ∷ whyRefused (refusalAt 3 runBgpLs 0) ∷ []
+unfolding computing
+run-refusals = refl

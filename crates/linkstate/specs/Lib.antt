@@ -10,5 +10,7 @@ pub mod Questions
 pub mod Meaning
 pub mod Export
 pub mod BgpLs
+pub mod Why
+pub mod RunWhy
 pub mod Rival
 pub mod WellFormed

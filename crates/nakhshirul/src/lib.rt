@@ -1,4 +1,4 @@
-// The C interface (include/nakhshirul.h): seven functions over the entries. A run is a pointer and a length, the reply two 64-bit numbers, the result a status.
+// The C interface (include/nakhshirul.h): seven functions over the entries. A run is a pointer and a length, the reply four 64-bit numbers, the result a status.
 // What each status and reply says is `askWords`, `valueWords`, `namedWords` and `lengthWords` of the crate statuses. Every call is answered: no function has a `requires`.
 ghost use mathlib.Core.Path.{_≡_};
 ghost use mathlib.Core.List.{_∷_};
@@ -17,7 +17,7 @@ pub extern "C" fn nakhshirul_ask(
     number: u64,
     code: u16,
     list: &mut [u32],
-    reply: &mut [u64; 2],
+    reply: &mut [u64; 4],
 ) -> u64
     ensures { λ r. ⌜ (r ∷ now (reply .exit) ≡ askWords (linkSource (now (a .entry)) (now (b .entry)) (now (c .entry))) (whomOf who number) code (now (list .entry))) × (now (list .exit) ≡ (ask (linkSource (now (a .entry)) (now (b .entry)) (now (c .entry))) (whomOf who number) code (now (list .entry))) .list) ⌝ }
 {
@@ -35,7 +35,7 @@ pub extern "C" fn nakhshirul_value(
     who: u8,
     number: u64,
     code: u16,
-    reply: &mut [u64; 2],
+    reply: &mut [u64; 4],
 ) -> u64
     ensures { λ r. ⌜ r ∷ now (reply .exit) ≡ valueWords (linkSource (now (a .entry)) (now (b .entry)) (now (c .entry))) (whomOf who number) code ⌝ }
 {
@@ -46,7 +46,7 @@ pub extern "C" fn nakhshirul_value(
 
 // The named applications of a link: status 6, or refused.
 #[no_mangle]
-pub extern "C" fn nakhshirul_named(a: &[u8], b: &[u8], c: &[u8], reply: &mut [u64; 2]) -> u64
+pub extern "C" fn nakhshirul_named(a: &[u8], b: &[u8], c: &[u8], reply: &mut [u64; 4]) -> u64
     ensures { λ r. ⌜ r ∷ now (reply .exit) ≡ namedWords (listNamed (linkSource (now (a .entry)) (now (b .entry)) (now (c .entry)))) ⌝ }
 {
     let x = isis_link::named(a, b, c);
@@ -61,7 +61,7 @@ pub extern "C" fn nakhshirul_export(
     b: &[u8],
     c: &[u8],
     out: &mut [u8],
-    reply: &mut [u64; 2],
+    reply: &mut [u64; 4],
 ) -> u64
     ensures { λ r. ⌜ (r ∷ now (reply .exit) ≡ lengthWords ((exportLink (now (a .entry)) (now (b .entry)) (now (c .entry)) (now (out .entry))) .reply)) × (now (out .exit) ≡ (exportLink (now (a .entry)) (now (b .entry)) (now (c .entry)) (now (out .entry))) .buffer) ⌝ }
 {
@@ -78,7 +78,7 @@ pub extern "C" fn nakhshirul_run_ask(
     number: u64,
     code: u16,
     list: &mut [u32],
-    reply: &mut [u64; 2],
+    reply: &mut [u64; 4],
 ) -> u64
     ensures { λ r. ⌜ (r ∷ now (reply .exit) ≡ askWords (runSource (now (run .entry))) (whomOf who number) code (now (list .entry))) × (now (list .exit) ≡ (ask (runSource (now (run .entry))) (whomOf who number) code (now (list .entry))) .list) ⌝ }
 {
@@ -94,7 +94,7 @@ pub extern "C" fn nakhshirul_run_value(
     who: u8,
     number: u64,
     code: u16,
-    reply: &mut [u64; 2],
+    reply: &mut [u64; 4],
 ) -> u64
     ensures { λ r. ⌜ r ∷ now (reply .exit) ≡ valueWords (runSource (now (run .entry))) (whomOf who number) code ⌝ }
 {
@@ -105,7 +105,7 @@ pub extern "C" fn nakhshirul_run_value(
 
 // The named applications of a run: status 6, or refused.
 #[no_mangle]
-pub extern "C" fn nakhshirul_run_named(run: &[u8], reply: &mut [u64; 2]) -> u64
+pub extern "C" fn nakhshirul_run_named(run: &[u8], reply: &mut [u64; 4]) -> u64
     ensures { λ r. ⌜ r ∷ now (reply .exit) ≡ namedWords (listNamed (runSource (now (run .entry)))) ⌝ }
 {
     let x = bgpls_reader::named(run);

@@ -3,6 +3,7 @@ use mathlib.Core.List.{List}
 use Prim.Native.Nat.{ℕ}
 use Rattle.linkstate.specs.Replies as R
 use Rattle.linkstate.specs.Questions as Q
+use Rattle.linkstate.specs.Why as W
 use Rattle.replies.specs.declared.Run.{Run}
 use Rattle.replies.specs.declared.Run.the-variants.{A, B, C, BgpLs}
 use Rattle.replies.specs.declared.Place.{Place}
@@ -15,6 +16,12 @@ use Rattle.replies.specs.declared.Named.{Named}
 use Rattle.replies.specs.declared.Named.the-variants as Names
 use Rattle.replies.specs.declared.Written.{Written}
 use Rattle.replies.specs.declared.Written.the-variants as Writes
+use Rattle.replies.specs.declared.Rule.{Rule}
+use Rattle.replies.specs.declared.Rule.the-variants as Rules
+use Rattle.replies.specs.declared.Holder.{Holder}
+use Rattle.replies.specs.declared.Holder.the-variants as Holders
+use Rattle.replies.specs.declared.Why.{Why}
+use Rattle.replies.specs.declared.Why.the-variants as Whys
 use Rattle.replies.specs.declared.Checked.{Checked}
 use Rattle.replies.specs.declared.Checked.the-variants as Checks
 use Rattle.replies.specs.declared.Subject.{Subject}
@@ -51,6 +58,24 @@ toldNamed (Names.Refused r) = R.namedRefused (toldRefusal r)
 abbrev pub toldWritten : Written → R.Length
 toldWritten (Writes.Bytes n) = R.bytes n
 toldWritten (Writes.Refused r) = R.exportRefused (toldRefusal r)
+
+abbrev pub toldRule : Rule → W.Rule
+toldRule Rules.ByL = W.byL
+toldRule Rules.Named = W.byName
+toldRule Rules.General = W.generalAsked
+toldRule Rules.Unnamed = W.unnamed
+toldRule Rules.Legacy = W.byLegacy
+toldRule Rules.Carried = W.carried
+toldRule Rules.Top = W.atTop
+
+abbrev pub toldHolder : Holder → W.Holder
+toldHolder (Holders.At p) = W.heldAt (toldPlace p)
+toldHolder (Holders.Legacy r) = W.legacyIn (toldRun r)
+toldHolder Holders.Nowhere = W.nowhere
+
+abbrev pub toldWhy : Why → W.Why
+toldWhy (Whys.Because x h) = W.because (toldRule x) (toldHolder h)
+toldWhy (Whys.Refused r) = W.whyRefused (toldRefusal r)
 
 abbrev pub toldChecked : Checked → R.Verdict
 toldChecked Checks.Accepted = R.accepted

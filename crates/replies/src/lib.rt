@@ -53,6 +53,31 @@ pub enum Written {
     Refused(Refusal),
 }
 
+// The rule that gave a subject its kind: an advertisement with L names the application; some name it; the general set was asked for; none names it,
+// so that the general set counts; legacy without an L-flag; an ASLA gives a bandwidth; the top level of a BGP-LS run.
+pub enum Rule {
+    ByL,
+    Named,
+    General,
+    Unnamed,
+    Legacy,
+    Carried,
+    Top,
+}
+
+// What decides or holds the value: an advertisement, told by the first byte of its element; legacy values, told by their run; or nothing that is told.
+pub enum Holder {
+    At(Place),
+    Legacy(Run),
+    Nowhere,
+}
+
+// Why a subject gets what it gets of a kind.
+pub enum Why {
+    Because { rule: Rule, holder: Holder },
+    Refused(Refusal),
+}
+
 // What the checks of a run found: nothing, or the first refusal.
 pub enum Checked {
     Accepted,

@@ -29,7 +29,7 @@ use Rattle.answering.proofs.Entries.{ask-refused, ask-answered, answer-other, v
 use Rattle.isis_grids.specs.Grid.{firstRow}
 use Rattle.bgpls_find.specs.declared.Found.the-variants.{At, Absent}
 use Rattle.bgpls_find.specs.Sets.{foundIn}
-use Rattle.statuses.specs.Words.{nothing, refusalWords, readingWords, replyWords, askWords, placeWords, valueWords}
+use Rattle.statuses.specs.Words.{two, nothing, placed, refusalWords, readingWords, replyWords, askWords, placeWords, valueWords}
 use Rattle.statuses.proofs.Laws.{no-bits, IsBandwidth, status-3}
 use Rattle.status_entries.specs.Answered.{Answers}
 
@@ -66,9 +66,9 @@ finds s whom k list x = go (beforeAnswer s whom k) refl (eqb k 1096) refl
 
 module _ (s : List ℕ) (run : Run) (p n : ℕ) where
   -- A float by the bits of the code's slice.
-  pub float-words : (f : Form) → f ≡ float → 3 ∷ number (take (p + n - p) (drop p s)) ∷ 0 ∷ [] ≡ readingWords (number (bytesAt s p n)) (readingAs f run (standing s p n))
+  pub float-words : (f : Form) → f ≡ float → two 3 (number (take (p + n - p) (drop p s))) 0 ≡ readingWords (number (bytesAt s p n)) (readingAs f run (standing s p n))
   unfolding readingAs
-  float-words f e = rw e (ap (λ (v : List ℕ). 3 ∷ number v ∷ 0 ∷ []) (part-is s p n))
+  float-words f e = rw e (ap (λ (v : List ℕ). two 3 (number v) 0) (part-is s p n))
 
   -- Any other form has no bits.
   pub other-words : (f : CodeForm) → OneOf (0 ∷ 1 ∷ 3 ∷ 4 ∷ []) (tagOf the-type f) → (g : Form) → toldForm f ≡ g → (x : Reading) → x ≡ readingAs (toldForm f) run (standing s p n)
@@ -95,7 +95,7 @@ module _ (s : Source) (whom : Subject) (k : ℕ) where
   unfolding valueWords unless
   place-srlg w n e h = n ∙ rw (e, eq-eqb k 1096 h)
 
-  pub place-first : (w : List ℕ) → beforeAnswer s whom k ≡ accepted → (k ≡ 1096 → ⊥) → w ≡ placeWords (ofKind k (given s whom k)) → w ≡ valueWords s whom k
+  pub place-first : (w : List ℕ) → beforeAnswer s whom k ≡ accepted → (k ≡ 1096 → ⊥) → w ≡ placeWords (s .run) (ofKind k (given s whom k)) → w ≡ valueWords s whom k
   unfolding valueWords unless
   place-first w e h p = rw (e, ne-eqb k 1096 h) p
 
@@ -103,29 +103,29 @@ pub none-first : (run : Run) (ts : List Attribute) → ts ≡ [] → firstOf run
 unfolding firstOf
 none-first run ts e = rw e
 
-first-none : (run : Run) (ts : List Attribute) → firstOf run ts ≡ absent → nothing ≡ placeWords ts
+first-none : (run : Run) (ts : List Attribute) → firstOf run ts ≡ absent → nothing ≡ placeWords run ts
 unfolding firstOf placeWords
 first-none run [] e = refl
 first-none run (t ∷ ts) e = absurd (let z : _≡_ {A = ℕ} 0 1 = cc in omega arith)
 
-pub row-placed : (row : List ℕ) (ts : List Attribute) → row ≡ firstRow ts → (getD row 0 0 ≡ 0 → ⊥) → 4 ∷ getD row 0 0 ∷ getD row 1 0 ∷ [] ≡ placeWords ts
+pub row-placed : (run : Run) (row : List ℕ) (ts : List Attribute) → row ≡ firstRow ts → (getD row 0 0 ≡ 0 → ⊥) → placed 4 (getD row 0 0) (getD row 1 0) run ≡ placeWords run ts
 unfolding firstRow placeWords
-row-placed row [] e h = absurd (h (ap (λ (x : List ℕ). getD x 0 0) e))
-row-placed row (t ∷ ts) e h = rw e
+row-placed run row [] e h = absurd (h (ap (λ (x : List ℕ). getD x 0 0) e))
+row-placed run row (t ∷ ts) e h = rw e
 
-pub row-not-placed : (a : List ℕ) (run : Run) (k : ℕ) (row : List ℕ) (ts : List Attribute) → firstOf run ts ≡ rowAnswer a run k (getD row 0 0) (getD row 1 0) → getD row 0 0 ≡ 0 → nothing ≡ placeWords ts
+pub row-not-placed : (a : List ℕ) (run : Run) (k : ℕ) (row : List ℕ) (ts : List Attribute) → firstOf run ts ≡ rowAnswer a run k (getD row 0 0) (getD row 1 0) → getD row 0 0 ≡ 0 → nothing ≡ placeWords run ts
 unfolding rowAnswer
 row-not-placed a run k row ts e z = first-none run ts (e ∙ rw z)
 
-pub found-placed : (ts : List Attribute) (p n : ℕ) → At p n ≡ foundIn ts → 4 ∷ p ∷ n ∷ [] ≡ placeWords ts
+pub found-placed : (run : Run) (ts : List Attribute) (p n : ℕ) → At p n ≡ foundIn ts → placed 4 p n run ≡ placeWords run ts
 unfolding foundIn placeWords
-found-placed [] p n e = absurd (let z : _≡_ {A = ℕ} 0 1 = cc in omega arith)
-found-placed (t ∷ ts) p n e = let x : p ≡ t .at = cc in let y : n ≡ t .len = cc in rw (x, y)
+found-placed run [] p n e = absurd (let z : _≡_ {A = ℕ} 0 1 = cc in omega arith)
+found-placed run (t ∷ ts) p n e = let x : p ≡ t .at = cc in let y : n ≡ t .len = cc in rw (x, y)
 
-pub found-nowhere : (ts : List Attribute) → Absent ≡ foundIn ts → nothing ≡ placeWords ts
+pub found-nowhere : (run : Run) (ts : List Attribute) → Absent ≡ foundIn ts → nothing ≡ placeWords run ts
 unfolding foundIn placeWords
-found-nowhere [] e = refl
-found-nowhere (t ∷ ts) e = absurd (let z : _≡_ {A = ℕ} 0 1 = cc in omega arith)
+found-nowhere run [] e = refl
+found-nowhere run (t ∷ ts) e = absurd (let z : _≡_ {A = ℕ} 0 1 = cc in omega arith)
 
 -- ---- the answer to a question
 

@@ -1,4 +1,4 @@
--- No function of the C interface answers otherwise than by the statuses of its table: 0 to 5 a question, 6 and 7 named and an export, or 128 + n, refused by n from 1 to 7, in run A, run B or the BGP-LS run.
+-- No function of the C interface answers otherwise than by the statuses of its table: 0 to 5 a question, 6 and 7 named and an export, 16 why, or 128 + n, refused by n from 1 to 7, in run A, run B or the BGP-LS run.
 use mathlib.Core.Path.{_≡_, refl}
 use mathlib.Core.Logic.{_⊎_, inl, inr}
 use mathlib.Core.Bool.{Bool, true, false, cond, not, _&&_, _||_}
@@ -8,23 +8,27 @@ use native.Mathlib.Omega.{arith}
 use lib.Dec.{eqb, ltb}
 use lib.ListN.{length, getD}
 use Rattle.linkstate.specs.Lists.{empty, any, put}
-use Rattle.linkstate.specs.Kinds.{isCode, wrongInA, wrongAtTop, wrongInside}
+use Rattle.linkstate.specs.Kinds.{isCode, isLinkCode, wrongInA, wrongAtTop, wrongInside}
 use Rattle.linkstate.specs.Replies.{Run, runA, runB, runBgpLs, place, Refusal, refusalAt, Verdict, accepted, refused, fault, faultOfCall, refusedIf, _then_, unless, count, Reply, absent, found, askRefused, Named, listed, namedRefused, Length, bytes, exportRefused, Exported}
 use Rattle.linkstate.specs.Replies as R
 use Rattle.linkstate.specs.Elements.{Element, element, cut, elements, faults}
 use Rattle.linkstate.specs.Attributes.{Attribute, ofKind, srlgs}
-use Rattle.linkstate.specs.Questions.{Source, Subject, numberTooHigh, given, beforeAnswer, firstOf, unwritten, srlgAnswer, answer, ask, listNamed, write}
+use Rattle.linkstate.specs.Questions.{Source, Subject, generally, standardNo, userNo, numberTooHigh, given, beforeAnswer, firstOf, unwritten, srlgAnswer, answer, ask, listNamed, write}
 use Rattle.linkstate.specs.BgpLs as L
 use Rattle.linkstate.specs.BgpLs.{runVerdict}
 use Rattle.linkstate.specs.Masks.{user, asNumber}
+use Rattle.linkstate.specs.Sides.{Advertisement, names, named, namedWithL, ofLive, rsvpTeAlone}
+use Rattle.linkstate.specs.Why.{Rule, Holder, Why, because, whyRefused, Standing, has, legacyWhy, applicationWhy, rsvpTeWhy, subjectWhy, carriedWhy, bandwidthWhy, unlessAskRefused}
+use Rattle.linkstate.specs.RunWhy.{runWhy, topWhy, standRun}
 use Rattle.linkstate.specs.Meaning.{meaning}
 use Rattle.linkstate.specs.Export.{export}
 use Rattle.isis.specs.RunA as A
 use Rattle.isis.specs.RunB as B
 use Rattle.isis.specs.MaskHeader.{headerLength, maskTooLong, lForNobody, lFlag}
 use Rattle.isis.specs.Link.{linkVerdict, linkSource, exportLink}
+use Rattle.isis.specs.Why.{linkWhy, sideWhy, standA, standOf}
 use Rattle.linkstate.specs.BgpLs.{runSource}
-use Rattle.statuses.specs.Words.{runNumber, refusalWords, readingWords, replyWords, askWords, namedWords, lengthWords}
+use Rattle.statuses.specs.Words.{runNumber, refusalWords, readingWords, replyWords, askWords, namedWords, lengthWords, whyWords}
 
 -- ---- refusals
 
@@ -136,7 +140,7 @@ run-sound r = sound-then _ _ (sound-if _ 1 (omega arith) (omega arith)) (sound-f
 
 -- Refused by 1 to 7, in one of three runs.
 abbrev pub IsRefusal : List ℕ → Type 0
-IsRefusal w = (129 ≤ getD w 0 0) × (getD w 0 0 ≤ 135) × (getD w 1 0 ≤ 2)
+IsRefusal w = (129 ≤ getD w 0 0) × (getD w 0 0 ≤ 135) × (getD w 3 0 ≤ 2)
 
 refusal-told : (r : Refusal) → Known r → IsRefusal (refusalWords r)
 refusal-told r k = (omega arith, omega arith, k .2)
@@ -173,6 +177,40 @@ known-srlgs ns list = go (empty ns) (ltb (length list) (length ns))
     go false true = (omega arith, omega arith, omega arith)
     go false false = tt
 
+-- The rules of why refuse nothing.
+data Ruled : Why → Type 0 where
+  ruled : {r : Rule} {h : Holder} → Ruled (because r h)
+
+ruled-cond : (b : Bool) (x y : Why) → Ruled x → Ruled y → Ruled (cond b x y)
+ruled-cond true x y p q = p
+ruled-cond false x y p q = q
+
+module _ (k : ℕ) (s : Standing) where
+  ruled-application : (n : ℕ) → Ruled (applicationWhy n k s)
+  unfolding applicationWhy
+  ruled-application n = ruled-cond (namedWithL n (s .side)) _ _ ruled (ruled-cond (named n (s .side)) _ _ ruled ruled)
+
+  ruled-rsvp-te : Ruled (rsvpTeWhy k s)
+  unfolding rsvpTeWhy legacyWhy
+  ruled-rsvp-te = ruled-cond (namedWithL 0 (s .side)) _ _ ruled (ruled-cond (has k (ofLive (names 0) (s .side))) _ _ ruled ruled)
+
+  ruled-subject : (x : Why) → Ruled x → (whom : Subject) → Ruled (subjectWhy x whom k s)
+  unfolding subjectWhy
+  ruled-subject x p generally = ruled
+  ruled-subject x p (standardNo n) = ruled-cond (eqb n 0) _ _ p (ruled-application n)
+  ruled-subject x p (userNo n) = ruled-application (user n)
+
+  ruled-carried : (p : Advertisement → Bool) → Ruled (carriedWhy k p s)
+  unfolding carriedWhy legacyWhy
+  ruled-carried p = ruled-cond (has k (ofLive p (s .side))) _ _ ruled ruled
+
+  ruled-bandwidth : Ruled (bandwidthWhy k s)
+  unfolding bandwidthWhy legacyWhy
+  ruled-bandwidth =
+      ruled-cond (eqb k 1089) _ _
+      (ruled-cond (has k (s .side .legacy)) _ _ ruled (ruled-carried (λ d. not (d .L))))
+      (ruled-cond (namedWithL 0 (s .side)) _ _ ruled (ruled-carried rsvpTeAlone))
+
 -- A question to a source whose checks refuse soundly.
 module _ (s : Source) (sound : Sound (s .verdict)) where
   before-sound : (whom : Subject) (k : ℕ) → Sound (beforeAnswer s whom k)
@@ -192,6 +230,14 @@ module _ (s : Source) (sound : Sound (s .verdict)) where
   ask-tells : (whom : Subject) (k : ℕ) (list : List ℕ) → Tells 0 5 (askWords s whom k list)
   unfolding askWords
   ask-tells whom k list = reply-told _ ((ask s whom k list) .reply) (known-ask whom k list)
+
+  why-tells : (whom : Subject) (k : ℕ) (w : Why) → Ruled w → Tells 16 16 (whyWords (unlessAskRefused s whom k w))
+  unfolding unlessAskRefused unless
+  why-tells whom k w t = go (beforeAnswer s whom k) (before-sound whom k) w t
+    where
+      go : (v : Verdict) → Sound v → (w : Why) → Ruled w → Tells 16 16 (whyWords (unless v whyRefused w))
+      go (refused r) (known p) w t = inr (refusal-told r p)
+      go accepted p (because r h) ruled = inl (omega arith, omega arith)
 
   named-tells : Tells 6 6 (namedWords (listNamed s))
   unfolding listNamed unless
@@ -219,6 +265,12 @@ module _ (a b c : List ℕ) where
   pub link-ask-tells : (whom : Subject) (k : ℕ) (list : List ℕ) → Tells 0 5 (askWords (linkSource a b c) whom k list)
   link-ask-tells = ask-tells (linkSource a b c) sound-link
 
+  pub link-why-tells : (whom : Subject) (k : ℕ) → Tells 16 16 (whyWords (linkWhy a b c whom k))
+  unfolding linkWhy sideWhy
+  link-why-tells whom k =
+      why-tells (linkSource a b c) sound-link whom k _
+      (ruled-cond (isLinkCode k) _ _ (ruled-bandwidth k (standA a)) (ruled-subject k (standOf a b c k) (rsvpTeWhy k (standOf a b c k)) (ruled-rsvp-te k (standOf a b c k)) whom))
+
   pub link-named-tells : Tells 6 6 (namedWords (listNamed (linkSource a b c)))
   link-named-tells = named-tells (linkSource a b c) sound-link
 
@@ -233,6 +285,10 @@ module _ (r : List ℕ) where
 
   pub run-ask-tells : (whom : Subject) (k : ℕ) (list : List ℕ) → Tells 0 5 (askWords (runSource r) whom k list)
   run-ask-tells = ask-tells (runSource r) sound-run
+
+  pub run-why-tells : (whom : Subject) (k : ℕ) → Tells 16 16 (whyWords (runWhy r whom k))
+  unfolding runWhy topWhy
+  run-why-tells whom k = why-tells (runSource r) sound-run whom k _ (ruled-cond (isLinkCode k) _ _ ruled (ruled-subject k (standRun r) topWhy ruled whom))
 
   pub run-named-tells : Tells 6 6 (namedWords (listNamed (runSource r)))
   run-named-tells = named-tells (runSource r) sound-run

@@ -1,4 +1,4 @@
-// Questions answered by a status and two numbers: ask and value, of a link and of a BGP-LS run.
+// Questions answered by a status and four numbers: ask and value, of a link and of a BGP-LS run.
 ghost use mathlib.Core.Path.{_≡_};
 ghost use mathlib.Core.Bool.{false};
 ghost use mathlib.Core.List.{List};
@@ -117,7 +117,7 @@ pub fn value_link(a: &[u8], b: &[u8], c: &[u8], whom: Subject, code: usize) -> W
     if place == 0 {
         return statuses::no_words();
     }
-    statuses::place_words(place, len)
+    statuses::place_words(Run::A, place, len)
 }
 
 // Where the value of a question to a run stands.
@@ -138,5 +138,5 @@ pub fn value_run(r: &[u8], whom: Subject, code: usize) -> Words
     let Found::At { place, len } = bgpls_values::find_value(r, whom, code) else {
         return statuses::no_words();
     };
-    statuses::place_words(place, len)
+    statuses::place_words(Run::BgpLs, place, len)
 }

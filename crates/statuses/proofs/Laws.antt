@@ -12,8 +12,9 @@ use lib.Seq.{take-length}
 use Rattle.linkstate.specs.Bytes.{bytesAt}
 use Rattle.linkstate.specs.Replies.{Verdict, accepted, refused, refusedIf, _then_, unless, faultOfCall, fault, Reading, whole, pair, bandwidth, part, count, Reply, absent, found, askRefused}
 use Rattle.linkstate.specs.Attributes.{Attribute, ofKind}
+use Rattle.linkstate.specs.Why.{Why, unlessAskRefused}
 use Rattle.linkstate.specs.Questions.{Source, Subject, generally, standardNo, userNo, numberTooHigh, beforeAnswer, given, answer, ask, unwritten, value, bytesOfFirst}
-use Rattle.statuses.specs.Words.{nothing, whomOf, least, refusalWords, readingWords, replyWords, askWords, placeWords, valueWords}
+use Rattle.statuses.specs.Words.{nothing, two, placed, whomOf, least, refusalWords, readingWords, replyWords, askWords, placeWords, valueWords}
 
 -- ---- numbers above 63
 
@@ -38,6 +39,10 @@ module _ (s : Source) (k : ℕ) (v w : Subject) (hv : numberTooHigh v ≡ true) 
   place-high : valueWords s v k ≡ valueWords s w k
   unfolding valueWords unless fault
   place-high = rw (← before-high, refused-high)
+
+  why-high : (x y : Why) → unlessAskRefused s v k x ≡ unlessAskRefused s w k y
+  unfolding unlessAskRefused unless fault
+  why-high x y = rw (← before-high, refused-high)
 
 -- ---- whom a call asks about
 
@@ -70,6 +75,9 @@ module _ (s : Source) (k : ℕ) where
   pub ask-words-low : (list : List ℕ) (who n : ℕ) → askWords s (whomOf who (least n)) k list ≡ askWords s (whomOf who n) k list
   unfolding askWords
   ask-words-low list who n = rw (asked-low list who n, value-low who n)
+
+  pub why-low : (f : Subject → Why) (who n : ℕ) → unlessAskRefused s (whomOf who (least n)) k (f (whomOf who (least n))) ≡ unlessAskRefused s (whomOf who n) k (f (whomOf who n))
+  why-low f = low (λ v. unlessAskRefused s v k (f v)) (λ v w hv hw. why-high s k v w hv hw (f v) (f w))
 
   pub value-words-low : (who n : ℕ) → valueWords s (whomOf who (least n)) k ≡ valueWords s (whomOf who n) k
   value-words-low = low (λ v. valueWords s v k) (λ v w hv hw. place-high s k v w hv hw)
@@ -108,22 +116,22 @@ status-3 (askRefused r) m h = absurd (omega arith)
 
 -- The bytes at the place that the value functions tell are those that `value` hands back; where they tell none, it hands back none.
 module _ (s : Source) (whom : Subject) (k : ℕ) where
-  of-first : (p n : ℕ) (ts : List Attribute) → placeWords ts ≡ 4 ∷ p ∷ n ∷ [] → bytesAt (s .bytes) p n ≡ bytesOfFirst (s .bytes) ts
+  of-first : (p n : ℕ) (ts : List Attribute) → placeWords (s .run) ts ≡ placed 4 p n (s .run) → bytesAt (s .bytes) p n ≡ bytesOfFirst (s .bytes) ts
   unfolding placeWords bytesOfFirst
   of-first p n [] e = absurd (let z : _≡_ {A = ℕ} 0 4 = cc in omega arith)
   of-first p n (t ∷ ts) e = let x : t .at ≡ p = cc in let y : t .len ≡ n = cc in rw (x, y)
 
-  pub value-stands : (p n : ℕ) → valueWords s whom k ≡ 4 ∷ p ∷ n ∷ [] → bytesAt (s .bytes) p n ≡ value s whom k
+  pub value-stands : (p n : ℕ) → valueWords s whom k ≡ placed 4 p n (s .run) → bytesAt (s .bytes) p n ≡ value s whom k
   unfolding valueWords value unless
   value-stands p n = go (beforeAnswer s whom k) (eqb k 1096)
     where
-      go : (v : Verdict) (b : Bool) → unless v (λ r. nothing) (cond b nothing (placeWords (ofKind k (given s whom k)))) ≡ 4 ∷ p ∷ n ∷ []
+      go : (v : Verdict) (b : Bool) → unless v (λ r. nothing) (cond b nothing (placeWords (s .run) (ofKind k (given s whom k)))) ≡ placed 4 p n (s .run)
           → bytesAt (s .bytes) p n ≡ unless v (λ r. []) (cond b [] (bytesOfFirst (s .bytes) (ofKind k (given s whom k))))
       go (refused r) b e = absurd (let z : _≡_ {A = ℕ} 0 4 = cc in omega arith)
       go accepted true e = absurd (let z : _≡_ {A = ℕ} 0 4 = cc in omega arith)
       go accepted false e = of-first p n (ofKind k (given s whom k)) e
 
-  of-none : (ts : List Attribute) → placeWords ts ≡ nothing → [] ≡ bytesOfFirst (s .bytes) ts
+  of-none : (ts : List Attribute) → placeWords (s .run) ts ≡ nothing → [] ≡ bytesOfFirst (s .bytes) ts
   unfolding placeWords bytesOfFirst
   of-none [] e = refl
   of-none (t ∷ ts) e = absurd (let z : _≡_ {A = ℕ} 0 4 = cc in omega arith)
@@ -132,7 +140,7 @@ module _ (s : Source) (whom : Subject) (k : ℕ) where
   unfolding valueWords value unless
   value-none = go (beforeAnswer s whom k) (eqb k 1096)
     where
-      go : (v : Verdict) (b : Bool) → unless v (λ r. nothing) (cond b nothing (placeWords (ofKind k (given s whom k)))) ≡ nothing
+      go : (v : Verdict) (b : Bool) → unless v (λ r. nothing) (cond b nothing (placeWords (s .run) (ofKind k (given s whom k)))) ≡ nothing
           → [] ≡ unless v (λ r. []) (cond b [] (bytesOfFirst (s .bytes) (ofKind k (given s whom k))))
       go (refused r) b e = refl
       go accepted true e = refl

@@ -1,59 +1,43 @@
-// Answers as a C program reads them: a status and two numbers. What each status says is `specs/Words.antt`.
+// Answers as a C program reads them: a status and four numbers. What each status says is `specs/Words.antt`.
 ghost use mathlib.Core.Path.{_≡_};
-ghost use mathlib.Core.List.{[], _∷_};
+ghost use mathlib.Core.List.{_∷_};
 ghost use Prim.Native.Nat.{_+_};
 ghost use lib.ListN.{length};
 ghost use Rattle.linkstate.specs.Bytes.{number};
-ghost use Rattle.replies.specs.Told.{toldRun, toldRefusal, toldReading, toldAnswer, toldNamed, toldWritten, subjectOf};
-ghost use Rattle.statuses.specs.Words.{words, nothing, whomOf, least, runNumber, refusalWords, readingWords, replyWords, namedWords, lengthWords};
+ghost use Rattle.linkstate.specs.Why.{ruleNumber};
+ghost use Rattle.replies.specs.Told.{toldRun, toldRefusal, toldReading, toldAnswer, toldNamed, toldWritten, toldRule, toldHolder, toldWhy, subjectOf};
+ghost use Rattle.statuses.specs.Words.{words, two, nothing, placed, whomOf, least, runNumber, refusalWords, readingWords, replyWords, namedWords, lengthWords, heldNumbers, whyWords};
 use replies::Answer;
+use replies::Holder;
 use replies::Named;
 use replies::Reading;
 use replies::Refusal;
+use replies::Rule;
 use replies::Run;
 use replies::Subject;
+use replies::Why;
 use replies::Written;
 
-// A status with the two numbers of its reply.
+// A status with the four numbers of its reply.
 pub struct Words {
     pub status: u64,
-    pub first: u64,
-    pub second: u64,
+    pub reply: [u64; 4],
+}
+
+fn two_words(status: u64, first: u64, second: u64) -> Words
+    ensures { λ r. ⌜ words r ≡ two status first second ⌝ }
+{
+    Words {
+        status,
+        reply: [first, second, 0, 0],
+    }
 }
 
 // Absent.
 pub fn no_words() -> Words
     ensures { λ r. ⌜ words r ≡ nothing ⌝ }
 {
-    Words {
-        status: 0,
-        first: 0,
-        second: 0,
-    }
-}
-
-// A value by its place.
-pub fn place_words(place: usize, len: usize) -> Words
-    ensures { λ r. ⌜ words r ≡ 4 ∷ place ∷ len ∷ [] ⌝ }
-{
-    Words {
-        status: 4,
-        first: place as u64,
-        second: len as u64,
-    }
-}
-
-// A bandwidth, by the four bytes of its value.
-pub fn bits_words(v: &[u8]) -> Words
-    requires { ⌜ length (now v) ≡ 4 ⌝ }
-    ensures { λ r. ⌜ words r ≡ 3 ∷ number (now (v .entry)) ∷ 0 ∷ [] ⌝ }
-{
-    let bits = octets::read32(v, 0) as u64;
-    Words {
-        status: 3,
-        first: bits,
-        second: 0,
-    }
+    two_words(0, 0, 0)
 }
 
 fn run_number(run: Run) -> u64
@@ -63,8 +47,28 @@ fn run_number(run: Run) -> u64
         Run::A => 0,
         Run::B => 1,
         Run::BgpLs => 2,
-        Run::C => 3,
+        Run::C => 7,
     }
+}
+
+// A value by its place.
+pub fn place_words(run: Run, place: usize, len: usize) -> Words
+    ensures { λ r. ⌜ words r ≡ placed 4 place len (toldRun run) ⌝ }
+{
+    let of_run = run_number(run);
+    Words {
+        status: 4,
+        reply: [place as u64, len as u64, of_run, 0],
+    }
+}
+
+// A bandwidth, by the four bytes of its value.
+pub fn bits_words(v: &[u8]) -> Words
+    requires { ⌜ length (now v) ≡ 4 ⌝ }
+    ensures { λ r. ⌜ words r ≡ two 3 (number (now (v .entry))) 0 ⌝ }
+{
+    let bits = octets::read32(v, 0) as u64;
+    two_words(3, bits, 0)
 }
 
 fn refusal_status(number: u8) -> u64
@@ -83,8 +87,7 @@ pub fn refusal_words(x: Refusal) -> Words
     let of_run = run_number(run);
     Words {
         status,
-        first: of_run,
-        second: offset,
+        reply: [offset, 0, of_run, 0],
     }
 }
 
@@ -93,30 +96,15 @@ pub fn reading_words(x: Reading) -> Words
     ensures { λ r. ⌜ words r ≡ readingWords 0 (toldReading x) ⌝ }
 {
     match x {
-        Reading::Number(n) => Words {
-            status: 1,
-            first: n as u64,
-            second: 0,
-        },
-        Reading::Pair(m, n) => Words {
-            status: 2,
-            first: m as u64,
-            second: n as u64,
-        },
-        Reading::Bandwidth(_) => Words {
-            status: 3,
-            first: 0,
-            second: 0,
-        },
+        Reading::Number(n) => two_words(1, n as u64, 0),
+        Reading::Pair(m, n) => two_words(2, m as u64, n as u64),
+        Reading::Bandwidth(_) => two_words(3, 0, 0),
         Reading::Part { place, length } => {
+            let run = place.run;
             let offset = place.offset;
-            place_words(offset, length)
+            place_words(run, offset, length)
         }
-        Reading::Count(n) => Words {
-            status: 5,
-            first: n as u64,
-            second: 0,
-        },
+        Reading::Count(n) => two_words(5, n as u64, 0),
     }
 }
 
@@ -135,11 +123,7 @@ pub fn named_words(x: Named) -> Words
     ensures { λ r. ⌜ words r ≡ namedWords (toldNamed x) ⌝ }
 {
     match x {
-        Named::Listed { standard, user } => Words {
-            status: 6,
-            first: standard,
-            second: user,
-        },
+        Named::Listed { standard, user } => two_words(6, standard, user),
         Named::Refused(y) => refusal_words(y),
     }
 }
@@ -148,12 +132,61 @@ pub fn length_words(x: Written) -> Words
     ensures { λ r. ⌜ words r ≡ lengthWords (toldWritten x) ⌝ }
 {
     match x {
-        Written::Bytes(n) => Words {
-            status: 7,
-            first: n as u64,
-            second: 0,
-        },
+        Written::Bytes(n) => two_words(7, n as u64, 0),
         Written::Refused(y) => refusal_words(y),
+    }
+}
+
+fn rule_number(rule: Rule) -> u64
+    ensures { λ r. ⌜ r ≡ ruleNumber (toldRule rule) ⌝ }
+{
+    match rule {
+        Rule::ByL => 0,
+        Rule::Named => 1,
+        Rule::General => 2,
+        Rule::Unnamed => 3,
+        Rule::Legacy => 4,
+        Rule::Carried => 5,
+        Rule::Top => 6,
+    }
+}
+
+fn because_words(rule: u64, holder: Holder) -> Words
+    ensures { λ r. ⌜ words r ≡ 16 ∷ rule ∷ heldNumbers (toldHolder holder) ⌝ }
+{
+    match holder {
+        Holder::At(place) => {
+            let run = place.run;
+            let offset = place.offset as u64;
+            let of_run = run_number(run);
+            Words {
+                status: 16,
+                reply: [rule, offset, of_run, 0],
+            }
+        }
+        Holder::Legacy(run) => {
+            let of_run = run_number(run);
+            Words {
+                status: 16,
+                reply: [rule, 18446744073709551615, of_run, 0],
+            }
+        }
+        Holder::Nowhere => Words {
+            status: 16,
+            reply: [rule, 18446744073709551615, 0, 0],
+        },
+    }
+}
+
+pub fn why_words(x: Why) -> Words
+    ensures { λ r. ⌜ words r ≡ whyWords (toldWhy x) ⌝ }
+{
+    match x {
+        Why::Because { rule, holder } => {
+            let number = rule_number(rule);
+            because_words(number, holder)
+        }
+        Why::Refused(y) => refusal_words(y),
     }
 }
 
@@ -179,11 +212,11 @@ pub fn subject(who: u8, number: u64) -> Subject
     }
 }
 
-// The two numbers of the reply are written, and the status is the result.
-pub fn hand_over(w: Words, reply: &mut [u64; 2]) -> u64
+// The four numbers of the reply are written, and the status is the result.
+pub fn hand_over(w: Words, reply: &mut [u64; 4]) -> u64
     ensures { λ r. ⌜ r ∷ now (reply .exit) ≡ words w ⌝ }
 {
-    let both = [w.first, w.second];
-    *reply = both;
+    let numbers = w.reply;
+    *reply = numbers;
     w.status
 }

@@ -39,6 +39,12 @@ pub enum Request {
         number: u64,
         code: u16,
     },
+    /// By which rule, and which advertisement decides.
+    Why {
+        who: u8,
+        number: u64,
+        code: u16,
+    },
     Named,
     /// Of links alone.
     Export {
@@ -46,8 +52,8 @@ pub enum Request {
     },
 }
 
-/// The seven functions.
-pub const FUNCTIONS: [&str; 7] = [
+/// The nine functions.
+pub const FUNCTIONS: [&str; 9] = [
     "nakhshirul_ask",
     "nakhshirul_value",
     "nakhshirul_named",
@@ -55,6 +61,8 @@ pub const FUNCTIONS: [&str; 7] = [
     "nakhshirul_run_ask",
     "nakhshirul_run_value",
     "nakhshirul_run_named",
+    "nakhshirul_why",
+    "nakhshirul_run_why",
 ];
 
 /// The place of a call's function in `FUNCTIONS`.
@@ -67,6 +75,8 @@ pub fn function(subject: &Subject, request: &Request) -> usize {
         (Subject::Run(_), Request::Ask { .. }) => 4,
         (Subject::Run(_), Request::Value { .. }) => 5,
         (Subject::Run(_), Request::Named) => 6,
+        (Subject::Link(_), Request::Why { .. }) => 7,
+        (Subject::Run(_), Request::Why { .. }) => 8,
         (Subject::Run(_), Request::Export { .. }) => panic!("a run is not exported"),
     }
 }

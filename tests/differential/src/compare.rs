@@ -7,7 +7,11 @@ use crate::random::Random;
 /// Bytes or numbers of a known pattern before and behind everything that is lent.
 const GUARD: usize = 16;
 
-/// Lent memory, as a call gets it: `list` and `out` have the room that the request says.
+/// The numbers of a reply.
+const REPLY: usize = 4;
+
+/// Lent memory, as a call gets it: `list` and `out` have the room that the request says. Where that is
+/// 0 they may be null.
 pub struct Lent {
     pub list: *mut u32,
     pub out: *mut u8,
@@ -16,8 +20,9 @@ pub struct Lent {
 
 /// The library, or something in its place.
 pub trait Library {
-    /// Makes the call. The runs may be read, and `lent` written as far as the request says.
-    fn call(&self, runs: &[&[u8]], request: &Request, lent: &Lent) -> u64;
+    /// Makes the call. The runs, pointers with lengths, may be read, and `lent` written as far as the
+    /// request says.
+    fn call(&self, runs: &[(*const u8, usize)], request: &Request, lent: &Lent) -> u64;
 }
 
 /// The runs of a call in memory, with copies to see that they do not change.
@@ -38,9 +43,13 @@ impl Placed {
         Placed { runs: runs.iter().map(|(_, run)| PlacedRun::new(run, random)).collect() }
     }
 
-    /// An empty run points to no byte, but never to null.
-    fn runs(&self) -> Vec<&[u8]> {
-        self.runs.iter().map(|run| &run.memory[run.at..run.at + run.length]).collect()
+    /// The runs as pointers with their lengths. An empty run that is alone in its allocation is null.
+    fn runs(&self) -> Vec<(*const u8, usize)> {
+        let pointer = |run: &PlacedRun| match run.memory.is_empty() {
+            true => std::ptr::null(),
+            false => run.memory[run.at..].as_ptr(),
+        };
+        self.runs.iter().map(|run| (pointer(run), run.length)).collect()
     }
 
     fn unchanged(&self) -> bool {
@@ -87,7 +96,7 @@ pub struct Pattern(pub u8);
 
 impl Pattern {
     fn reply(self) -> Vec<u64> {
-        vec![u64::from_ne_bytes([self.0; 8]); GUARD + 2 + GUARD]
+        vec![u64::from_ne_bytes([self.0; 8]); GUARD + REPLY + GUARD]
     }
 
     fn list(self, room: usize) -> Vec<u32> {
@@ -104,7 +113,7 @@ fn rooms(request: &Request) -> (usize, usize) {
     match *request {
         Request::Ask { room, .. } => (room, 0),
         Request::Export { room } => (0, room),
-        Request::Value { .. } | Request::Named => (0, 0),
+        Request::Value { .. } | Request::Why { .. } | Request::Named => (0, 0),
     }
 }
 
@@ -119,11 +128,17 @@ pub fn observe(
     let mut reply = pattern.reply();
     let mut list = pattern.list(list_room);
     let mut out = pattern.out(out_room);
-    let lent = Lent {
+    let mut lent = Lent {
         list: list[GUARD..].as_mut_ptr(),
         out: out[GUARD..].as_mut_ptr(),
         reply: reply[GUARD..].as_mut_ptr(),
     };
+    // Half of the empty lists and buffers are null.
+    match request {
+        Request::Ask { room: 0, .. } if pattern.0 % 2 == 0 => lent.list = std::ptr::null_mut(),
+        Request::Export { room: 0 } if pattern.0 % 2 == 0 => lent.out = std::ptr::null_mut(),
+        _ => {}
+    }
     let status = library.call(&placed.runs(), request, &lent);
     let runs_unchanged = placed.unchanged();
     Observed { status, reply, list, out, runs_unchanged }
@@ -133,7 +148,7 @@ pub fn observe(
 pub fn required(outcome: &Outcome, request: &Request, pattern: Pattern) -> Observed {
     let (list_room, out_room) = rooms(request);
     let mut reply = pattern.reply();
-    reply[GUARD..GUARD + 2].copy_from_slice(&outcome.reply);
+    reply[GUARD..GUARD + REPLY].copy_from_slice(&outcome.reply);
     let mut list = pattern.list(list_room);
     list[GUARD..GUARD + outcome.list.len()].copy_from_slice(&outcome.list);
     let mut out = pattern.out(out_room);
@@ -144,8 +159,8 @@ pub fn required(outcome: &Outcome, request: &Request, pattern: Pattern) -> Obser
 impl Observed {
     /// The answer for a reader: status, reply and what was written, without the guards.
     pub fn text(&self) -> String {
-        let inner = &self.reply[GUARD..GUARD + 2];
-        let mut text = format!("status {} reply {} {}", self.status, inner[0], inner[1]);
+        let inner = &self.reply[GUARD..GUARD + REPLY];
+        let mut text = format!("status {} reply {inner:?}", self.status);
         let list = &self.list[GUARD..self.list.len() - GUARD];
         if !list.is_empty() {
             text += &format!("\n    list {:?}", &list[..list.len().min(300)]);

@@ -28,12 +28,13 @@ pub struct Coverage {
     faults: BTreeMap<(&'static str, Fault), u64>,
     kinds: BTreeMap<(usize, u16), u64>,
     rules: BTreeMap<(&'static str, Rule), u64>,
+    whys: BTreeMap<(usize, u64, bool, u64), u64>,
     ignored: BTreeMap<(&'static str, Ignored), u64>,
     things: BTreeMap<&'static str, u64>,
 }
 
 /// The statuses that each function can give.
-const STATUSES: [&[u64]; 7] = [
+const STATUSES: [&[u64]; 9] = [
     &[0, 1, 2, 3, 4, 5, 129, 130, 131, 132, 133, 134, 135],
     &[0, 4],
     &[6, 129, 130, 131, 132],
@@ -41,6 +42,31 @@ const STATUSES: [&[u64]; 7] = [
     &[0, 1, 2, 3, 4, 5, 129, 131, 132, 133, 134, 135],
     &[0, 4],
     &[6, 129, 131, 132],
+    &[16, 129, 130, 131, 132, 134, 135],
+    &[16, 129, 131, 132, 134, 135],
+];
+
+/// The answers of the two why functions: rule, whether an advertisement is told, run.
+const WHYS: [(usize, &[(u64, bool, u64)]); 2] = [
+    (
+        7,
+        &[
+            (0, true, 0),
+            (0, true, 1),
+            (1, true, 0),
+            (1, true, 1),
+            (2, true, 0),
+            (2, true, 1),
+            (2, false, 0),
+            (3, true, 0),
+            (3, true, 1),
+            (3, false, 0),
+            (4, false, 0),
+            (4, false, 7),
+            (5, true, 0),
+        ],
+    ),
+    (8, &[(1, true, 2), (2, true, 2), (2, false, 0), (3, true, 2), (3, false, 0), (6, false, 0)]),
 ];
 
 /// The faults that each run can have.
@@ -135,12 +161,17 @@ impl Coverage {
                 Run::A => "A",
                 Run::B => "B",
                 Run::BgpLs => "BGP-LS",
+                Run::C => panic!("a refusal in C"),
             };
             *self.faults.entry((run, refusal.fault)).or_default() += 1;
         }
+        if outcome.status == 16 {
+            let [rule, offset, run, _] = outcome.reply;
+            *self.whys.entry((function, rule, offset != u64::MAX, run)).or_default() += 1;
+        }
         let code = match request {
             Request::Ask { code, .. } | Request::Value { code, .. } => *code,
-            Request::Named | Request::Export { .. } => return,
+            Request::Why { .. } | Request::Named | Request::Export { .. } => return,
         };
         if (1..=5).contains(&outcome.status) {
             *self.kinds.entry((function, code)).or_default() += 1;
@@ -253,6 +284,14 @@ impl Coverage {
                 missing.push(format!("{} found {found} kinds of {codes}", FUNCTIONS[function]));
             }
         }
+        for (function, answers) in WHYS {
+            for &(rule, told, run) in answers {
+                if !self.whys.contains_key(&(function, rule, told, run)) {
+                    let name = FUNCTIONS[function];
+                    missing.push(format!("{name} rule {rule}, told {told}, run {run}"));
+                }
+            }
+        }
         for one in RULES {
             if !self.rules.contains_key(&one) {
                 missing.push(format!("{one:?}"));
@@ -298,6 +337,14 @@ impl Coverage {
                 Some(format!("{code}: {}", self.kinds.get(&(function, *code))?))
             });
             line(&format!("{} found", FUNCTIONS[function]), counts);
+        }
+        for function in [7, 8] {
+            let counts = self.whys.iter().filter(|((one, ..), _)| *one == function);
+            let texts = counts.map(|((_, rule, told, run), n)| {
+                let at = if *told { "at" } else { "none," };
+                format!("rule {rule} {at} run {run}: {n}")
+            });
+            line(&format!("{} answered", FUNCTIONS[function]), texts);
         }
         line("rules", self.rules.iter().map(|((side, rule), n)| format!("{side} {rule:?}: {n}")));
         line("ignored", self.ignored.iter().map(|((side, why), n)| format!("{side} {why:?}: {n}")));

@@ -3,13 +3,14 @@
 use crate::calls::{Request, Subject};
 use crate::reference::application::{Application, Asker};
 use crate::reference::reply::{Answer, Fault, Reading, Refusal, Run};
+use crate::reference::why::{self, Why};
 use crate::reference::{bgp_ls, export, link};
 
 /// The status, the reply, and what is written to the front of the lent list and buffer.
 #[derive(Clone, PartialEq, Eq, Debug, Default)]
 pub struct Outcome {
     pub status: u64,
-    pub reply: [u64; 2],
+    pub reply: [u64; 4],
     pub list: Vec<u32>,
     pub out: Vec<u8>,
     /// Why the call was refused, which the header does not tell.
@@ -23,10 +24,11 @@ pub fn expected(subject: &Subject, request: &Request) -> Outcome {
             let Some(asker) = asker(who, number) else {
                 return refused(Refusal::of_request(Fault::ApplicationAbove63));
             };
-            answered(match subject {
+            let answer = match subject {
                 Subject::Link(link) => link::ask(link, asker, code, room),
                 Subject::Run(run) => bgp_ls::ask(run, asker, code, room),
-            })
+            };
+            answered(subject, answer)
         }
         Request::Value { who, number, code } => {
             let found = asker(who, number).and_then(|asker| match subject {
@@ -35,8 +37,17 @@ pub fn expected(subject: &Subject, request: &Request) -> Outcome {
             });
             match found {
                 None => Outcome::default(),
-                Some((offset, length)) => status(4, offset as u64, length as u64),
+                Some((offset, length)) => place(subject, offset, length),
             }
+        }
+        Request::Why { who, number, code } => {
+            let Some(asker) = asker(who, number) else {
+                return refused(Refusal::of_request(Fault::ApplicationAbove63));
+            };
+            reasoned(match subject {
+                Subject::Link(link) => why::of_link(link, asker, code),
+                Subject::Run(run) => why::of_run(run, asker, code),
+            })
         }
         Request::Named => match subject {
             Subject::Link(link) => named(link::named(link)),
@@ -63,33 +74,62 @@ fn asker(who: u8, number: u64) -> Option<Asker> {
 }
 
 fn status(status: u64, first: u64, second: u64) -> Outcome {
-    Outcome { status, reply: [first, second], ..Outcome::default() }
+    Outcome { status, reply: [first, second, 0, 0], ..Outcome::default() }
 }
 
-fn refused(refusal: Refusal) -> Outcome {
-    let run = match refusal.run {
+/// The number of a run.
+fn run_number(run: Run) -> u64 {
+    match run {
         Run::A => 0,
         Run::B => 1,
         Run::BgpLs => 2,
-    };
-    let outcome = status(128 + u64::from(refusal.fault.number()), run, refusal.offset as u64);
-    Outcome { refusal: Some(refusal), ..outcome }
+        Run::C => 7,
+    }
 }
 
-fn answered(answer: Result<Answer, Refusal>) -> Outcome {
+/// Offset and length of a value, with its run: A of a link. The fragment is 0.
+fn place(subject: &Subject, offset: usize, length: usize) -> Outcome {
+    let run = match subject {
+        Subject::Link(_) => Run::A,
+        Subject::Run(_) => Run::BgpLs,
+    };
+    let reply = [offset as u64, length as u64, run_number(run), 0];
+    Outcome { status: 4, reply, ..Outcome::default() }
+}
+
+fn refused(refusal: Refusal) -> Outcome {
+    let status = 128 + u64::from(refusal.fault.number());
+    let reply = [refusal.offset as u64, 0, run_number(refusal.run), 0];
+    Outcome { status, reply, refusal: Some(refusal), ..Outcome::default() }
+}
+
+fn answered(subject: &Subject, answer: Result<Answer, Refusal>) -> Outcome {
     match answer {
         Err(refusal) => refused(refusal),
         Ok(Answer::Absent) => status(0, 0, 0),
         Ok(Answer::Found(Reading::Number(number))) => status(1, number, 0),
         Ok(Answer::Found(Reading::TwoNumbers(first, second))) => status(2, first, second),
         Ok(Answer::Found(Reading::Bandwidth(bits))) => status(3, u64::from(bits), 0),
-        Ok(Answer::Found(Reading::Place { offset, length })) => {
-            status(4, offset as u64, length as u64)
-        }
+        Ok(Answer::Found(Reading::Place { offset, length })) => place(subject, offset, length),
         Ok(Answer::Found(Reading::Srlgs(list))) => {
             Outcome { list: list.clone(), ..status(5, list.len() as u64, 0) }
         }
     }
+}
+
+/// The rule, the offset of the advertisement or all ones, and its run; of legacy values theirs.
+fn reasoned(why: Result<Why, Refusal>) -> Outcome {
+    let why = match why {
+        Err(refusal) => return refused(refusal),
+        Ok(why) => why,
+    };
+    let (offset, run) = match (why.advertisement, why.legacy) {
+        (Some((run, offset)), _) => (offset as u64, run_number(run)),
+        (None, Some(run)) => (u64::MAX, run_number(run)),
+        (None, None) => (u64::MAX, 0),
+    };
+    let reply = [u64::from(why.rule), offset, run, 0];
+    Outcome { status: 16, reply, ..Outcome::default() }
 }
 
 fn named(named: Result<Vec<Application>, Refusal>) -> Outcome {

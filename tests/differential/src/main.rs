@@ -79,16 +79,36 @@ extern "C" {
         reply: *mut u64,
     ) -> u64;
     fn nakhshirul_run_named(run: *const u8, run_len: usize, reply: *mut u64) -> u64;
+    fn nakhshirul_why(
+        a: *const u8,
+        a_len: usize,
+        b: *const u8,
+        b_len: usize,
+        c: *const u8,
+        c_len: usize,
+        who: u8,
+        number: u64,
+        code: u16,
+        reply: *mut u64,
+    ) -> u64;
+    fn nakhshirul_run_why(
+        run: *const u8,
+        run_len: usize,
+        who: u8,
+        number: u64,
+        code: u16,
+        reply: *mut u64,
+    ) -> u64;
 }
 
 /// The library that the program is linked with.
 struct Linked;
 
 impl Library for Linked {
-    fn call(&self, runs: &[&[u8]], request: &Request, lent: &Lent) -> u64 {
+    fn call(&self, runs: &[Run], request: &Request, lent: &Lent) -> u64 {
         // The runs are whole, and `lent` has the room that the request says.
         unsafe {
-            match runs {
+            match *runs {
                 [a, b, c] => call_link(a, b, c, request, lent),
                 [run] => call_run(run, request, lent),
                 _ => panic!("a call has three runs or one"),
@@ -97,10 +117,11 @@ impl Library for Linked {
     }
 }
 
-unsafe fn call_link(a: &[u8], b: &[u8], c: &[u8], request: &Request, lent: &Lent) -> u64 {
-    let (a, a_len) = (a.as_ptr(), a.len());
-    let (b, b_len) = (b.as_ptr(), b.len());
-    let (c, c_len) = (c.as_ptr(), c.len());
+/// A pointer with its length.
+type Run = (*const u8, usize);
+
+unsafe fn call_link(a: Run, b: Run, c: Run, request: &Request, lent: &Lent) -> u64 {
+    let ((a, a_len), (b, b_len), (c, c_len)) = (a, b, c);
     let reply = lent.reply;
     match *request {
         Request::Ask { who, number, code, room } => {
@@ -109,6 +130,9 @@ unsafe fn call_link(a: &[u8], b: &[u8], c: &[u8], request: &Request, lent: &Lent
         Request::Value { who, number, code } => {
             nakhshirul_value(a, a_len, b, b_len, c, c_len, who, number, code, reply)
         }
+        Request::Why { who, number, code } => {
+            nakhshirul_why(a, a_len, b, b_len, c, c_len, who, number, code, reply)
+        }
         Request::Named => nakhshirul_named(a, a_len, b, b_len, c, c_len, reply),
         Request::Export { room } => {
             nakhshirul_export(a, a_len, b, b_len, c, c_len, lent.out, room, reply)
@@ -116,14 +140,16 @@ unsafe fn call_link(a: &[u8], b: &[u8], c: &[u8], request: &Request, lent: &Lent
     }
 }
 
-unsafe fn call_run(run: &[u8], request: &Request, lent: &Lent) -> u64 {
-    let (run, run_len) = (run.as_ptr(), run.len());
+unsafe fn call_run((run, run_len): Run, request: &Request, lent: &Lent) -> u64 {
     match *request {
         Request::Ask { who, number, code, room } => {
             nakhshirul_run_ask(run, run_len, who, number, code, lent.list, room, lent.reply)
         }
         Request::Value { who, number, code } => {
             nakhshirul_run_value(run, run_len, who, number, code, lent.reply)
+        }
+        Request::Why { who, number, code } => {
+            nakhshirul_run_why(run, run_len, who, number, code, lent.reply)
         }
         Request::Named => nakhshirul_run_named(run, run_len, lent.reply),
         Request::Export { .. } => panic!("a run is not exported"),

@@ -235,13 +235,15 @@ fn codes_in(subject: &Subject) -> Vec<u16> {
     attributes.iter().map(|attribute| attribute.code).collect()
 }
 
-/// A question to a link or a run, or the same to a value function.
+/// A question to a link or a run, or the same to a value or why function.
 fn question(scene: &Scene, subject: &Subject, codes: &[u16], random: &mut Random) -> Request {
     let (who, number) = who(scene, random);
     let code =
         if codes.is_empty() || random.percent(50) { code(random) } else { random.pick(codes) };
-    if random.percent(30) {
-        return Request::Value { who, number, code };
+    match random.below(10) {
+        0..=2 => return Request::Value { who, number, code },
+        3..=4 => return Request::Why { who, number, code },
+        _ => {}
     }
     let room = if code == SRLG {
         room(count(subject, who, number, code), random)
@@ -261,7 +263,7 @@ fn accepted(random: &mut Random, mut make: impl FnMut(&mut Random) -> Subject) -
     }
 }
 
-/// All fourteen kinds for the general set and every application, and their values.
+/// All fourteen kinds for the general set and every application, their values, and why.
 fn every_question(subject: &Subject) -> Vec<Request> {
     let mut requests = Vec::new();
     for (who, number) in (0..64).flat_map(|n| [(1, n), (2, n)]).chain([(0, 0)]) {
@@ -269,6 +271,7 @@ fn every_question(subject: &Subject) -> Vec<Request> {
             let room = count(subject, who, number, code);
             requests.push(Request::Ask { who, number, code, room });
             requests.push(Request::Value { who, number, code });
+            requests.push(Request::Why { who, number, code });
         }
     }
     requests

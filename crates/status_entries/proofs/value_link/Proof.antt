@@ -76,6 +76,7 @@ no-words-requires-4 : tie.Need-no-words-requires-4
 no-words-requires-4 c κs = search needs
 
 returns-4 : tie.Need-returns-4
+unfolding linkSource
 returns-4 c = let a = c .before .before .before .before .before .before .before .before .before .before .before .before .before .args in let s = linkSource (a .a .now) (a .b .now) (a .c .now) in let k = a .code in let whom = subjectOf (a .whom) in
     let q = sym (ap toldChecked (c .before .before .before .before .before .before .before .enum-told2 .given .1)) ∙ c .before .before .before .before .before .before .before .before .before .check-question .ensures in
     let v = of-link (a .a .now) (a .b .now) (a .c .now) _ (sym (ap toldChecked (c .before .before .before .before .enum-told4 .given .1)) ∙ c .before .before .before .before .before .before .check-link .ensures) in
@@ -88,12 +89,12 @@ place-words-requires : tie.Need-place-words-requires
 place-words-requires c κs = search needs
 
 returns-5 : tie.Need-returns-5
-unfolding rowOf
+unfolding rowOf linkSource
 returns-5 c = let a = c .before .before .before .before .before .before .before .before .before .before .before .before .before .args in let s = linkSource (a .a .now) (a .b .now) (a .c .now) in let k = a .code in let whom = subjectOf (a .whom) in
     let q = sym (ap toldChecked (c .before .before .before .before .before .before .before .enum-told2 .given .1)) ∙ c .before .before .before .before .before .before .before .before .before .check-question .ensures in
     let v = of-link (a .a .now) (a .b .now) (a .c .now) _ (sym (ap toldChecked (c .before .before .before .before .enum-told4 .given .1)) ∙ c .before .before .before .before .before .before .check-link .ensures) in
     let n = c .before .before .before .if1 .left in
-    place-first s whom k _ (by-nothing s whom k q v) n (c .place-words .ensures ∙ row-placed _ _ (c .before .before .find-row .ensures (a .b .now) (a .c .now)) (c .before .if2 .left))
+    place-first s whom k _ (by-nothing s whom k q v) n (c .place-words .ensures ∙ row-placed runA _ _ (c .before .before .find-row .ensures (a .b .now) (a .c .now)) (c .before .if2 .left))
 
 pub value-link-spec : {M : Type 1} → statement M
 value-link-spec =

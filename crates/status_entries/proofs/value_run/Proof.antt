@@ -2,6 +2,7 @@
 use Rattle.status_entries.proofs.Laws.{place-refused, place-srlg, place-first, found-placed, found-nowhere}
 use Rattle.bgpls_reader.proofs.Laws.{of-run}
 use Rattle.linkstate.specs.BgpLs.{runSource}
+use Rattle.linkstate.specs.Replies.{runBgpLs}
 use mathlib.Core.Path.{sym, ap, _∙_}
 use Rattle.answering.proofs.Entries.{question-low, question-known, by-question, by-bytes, by-nothing}
 use Rattle.replies.specs.Told.{subjectOf, toldChecked}
@@ -76,16 +77,17 @@ returns-4 : tie.Need-returns-4
 returns-4 c = let a = c .before .before .before .before .before .before .before .before .before .before .before .before .args in let s = runSource (a .r .now) in let k = a .code in let whom = subjectOf (a .whom) in
     let q = sym (ap toldChecked (c .before .before .before .before .before .before .before .before .enum-told2 .given .1)) ∙ c .before .before .before .before .before .before .before .before .before .before .check-question .ensures in
     let v = of-run (a .r .now) _ (sym (ap toldChecked (c .before .before .before .before .before .enum-told4 .given .1)) ∙ c .before .before .before .before .before .before .before .check-run .ensures) in
-    place-first s whom k _ (by-nothing s whom k q v) (c .before .before .before .before .if1 .left) (c .no-words4 .ensures ∙ found-nowhere _ (sym (c .before .enum-told5 .given .1) ∙ c .before .before .before .find-value .ensures))
+    place-first s whom k _ (by-nothing s whom k q v) (c .before .before .before .before .if1 .left) (c .no-words4 .ensures ∙ found-nowhere _ _ (sym (c .before .enum-told5 .given .1) ∙ c .before .before .before .find-value .ensures))
 
 place-words-requires : tie.Need-place-words-requires
 place-words-requires c κs = search needs
 
 returns-5 : tie.Need-returns-5
+unfolding runSource
 returns-5 c = let a = c .before .before .before .before .before .before .before .before .before .before .before .before .before .args in let s = runSource (a .r .now) in let k = a .code in let whom = subjectOf (a .whom) in
     let q = sym (ap toldChecked (c .before .before .before .before .before .before .before .before .before .enum-told2 .given .1)) ∙ c .before .before .before .before .before .before .before .before .before .before .before .check-question .ensures in
     let v = of-run (a .r .now) _ (sym (ap toldChecked (c .before .before .before .before .before .before .enum-told4 .given .1)) ∙ c .before .before .before .before .before .before .before .before .check-run .ensures) in
-    place-first s whom k _ (by-nothing s whom k q v) (c .before .before .before .before .before .if1 .left) (c .place-words .ensures ∙ found-placed _ _ _ (sym (c .before .before .place .given .1) ∙ c .before .before .before .before .find-value .ensures))
+    place-first s whom k _ (by-nothing s whom k q v) (c .before .before .before .before .before .if1 .left) (c .place-words .ensures ∙ found-placed runBgpLs _ _ _ (sym (c .before .before .place .given .1) ∙ c .before .before .before .before .find-value .ensures))
 
 pub value-run-spec : {M : Type 1} → statement M
 value-run-spec =

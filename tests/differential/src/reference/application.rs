@@ -86,6 +86,8 @@ impl Masks {
 /// A live advertisement and what it carries: values of side A, or SRLGs.
 #[derive(Clone, PartialEq, Eq, Debug)]
 pub struct Advertisement<T> {
+    /// Its first byte.
+    pub start: usize,
     pub legacy_flag: bool,
     pub masks: Masks,
     pub carries: T,

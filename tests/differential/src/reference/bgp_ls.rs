@@ -111,7 +111,12 @@ fn read_asla(run: &[u8], tlv: &Tlv) -> Result<Verdict<Vec<Attribute>>, Refusal> 
     if let Some(first) = masks.standard.first_mut() {
         *first &= 127;
     }
-    Ok(Verdict::Live(Advertisement { legacy_flag: false, masks, carries: attributes }))
+    Ok(Verdict::Live(Advertisement {
+        start: tlv.start,
+        legacy_flag: false,
+        masks,
+        carries: attributes,
+    }))
 }
 
 impl Reader {

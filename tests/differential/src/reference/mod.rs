@@ -1,6 +1,7 @@
 //! The reference: the paper, document 01, as plain functions over vectors, one for each rule.
 //!
-//! It was written from the paper and the RFC texts alone, without a look at the library.
+//! It was written from the paper and the RFC texts alone, without a look at the library; `why` from the
+//! table of rules in the header.
 
 pub mod application;
 pub mod bgp_ls;
@@ -12,3 +13,4 @@ pub mod meaning;
 pub mod reply;
 pub mod side_a;
 pub mod side_b;
+pub mod why;

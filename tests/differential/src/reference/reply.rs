@@ -1,11 +1,12 @@
 //! Answers and refusals.
 
-/// The run a refusal points into.
+/// The run that something stands in; no refusal points into C.
 #[derive(Clone, Copy, PartialEq, Eq, Debug)]
 pub enum Run {
     A,
     B,
     BgpLs,
+    C,
 }
 
 /// Every way to be refused. Several share one number.

@@ -91,6 +91,7 @@ fn read_asla(a: &[u8], element: &Element) -> Result<Verdict<Vec<Attribute>>, Ref
         }
     }
     Ok(Verdict::Live(Advertisement {
+        start: element.start,
         legacy_flag: header.legacy_flag,
         masks: header.masks(a, masks_at),
         carries: attributes,

@@ -86,6 +86,7 @@ fn read_srlg_tlv(b: &[u8], element: &Element) -> Result<Verdict<Vec<u32>>, Refus
         srlgs = numbers_of_four(&b[rest_at..element.end]);
     }
     Ok(Verdict::Live(Advertisement {
+        start: element.start,
         legacy_flag: header.legacy_flag,
         masks: header.masks(b, masks_at),
         carries: srlgs,

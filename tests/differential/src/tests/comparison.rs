@@ -15,18 +15,26 @@ struct Mirror {
 }
 
 impl Library for Mirror {
-    fn call(&self, runs: &[&[u8]], request: &Request, lent: &Lent) -> u64 {
-        let subject = match runs {
-            [a, b, c] => Subject::Link(Link { a: a.to_vec(), b: b.to_vec(), c: c.to_vec() }),
-            _ => Subject::Run(runs[0].to_vec()),
+    fn call(&self, runs: &[(*const u8, usize)], request: &Request, lent: &Lent) -> u64 {
+        let bytes = |at: usize| match runs[at] {
+            (_, 0) => Vec::new(),
+            (run, len) => unsafe { std::slice::from_raw_parts(run, len).to_vec() },
+        };
+        let subject = match runs.len() {
+            3 => Subject::Link(Link { a: bytes(0), b: bytes(1), c: bytes(2) }),
+            _ => Subject::Run(bytes(0)),
         };
         let mut outcome = expected(&subject, request);
         (self.slip)(request, &mut outcome);
         (self.stray)(request, &outcome, lent);
         unsafe {
-            lent.list.copy_from(outcome.list.as_ptr(), outcome.list.len());
-            lent.out.copy_from(outcome.out.as_ptr(), outcome.out.len());
-            lent.reply.copy_from(outcome.reply.as_ptr(), 2);
+            if !outcome.list.is_empty() {
+                lent.list.copy_from(outcome.list.as_ptr(), outcome.list.len());
+            }
+            if !outcome.out.is_empty() {
+                lent.out.copy_from(outcome.out.as_ptr(), outcome.out.len());
+            }
+            lent.reply.copy_from(outcome.reply.as_ptr(), 4);
         }
         outcome.status
     }
@@ -56,11 +64,16 @@ fn the_reference_agrees_with_itself() {
 
 #[test]
 fn a_wrong_answer_is_found() {
-    let slips: [fn(&Request, &mut Outcome); 6] = [
+    let slips: [fn(&Request, &mut Outcome); 11] = [
         |_, outcome| outcome.status += u64::from(outcome.status == 135),
         |_, outcome| outcome.reply[1] += u64::from(outcome.status == 1),
         |_, outcome| outcome.reply[0] |= u64::from(outcome.status == 6),
-        |_, outcome| outcome.reply[1] += u64::from(outcome.status == 132),
+        |_, outcome| outcome.reply[0] += u64::from(outcome.status == 132),
+        |_, outcome| outcome.reply[2] ^= u64::from(outcome.status == 131),
+        |_, outcome| outcome.reply[2] ^= 2 * u64::from(outcome.status == 4),
+        |_, outcome| outcome.reply[3] |= u64::from(outcome.status == 0),
+        |_, outcome| outcome.reply[0] ^= u64::from(outcome.status == 16 && outcome.reply[0] > 1),
+        |_, outcome| outcome.reply[2] &= !(7 * u64::from(outcome.reply == [4, u64::MAX, 7, 0])),
         |_, outcome| {
             if let Some(last) = outcome.list.last_mut() {
                 *last ^= 1;
@@ -81,7 +94,7 @@ fn a_wrong_answer_is_found() {
 #[test]
 fn a_stray_write_is_found() {
     let strays: [fn(&Request, &Outcome, &Lent); 5] = [
-        |_, _, lent| unsafe { *lent.reply.wrapping_add(2) = 0 },
+        |_, _, lent| unsafe { *lent.reply.wrapping_add(4) = 0 },
         |_, _, lent| unsafe { *lent.reply.wrapping_sub(1) = 0 },
         |_, outcome, lent| {
             if outcome.status == 5 {
@@ -89,7 +102,7 @@ fn a_stray_write_is_found() {
             }
         },
         |_, outcome, lent| {
-            if outcome.status == 7 {
+            if outcome.status == 7 && !lent.out.is_null() {
                 unsafe { *lent.out.wrapping_add(outcome.out.len()) = 3 }
             }
         },

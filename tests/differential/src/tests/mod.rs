@@ -7,6 +7,7 @@ mod limits;
 mod places;
 mod reader;
 mod settled;
+mod why;
 
 use crate::reference::application::Asker;
 use crate::reference::link::{ask, Link};

@@ -1,0 +1,4 @@
+pub mod Has
+pub mod First
+pub mod Runs
+pub mod Rules
