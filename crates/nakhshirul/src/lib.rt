@@ -1,11 +1,14 @@
-// The C interface (include/nakhshirul.h): seven functions over the entries. A run is a pointer and a length, the reply four 64-bit numbers, the result a status.
-// What each status and reply says is `askWords`, `valueWords`, `namedWords` and `lengthWords` of the crate statuses. Every call is answered: no function has a `requires`.
+// The C interface (include/nakhshirul.h): nine functions over the entries. A run is a pointer and a length, the reply four 64-bit numbers, the result a status.
+// What each status and reply says is `askWords`, `valueWords`, `whyWords`, `namedWords` and `lengthWords` of the crate statuses. Every call is answered: no
+// function has a `requires`.
 ghost use mathlib.Core.Path.{_≡_};
 ghost use mathlib.Core.List.{_∷_};
 ghost use Rattle.linkstate.specs.Questions.{ask, listNamed};
 ghost use Rattle.linkstate.specs.BgpLs.{runSource};
+ghost use Rattle.linkstate.specs.RunWhy.{runWhy};
 ghost use Rattle.isis.specs.Link.{linkSource, exportLink};
-ghost use Rattle.statuses.specs.Words.{whomOf, askWords, valueWords, namedWords, lengthWords};
+ghost use Rattle.isis.specs.Why.{linkWhy};
+ghost use Rattle.statuses.specs.Words.{whomOf, askWords, valueWords, namedWords, lengthWords, whyWords};
 
 // One kind of one subject of a link: status 0 to 5, or refused.
 #[no_mangle]
@@ -41,6 +44,25 @@ pub extern "C" fn nakhshirul_value(
 {
     let whom = statuses::subject(who, number);
     let w = status_entries::value_link(a, b, c, whom, code as usize);
+    statuses::hand_over(w, reply)
+}
+
+// By which rule the subject gets the kind, and which advertisement decides: status 16, or refused.
+#[no_mangle]
+pub extern "C" fn nakhshirul_why(
+    a: &[u8],
+    b: &[u8],
+    c: &[u8],
+    who: u8,
+    number: u64,
+    code: u16,
+    reply: &mut [u64; 4],
+) -> u64
+    ensures { λ r. ⌜ r ∷ now (reply .exit) ≡ whyWords (linkWhy (now (a .entry)) (now (b .entry)) (now (c .entry)) (whomOf who number) code) ⌝ }
+{
+    let whom = statuses::subject(who, number);
+    let x = why::link_why(a, b, c, whom, code as usize);
+    let w = statuses::why_words(x);
     statuses::hand_over(w, reply)
 }
 
@@ -100,6 +122,23 @@ pub extern "C" fn nakhshirul_run_value(
 {
     let whom = statuses::subject(who, number);
     let w = status_entries::value_run(run, whom, code as usize);
+    statuses::hand_over(w, reply)
+}
+
+// By which rule the subject gets the kind of a run, and which advertisement decides: status 16, or refused.
+#[no_mangle]
+pub extern "C" fn nakhshirul_run_why(
+    run: &[u8],
+    who: u8,
+    number: u64,
+    code: u16,
+    reply: &mut [u64; 4],
+) -> u64
+    ensures { λ r. ⌜ r ∷ now (reply .exit) ≡ whyWords (runWhy (now (run .entry)) (whomOf who number) code) ⌝ }
+{
+    let whom = statuses::subject(who, number);
+    let x = why::run_why(run, whom, code as usize);
+    let w = statuses::why_words(x);
     statuses::hand_over(w, reply)
 }
 
