@@ -1,5 +1,5 @@
 -- Why a subject gets what it gets of a kind: by which rule of "Who gets what" (rules W1 to W13), and which advertisement decides or holds the value.
-use mathlib.Core.Bool.{Bool, true, false, cond, _&&_, _||_, not}
+use mathlib.Core.Bool.{Bool, cond, _&&_, _||_, not}
 use mathlib.Core.List.{List}
 use Prim.Native.Nat.{ℕ}
 use lib.Dec.{eqb}
