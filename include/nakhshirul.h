@@ -344,6 +344,7 @@ static inline const char *nakhshirul_kind_text(uint16_t code)
 static inline const char *nakhshirul_application_text(uint8_t who, uint64_t number, char *text)
 {
     static const char *const known[4] = {"RSVP-TE", "SR Policy", "LFA", "Flex-Algo"};
+    static const char digits[11] = "0123456789";
     const char *kind = who == NAKHSHIRUL_STANDARD ? "standard " : "user ";
     char *end = text;
     if (who == NAKHSHIRUL_GENERAL)
@@ -355,8 +356,8 @@ static inline const char *nakhshirul_application_text(uint8_t who, uint64_t numb
     while (*kind != '\0')
         *end++ = *kind++;
     if (number >= 10)
-        *end++ = (char)('0' + number / 10);
-    *end++ = (char)('0' + number % 10);
+        *end++ = digits[number / 10];
+    *end++ = digits[number % 10];
     *end = '\0';
     return text;
 }

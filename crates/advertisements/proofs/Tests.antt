@@ -1,6 +1,6 @@
 -- The tests of an advertisement as the code takes them. Assumes nothing.
 use mathlib.Core.Path.{_≡_, refl, sym, ap, ap₂, _∙_}
-use mathlib.Core.Bool.{Bool, true, false, cond, _&&_, _||_, not, and-false}
+use mathlib.Core.Bool.{Bool, true, false, cond, _&&_, _||_, not}
 use mathlib.Core.List.{List, [], _∷_}
 use Prim.Native.Nat.{ℕ, _+_, _-_, _≤_, _<_}
 use native.Mathlib.Omega.{arith}
@@ -30,7 +30,6 @@ use Rattle.isis_grids.specs.Selected.{selects}
 use Rattle.isis_grids.proofs.Selects.{selects-alone, selects-not-alone}
 use Rattle.advertisements.specs.declared.Test.{Test}
 use Rattle.advertisements.specs.declared.Test.the-variants.{Names, WithL, General, WithoutL, RsvpTeAlone}
-use Rattle.advertisements.specs.Frames.{frameIn, elementIn}
 use Rattle.advertisements.specs.Tests.{seen, passing, stands, isAdvertised, isOf, inList, carriesA, carriesB, suchIn}
 
 -- ---- one test
@@ -111,7 +110,8 @@ module _ (v : List ℕ) where
         let a : h .standard ≡ sabmLength v = ap (λ (i : Header). i .standard) e in
         let b : h .user ≡ udabmLength v = ap (λ (i : Header). i .user) e in
         let f : take (2 + h .standard - 2) (drop 2 v) ≡ take (sabmLength v) (drop 2 v) = rw (add-sub-cancel-left 2 (h .standard), a) in
-        let g : take (2 + h .standard + h .user - (2 + h .standard)) (drop (2 + h .standard) v) ≡ take (udabmLength v) (drop (2 + sabmLength v) v) = rw (add-sub-cancel-left (2 + h .standard) (h .user), a, b) in
+        let g : take (2 + h .standard + h .user - (2 + h .standard)) (drop (2 + h .standard) v) ≡ take (udabmLength v) (drop (2 + sabmLength v) v)
+        = rw (add-sub-cancel-left (2 + h .standard) (h .user), a, b) in
         rw (le-leb (headerLength v) (length v) (omega (arith, header-bytes h v e)))
         (is ∙ ap₂ (λ (y z : List ℕ). passing test (seen (h .l) y z)) f g ∙ seen-advertised v test (h .l) (header-l h v e))
 

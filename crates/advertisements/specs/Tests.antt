@@ -59,4 +59,5 @@ suchIn run test k (cut at) = false
 suchIn A test k (element at t v) = (stands v && any (passing test) (aslaAdvertisements (element at t v))) && carriesA k v
 suchIn B test k (element at t v) = (stands (afterNeighbour v) && any (passing test) (srlgAdvertisements (element at t v))) && carriesB k (afterNeighbour v)
 suchIn C test k (element at t v) = false
-suchIn BgpLs test k (element at t v) = (leb (aslaHeader v) (length v) && any (passing test) (advertisementsOf (element at t v))) && inList 2 k (drop (aslaHeader v) v)
+suchIn BgpLs test k (element at t v) =
+    (leb (aslaHeader v) (length v) && any (passing test) (advertisementsOf (element at t v))) && inList 2 k (drop (aslaHeader v) v)

@@ -8,7 +8,7 @@ use lib.Dec.{eqb}
 use Rattle.linkstate.specs.Lists.{any, each, lookup}
 use Rattle.linkstate.specs.Replies.{place}
 use Rattle.linkstate.specs.Elements.{Element}
-use Rattle.linkstate.specs.Sides.{Advertisement, Side, ofLive}
+use Rattle.linkstate.specs.Sides.{Advertisement, ofLive}
 use Rattle.linkstate.specs.Why.{Holder, heldAt, nowhere, Standing, offsetOf, first, has, holder}
 use Rattle.linkstate.proofs.ListLaws.{and-l}
 use Rattle.why.specs.Runs.{isHeld}

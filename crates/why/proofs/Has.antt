@@ -12,7 +12,7 @@ use Rattle.linkstate.specs.Lists.{keep, any, each, empty}
 use Rattle.linkstate.specs.Bytes.{words, insert, distinct}
 use Rattle.linkstate.specs.Elements.{Element, element, cut, elements}
 use Rattle.linkstate.specs.Attributes.{Attribute, ofKind, srlgs}
-use Rattle.linkstate.specs.Sides.{Advertisement, Side, ofLive}
+use Rattle.linkstate.specs.Sides.{Advertisement}
 use Rattle.linkstate.specs.Why.{has}
 use Rattle.linkstate.proofs.ListLaws.{any-append, any-keep}
 use Rattle.linkstate.proofs.ElementLaws.{moved, elements-moved}

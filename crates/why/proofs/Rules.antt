@@ -1,22 +1,21 @@
 -- The rules, branch by branch, from what the searches found. Assumes nothing.
 use mathlib.Core.Path.{_≡_, refl, sym, ap, ap₂, _∙_}
-use mathlib.Core.Bool.{Bool, true, false, not, false≢true}
+use mathlib.Core.Bool.{Bool, true, false, false≢true}
 use mathlib.Core.List.{List, []}
 use Prim.Native.Nat.{ℕ, zero, suc, _+_, _-_, _≤_, _<_}
 use native.Mathlib.Omega.{arith}
-use borrow.Author.Tests.{eq-eqb, ne-eqb, eqb-true}
+use borrow.Author.Tests.{eq-eqb, ne-eqb}
 use lib.Dec.{eqb}
-use Rattle.linkstate.specs.Lists.{any, each}
+use Rattle.linkstate.specs.Lists.{any}
 use Rattle.linkstate.specs.Masks.{user}
-use Rattle.linkstate.specs.Replies.{Verdict, accepted, refused, Refusal, _then_, unless, runA, runB}
+use Rattle.linkstate.specs.Replies.{accepted, refused, Refusal, _then_, unless, runA, runB}
 use Rattle.linkstate.specs.Kinds.{isCode, isLinkCode, codeOfType}
 use Rattle.linkstate.specs.Elements.{elements, faults}
-use Rattle.linkstate.specs.Sides.{names, general, named, namedWithL, ofLive, rsvpTeAlone}
+use Rattle.linkstate.specs.Sides.{names, named, namedWithL, ofLive}
 use Rattle.linkstate.specs.Questions.{Source, Subject, generally, standardNo, userNo, beforeAnswer}
 use Rattle.linkstate.specs.Why as W
 use Rattle.linkstate.specs.Why.{because, whyRefused, Standing, namesWithL, has, holder, first, _orElse_, legacyWhy, applicationWhy, rsvpTeWhy, subjectWhy, carriedWhy, bandwidthWhy, unlessAskRefused}
-use Rattle.linkstate.specs.RunWhy.{standRun, topWhy, runWhy}
-use Rattle.linkstate.specs.BgpLs.{runSource}
+use Rattle.linkstate.specs.RunWhy.{standRun, topWhy}
 use Rattle.linkstate.proofs.Computing.{computing}
 use Rattle.linkstate.proofs.WalkLaws.{then-first, then-second}
 use Rattle.kinds.specs.declared.Kind.the-variants.{Link}
@@ -25,8 +24,8 @@ use Rattle.kinds.proofs.Computing.{computing as kinds-computing}
 use Rattle.isis.specs.RunA as I
 use Rattle.isis.specs.RunA.{checkA, sideA}
 use Rattle.isis.specs.RunB.{checkB, sideB}
-use Rattle.isis.specs.Link.{linkVerdict, linkSource}
-use Rattle.isis.specs.Why.{standA, standB, standOf, sideWhy, linkWhy}
+use Rattle.isis.specs.Link.{linkVerdict}
+use Rattle.isis.specs.Why.{standA, standB, standOf, sideWhy}
 use Rattle.replies.specs.declared.Run.{Run}
 use Rattle.replies.specs.declared.Run.the-variants.{A, B, C, BgpLs}
 use Rattle.replies.specs.declared.Holder.{Holder}
@@ -71,7 +70,8 @@ module _ (h : Holder) where
     unfolding _orElse_
     else-nowhere e = rw e
 
-pub legacy-by : (run other legacy : Run) → run ≡ other → ((s : List ℕ) → (standing other s) .legacyRun ≡ toldRun legacy) → (s : List ℕ) → because W.byLegacy (W.legacyIn (toldRun legacy)) ≡ legacyWhy (standing run s)
+pub legacy-by : (run other legacy : Run) → run ≡ other → ((s : List ℕ) → (standing other s) .legacyRun ≡ toldRun legacy)
+    → (s : List ℕ) → because W.byLegacy (W.legacyIn (toldRun legacy)) ≡ legacyWhy (standing run s)
 unfolding legacyWhy
 legacy-by run other legacy e f s = rw e (ap (λ (r : Rattle.linkstate.specs.Replies.Run). because W.byLegacy (W.legacyIn r)) (sym (f s)))
 

@@ -1,10 +1,10 @@
 -- In a run that passed its checks, a walk finds the first advertisement of the run's side that passes and has the kind. Assumes nothing.
-use mathlib.Core.Path.{_≡_, refl, sym, ap, ap₂, _∙_, subst}
+use mathlib.Core.Path.{_≡_, refl, sym, ap, ap₂, _∙_}
 use mathlib.Core.Bool.{Bool, true, false, cond, _&&_, _||_, not}
 use mathlib.Core.List.{List, [], _∷_}
 use Prim.Native.Nat.{ℕ, _+_}
 use native.Mathlib.Omega.{arith}
-use borrow.Author.Tests.{eqb-true, eq-eqb, ne-eqb, le-leb}
+use borrow.Author.Tests.{eqb-true, ne-eqb, le-leb}
 use lib.Dec.{eqb, leb, ltb}
 use lib.ListN.{length, drop}
 use Rattle.linkstate.specs.Lists.{any, each, lookup}
@@ -15,7 +15,7 @@ use Rattle.linkstate.specs.Elements.{Element, element, cut, elements, faults}
 use Rattle.linkstate.specs.Attributes.{Attribute, attribute}
 use Rattle.linkstate.specs.Sides.{Advertisement}
 use Rattle.linkstate.specs.BgpLs as L
-use Rattle.linkstate.specs.Why.{Holder, heldAt, nowhere, Standing, offsetOf, first, has}
+use Rattle.linkstate.specs.Why.{Holder, heldAt, nowhere, offsetOf, first, has}
 use Rattle.linkstate.specs.RunWhy.{standRun}
 use Rattle.linkstate.proofs.Computing.{computing}
 use Rattle.linkstate.proofs.ListLaws.{and-l, and-r, absorb, eqb-sym}

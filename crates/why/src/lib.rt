@@ -13,7 +13,7 @@ ghost use Rattle.linkstate.specs.Why.{_orElse_, first, holder, legacyWhy, appli
 ghost use Rattle.linkstate.specs.RunWhy.{topWhy, runWhy};
 ghost use Rattle.isis.specs.Link.{linkVerdict};
 ghost use Rattle.isis.specs.Why.{sideWhy, linkWhy};
-ghost use Rattle.replies.specs.Told.{toldRun, toldHolder, toldWhy, subjectOf};
+ghost use Rattle.replies.specs.Told.{toldHolder, toldWhy, subjectOf};
 ghost use Rattle.advertisements.specs.Tests.{passing};
 ghost use Rattle.why.specs.Runs.{isHeld, standing, Ready, IsType, withKind, isRsvpTe, linkAnswer, runAnswer};
 use advertisements::Test;

@@ -19,7 +19,9 @@ header-length-requires : tie.Need-header-length-requires
 header-length-requires c κs = search needs
 
 returns-3 : tie.Need-returns-3
-returns-3 c = a-past _ _ (c .before .before .before .before .if1 .left) _ (c .before .before .before .read-header .ensures .0) (c .before .before .if2 .left) _ (c .before .header-length .ensures) (c .if3 .taken)
+returns-3 c =
+    a-past _ _ (c .before .before .before .before .if1 .left) _ (c .before .before .before .read-header .ensures .0) (c .before .before .if2 .left) _
+    (c .before .header-length .ensures) (c .if3 .taken)
 
 sub-has-kind : tie.Need-sub-has-kind
 sub-has-kind c = search needs
@@ -35,7 +37,9 @@ has-kind-requires c κs = search needs
 
 returns-4 : tie.Need-returns-4
 unfolding widthOf
-returns-4 c = a-is _ _ (c .before .before .before .before .before .before .if1 .left) _ (c .before .before .before .before .before .read-header .ensures .0) (c .before .before .before .before .if2 .left) _ (c .before .before .before .header-length .ensures) _ (omega arith) (c .has-kind .ensures)
+returns-4 c =
+    a-is _ _ (c .before .before .before .before .before .before .if1 .left) _ (c .before .before .before .before .before .read-header .ensures .0)
+    (c .before .before .before .before .if2 .left) _ (c .before .before .before .header-length .ensures) _ (omega arith) (c .has-kind .ensures)
 
 pub asla-carries-spec : {M : Type 1} → statement M
 asla-carries-spec =

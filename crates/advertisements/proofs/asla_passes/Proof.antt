@@ -21,7 +21,9 @@ header-passes-requires : tie.Need-header-passes-requires
 header-passes-requires c κs = live-readable _ (sym (c .before .live-asla .ensures) ∙ not-false _ (c .if2 .left))
 
 asla-carries-requires : tie.Need-asla-carries-requires
-asla-carries-requires c κs = live-readable (now (c .before .before .before .before .before .before .args .v)) (sym (c .before .before .before .live-asla .ensures) ∙ not-false _ (c .before .before .if2 .left)) .0
+asla-carries-requires c κs =
+    live-readable (now (c .before .before .before .before .before .before .args .v))
+    (sym (c .before .before .before .live-asla .ensures) ∙ not-false _ (c .before .before .if2 .left)) .0
 
 returns-3 : tie.Need-returns-3
 returns-3 c =

@@ -43,7 +43,8 @@ add-t7 c = search needs
 returns-3 : tie.Need-returns-3
 returns-3 c =
     let a = c .before .before .before .before .before .before .before .args in
-    frame-whole 1 (now (a .s)) (a .at) (c .before .before .before .wide .result) (c .before .before .before .wide .ensures .0 ∙ sym (length-one (now (a .s)) (a .at))) _ _ _
+    frame-whole 1 (now (a .s)) (a .at) (c .before .before .before .wide .result)
+    (c .before .before .before .wide .ensures .0 ∙ sym (length-one (now (a .s)) (a .at))) _ _ _
     (c .wide2 .ensures .0 ∙ sym (type-one (now (a .s)) (a .at))) refl (omega arith) (omega arith)
 
 pub element-frame-spec : {M : Type 1} → statement M

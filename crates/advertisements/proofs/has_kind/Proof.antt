@@ -31,7 +31,8 @@ returns : tie.Need-returns Inv-loop μ-loop
 returns c =
     let a = c .before .before .before .before .before .args in
     let l = c .before .before .before .loop in
-    some-here (a .run) (isOf (a .kind)) (widthOf (a .run)) (now (a .s)) (l .at) (some-width (a .run)) (omega arith) (sym (c .before .kind-at .ensures) ∙ c .if1 .taken) ∙ l .inv .1
+    some-here (a .run) (isOf (a .kind)) (widthOf (a .run)) (now (a .s)) (l .at) (some-width (a .run)) (omega arith)
+    (sym (c .before .kind-at .ensures) ∙ c .if1 .taken) ∙ l .inv .1
 
 end-of-requires : tie.Need-end-of-requires Inv-loop μ-loop
 end-of-requires c κs = search needs

@@ -36,10 +36,15 @@ part-passes-end-2 : tie.Need-part-passes-end-2
 part-passes-end-2 c = search needs
 
 passes-requires : tie.Need-passes-requires
-passes-requires c κs = let h = c .before .before .before .before .before .read-header in let m = masks-short _ (h .result) (h .ensures .0) (c .before .before .before .before .before .before .before .pre .1) in (omega arith, omega arith)
+passes-requires c κs =
+    let h = c .before .before .before .before .before .read-header in
+    let m = masks-short _ (h .result) (h .ensures .0) (c .before .before .before .before .before .before .before .pre .1) in
+    (omega arith, omega arith)
 
 returns-2 : tie.Need-returns-2
-returns-2 c = let h = c .before .before .before .before .before .before .read-header in advertised-is _ _ (h .result) (h .ensures .0) (omega arith) _ (c .passes .ensures)
+returns-2 c =
+    let h = c .before .before .before .before .before .before .read-header in
+    advertised-is _ _ (h .result) (h .ensures .0) (omega arith) _ (c .passes .ensures)
 
 pub header-passes-spec : {M : Type 1} → statement M
 header-passes-spec =

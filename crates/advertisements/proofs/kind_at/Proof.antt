@@ -18,10 +18,14 @@ enum-known-own : tie.Need-enum-known-own
 enum-known-own c = search needs
 
 sub-result : tie.Need-sub-result
-sub-result c = let b = c .before .before .before .before .before .args in value-within (widthOf (b .run)) (now (b .s)) (b .at) _ _ _ (sym (c .before .before .before .frame-of .ensures) ∙ c .before .own .given .1) .0
+sub-result c =
+    let b = c .before .before .before .before .before .args in
+    value-within (widthOf (b .run)) (now (b .s)) (b .at) _ _ _ (sym (c .before .before .before .frame-of .ensures) ∙ c .before .own .given .1) .0
 
 returns : tie.Need-returns
-returns c = let b = c .before .before .before .before .args in of-cut _ _ _ (element-cut (widthOf (b .run)) (now (b .s)) (b .at) (sym (c .before .before .frame-of .ensures) ∙ c .enum-told .given .1))
+returns c =
+    let b = c .before .before .before .before .args in
+    of-cut _ _ _ (element-cut (widthOf (b .run)) (now (b .s)) (b .at) (sym (c .before .before .frame-of .ensures) ∙ c .enum-told .given .1))
 
 returns-2 : tie.Need-returns-2
 returns-2 c =

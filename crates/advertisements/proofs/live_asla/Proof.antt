@@ -22,7 +22,9 @@ l-for-nobody-requires : tie.Need-l-for-nobody-requires
 l-for-nobody-requires c κs = search needs
 
 returns-3 : tie.Need-returns-3
-returns-3 c = live-is _ _ (c .before .before .before .read-header .ensures .0) (omega arith) _ _ (c .before .before .mask-too-long .ensures) (c .before .if2 .left) (c .l-for-nobody .ensures)
+returns-3 c =
+    live-is _ _ (c .before .before .before .read-header .ensures .0) (omega arith) _ _ (c .before .before .mask-too-long .ensures) (c .before .if2 .left)
+    (c .l-for-nobody .ensures)
 
 pub live-asla-spec : {M : Type 1} → statement M
 live-asla-spec =

@@ -17,7 +17,9 @@ header-length-requires : tie.Need-header-length-requires
 header-length-requires c κs = search needs
 
 returns-3 : tie.Need-returns-3
-returns-3 c = b-past _ _ (c .before .before .before .before .if1 .left) _ (c .before .before .before .read-header .ensures .0) (c .before .before .if2 .left) _ (c .before .header-length .ensures) (c .if3 .taken)
+returns-3 c =
+    b-past _ _ (c .before .before .before .before .if1 .left) _ (c .before .before .before .read-header .ensures .0) (c .before .before .if2 .left) _
+    (c .before .header-length .ensures) (c .if3 .taken)
 
 shared-slice-read-wide : tie.Need-shared-slice-read-wide
 shared-slice-read-wide c = search needs
@@ -36,7 +38,8 @@ add-result-3 c = search needs
 
 returns-4 : tie.Need-returns-4
 returns-4 c =
-    b-is _ _ (c .before .before .before .before .before .before .if1 .left) _ (c .before .before .before .before .before .read-header .ensures .0) (c .before .before .before .before .if2 .left) _ (c .before .before .before .header-length .ensures) _ (c .wide .ensures .0)
+    b-is _ _ (c .before .before .before .before .before .before .if1 .left) _ (c .before .before .before .before .before .read-header .ensures .0)
+    (c .before .before .before .before .if2 .left) _ (c .before .before .before .header-length .ensures) _ (c .wide .ensures .0)
 
 pub srlg-carries-spec : {M : Type 1} → statement M
 srlg-carries-spec =

@@ -19,19 +19,27 @@ enum-known-own : tie.Need-enum-known-own
 enum-known-own c = search needs
 
 sub-is-such : tie.Need-sub-is-such
-sub-is-such c = let b = c .before .before .before .before .before .args in value-within (widthOf (b .run)) (now (b .s)) (b .at) _ _ _ (sym (c .before .before .before .frame-of .ensures) ∙ c .before .own .given .1) .0
+sub-is-such c =
+    let b = c .before .before .before .before .before .args in
+    value-within (widthOf (b .run)) (now (b .s)) (b .at) _ _ _ (sym (c .before .before .before .frame-of .ensures) ∙ c .before .own .given .1) .0
 
 part-is-such-start : tie.Need-part-is-such-start
-part-is-such-start c = let b = c .before .before .before .before .before .args in value-within (widthOf (b .run)) (now (b .s)) (b .at) _ _ _ (sym (c .before .before .before .frame-of .ensures) ∙ c .before .own .given .1) .0
+part-is-such-start c =
+    let b = c .before .before .before .before .before .args in
+    value-within (widthOf (b .run)) (now (b .s)) (b .at) _ _ _ (sym (c .before .before .before .frame-of .ensures) ∙ c .before .own .given .1) .0
 
 part-is-such-end : tie.Need-part-is-such-end
-part-is-such-end c = let b = c .before .before .before .before .before .args in value-within (widthOf (b .run)) (now (b .s)) (b .at) _ _ _ (sym (c .before .before .before .frame-of .ensures) ∙ c .before .own .given .1) .1
+part-is-such-end c =
+    let b = c .before .before .before .before .before .args in
+    value-within (widthOf (b .run)) (now (b .s)) (b .at) _ _ _ (sym (c .before .before .before .frame-of .ensures) ∙ c .before .own .given .1) .1
 
 is-such-requires : tie.Need-is-such-requires
 is-such-requires c κs = search needs
 
 returns : tie.Need-returns
-returns c = let b = c .before .before .before .before .args in such-cut _ _ _ _ _ (element-cut (widthOf (b .run)) (now (b .s)) (b .at) (sym (c .before .before .frame-of .ensures) ∙ c .enum-told .given .1))
+returns c =
+    let b = c .before .before .before .before .args in
+    such-cut _ _ _ _ _ (element-cut (widthOf (b .run)) (now (b .s)) (b .at) (sym (c .before .before .frame-of .ensures) ∙ c .enum-told .given .1))
 
 returns-2 : tie.Need-returns-2
 returns-2 c =

@@ -23,7 +23,9 @@ not-ignored-requires : tie.Need-not-ignored-requires
 not-ignored-requires c κs = search needs
 
 returns-3 : tie.Need-returns-3
-returns-3 c = let h = c .before .before .read-asla-header in λ at. tlv-ignored _ _ at _ _ _ _ (h .ensures .0) (h .ensures .1) _ (c .before .not-ignored .ensures) (not-true _ (c .if3 .taken))
+returns-3 c =
+    let h = c .before .before .read-asla-header in
+    λ at. tlv-ignored _ _ at _ _ _ _ (h .ensures .0) (h .ensures .1) _ (c .before .not-ignored .ensures) (not-true _ (c .if3 .taken))
 
 add-m : tie.Need-add-m
 add-m c = search needs
@@ -55,7 +57,8 @@ part-passes-end-2 c = search needs
 passes-requires : tie.Need-passes-requires
 passes-requires c κs =
     let h = c .before .before .before .before .before .before .before .read-asla-header in
-    let m = sym (c .before .before .before .before .before .before .not-ignored .ensures) ∙ not-false _ (c .before .before .before .before .before .if3 .left) in
+    let m = sym (c .before .before .before .before .before .before .not-ignored .ensures) ∙ not-false _ (c .before .before .before .before .before .if3 .left)
+    in
     let s = mask-length-short (h .result .standard) (and-l (isMaskLength (h .result .standard)) (isMaskLength (h .result .user)) m) in
     let u = mask-length-short (h .result .user) (and-r (isMaskLength (h .result .standard)) (isMaskLength (h .result .user)) m) in
     (omega arith, omega arith)

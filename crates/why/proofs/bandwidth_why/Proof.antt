@@ -16,14 +16,20 @@ legacy-why-requires c κs = search needs
 
 returns : tie.Need-returns
 unfolding widthOf
-returns c = let b = c .before .before .before .before .before in maximum-legacy (now (b .args .a)) (b .args .code) (c .before .before .before .if1 .taken) _ (c .before .before .has-kind .ensures) _ (c .before .if2 .taken) (c .legacy-why .ensures (now (b .args .a)))
+returns c =
+    let b = c .before .before .before .before .before in
+    maximum-legacy (now (b .args .a)) (b .args .code) (c .before .before .before .if1 .taken) _ (c .before .before .has-kind .ensures) _ (c .before .if2 .taken)
+    (c .legacy-why .ensures (now (b .args .a)))
 
 carried-why-requires : tie.Need-carried-why-requires
 carried-why-requires c κs = search needs
 
 returns-2 : tie.Need-returns-2
 unfolding widthOf
-returns-2 c = let b = c .before .before .before .before .before in maximum-carried (now (b .args .a)) (b .args .code) (c .before .before .before .if1 .taken) _ (c .before .before .has-kind .ensures) _ (c .before .if2 .left) (c .carried-why .ensures)
+returns-2 c =
+    let b = c .before .before .before .before .before in
+    maximum-carried (now (b .args .a)) (b .args .code) (c .before .before .before .if1 .taken) _ (c .before .before .has-kind .ensures) _ (c .before .if2 .left)
+    (c .carried-why .ensures)
 
 first-such-requires : tie.Need-first-such-requires
 first-such-requires c κs = search needs
@@ -35,13 +41,20 @@ legacy-why-requires-2 : tie.Need-legacy-why-requires-2
 legacy-why-requires-2 c κs = search needs
 
 returns-3 : tie.Need-returns-3
-returns-3 c = let b = c .before .before .before .before .before .before in reservable-legacy A (now (b .args .a)) (b .args .code) (b .pre) (c .before .before .before .before .if1 .left) _ (c .before .before .before .first-such .ensures) _ (sym (c .before .before .is-found .ensures) ∙ c .before .if3 .taken) (c .legacy-why2 .ensures (now (b .args .a)))
+returns-3 c =
+    let b = c .before .before .before .before .before .before in
+    reservable-legacy A (now (b .args .a)) (b .args .code) (b .pre) (c .before .before .before .before .if1 .left) _
+    (c .before .before .before .first-such .ensures) _ (sym (c .before .before .is-found .ensures) ∙ c .before .if3 .taken)
+    (c .legacy-why2 .ensures (now (b .args .a)))
 
 carried-why-requires-2 : tie.Need-carried-why-requires-2
 carried-why-requires-2 c κs = search needs
 
 returns-4 : tie.Need-returns-4
-returns-4 c = let b = c .before .before .before .before .before .before in reservable-carried A (now (b .args .a)) (b .args .code) (b .pre) (c .before .before .before .before .if1 .left) _ (c .before .before .before .first-such .ensures) _ (sym (c .before .before .is-found .ensures) ∙ c .before .if3 .left) (c .carried-why2 .ensures)
+returns-4 c =
+    let b = c .before .before .before .before .before .before in
+    reservable-carried A (now (b .args .a)) (b .args .code) (b .pre) (c .before .before .before .before .if1 .left) _
+    (c .before .before .before .first-such .ensures) _ (sym (c .before .before .is-found .ensures) ∙ c .before .if3 .left) (c .carried-why2 .ensures)
 
 pub bandwidth-why-spec : {M : Type 1} → statement M
 bandwidth-why-spec =

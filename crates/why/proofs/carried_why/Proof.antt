@@ -20,10 +20,14 @@ legacy-why-requires c κs = search needs
 returns : tie.Need-returns
 returns c =
     let b = c .before .before .before .before .before in
-    carried-none A (now (b .args .a)) (b .args .code) (b .pre) (b .args .test) _ (c .before .before .before .holder-of .ensures) (sym (c .before .before .is-found .ensures) ∙ not-true _ (c .before .if1 .taken)) _ (c .legacy-why .ensures (now (b .args .a)))
+    carried-none A (now (b .args .a)) (b .args .code) (b .pre) (b .args .test) _ (c .before .before .before .holder-of .ensures)
+    (sym (c .before .before .is-found .ensures) ∙ not-true _ (c .before .if1 .taken)) _ (c .legacy-why .ensures (now (b .args .a)))
 
 returns-2 : tie.Need-returns-2
-returns-2 c = let b = c .before .before .before .before in carried-is A (now (b .args .a)) (b .args .code) (b .pre) (b .args .test) _ (c .before .before .holder-of .ensures) (sym (c .before .is-found .ensures) ∙ not-false _ (c .if1 .left))
+returns-2 c =
+    let b = c .before .before .before .before in
+    carried-is A (now (b .args .a)) (b .args .code) (b .pre) (b .args .test) _ (c .before .before .holder-of .ensures)
+    (sym (c .before .is-found .ensures) ∙ not-false _ (c .if1 .left))
 
 pub carried-why-spec : {M : Type 1} → statement M
 carried-why-spec =

@@ -13,7 +13,9 @@ first-such-requires : tie.Need-first-such-requires
 first-such-requires c κs = search needs
 
 returns : tie.Need-returns
-returns c = let b = c .before .before .before in c .first-such .ensures ∙ with-in (b .args .run) (now (b .args .s)) (b .args .code) (b .pre) (b .args .test) _ (c .before .type-in .ensures)
+returns c =
+    let b = c .before .before .before in
+    c .first-such .ensures ∙ with-in (b .args .run) (now (b .args .s)) (b .args .code) (b .pre) (b .args .test) _ (c .before .type-in .ensures)
 
 pub first-with-spec : {M : Type 1} → statement M
 first-with-spec = tie.close (tie.spec type-in-requires first-such-requires returns)

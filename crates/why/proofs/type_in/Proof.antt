@@ -1,5 +1,4 @@
 -- By the run.
-use native.Mathlib.Omega.{arith}
 use borrow.Author.Needs.{needs}
 use Rattle.why.proofs.Rules.{ready-a, type-a, type-b, type-c, type-run}
 use Rattle.why.proofs.type_in.Statement.{statement}
