@@ -1,8 +1,8 @@
 -- Numbers above 63 ask alike; the bits of a bandwidth matter to no other answer; the bytes at the place that is told are the value's.
-use mathlib.Core.Path.{_≡_, refl, sym, ap, _∙_}
+use mathlib.Core.Path.{_≡_, refl}
 use mathlib.Core.Bool.{Bool, true, false, cond}
 use mathlib.Core.List.{List, [], _∷_}
-use Prim.Native.Nat.{ℕ, _+_}
+use Prim.Native.Nat.{ℕ}
 use native.Mathlib.Omega.{arith}
 use lib.Dec.{eqb, ltb}
 use lib.Ieee.{Float}
@@ -10,11 +10,11 @@ use lib.ListN.{length, getD, take}
 use borrow.Author.Tests.{ne-eqb}
 use lib.Seq.{take-length}
 use Rattle.linkstate.specs.Bytes.{bytesAt}
-use Rattle.linkstate.specs.Replies.{Verdict, accepted, refused, refusedIf, _then_, unless, faultOfCall, fault, Reading, whole, pair, bandwidth, part, count, Reply, absent, found, askRefused}
+use Rattle.linkstate.specs.Replies.{Verdict, accepted, refused, refusedIf, _then_, unless, faultOfCall, fault, whole, pair, bandwidth, part, count, Reply, absent, found, askRefused}
 use Rattle.linkstate.specs.Attributes.{Attribute, ofKind}
 use Rattle.linkstate.specs.Why.{Why, unlessAskRefused}
-use Rattle.linkstate.specs.Questions.{Source, Subject, generally, standardNo, userNo, numberTooHigh, beforeAnswer, given, answer, ask, unwritten, value, bytesOfFirst}
-use Rattle.statuses.specs.Words.{nothing, two, placed, whomOf, least, refusalWords, readingWords, replyWords, askWords, placeWords, valueWords}
+use Rattle.linkstate.specs.Questions.{Source, Subject, generally, standardNo, userNo, numberTooHigh, beforeAnswer, given, answer, ask, value, bytesOfFirst}
+use Rattle.statuses.specs.Words.{nothing, placed, whomOf, least, replyWords, askWords, placeWords, valueWords}
 
 -- ---- numbers above 63
 
