@@ -46,7 +46,7 @@ impl Fates<'_> {
                 Some(facts) => self.inner_attribute(element, kind, holder, found, facts),
                 None => fate("attribute", ""),
             },
-            _ => fate("unknown", "unknown: passed over"),
+            _ => fate("unknown", "unknown, passed over"),
         }
     }
 

@@ -69,6 +69,14 @@ impl Entry {
         Entry { name, line, runs: Vec::new(), faults: Vec::new() }
     }
 
+    /// Its name, or the file's where it has none.
+    pub fn title(&self, file: &str) -> String {
+        match &self.name {
+            Some(name) => plain(name),
+            None => format!("of {}", plain(file)),
+        }
+    }
+
     pub fn run(&self, name: RunName) -> Option<&Run> {
         self.runs.iter().find(|r| r.name == name)
     }
@@ -87,6 +95,15 @@ impl Entry {
             }
         }
     }
+}
+
+/// A name without what a terminal would obey.
+pub fn plain(name: &str) -> String {
+    let shown = |c: char| match c.is_control() {
+        true => c.escape_default().to_string(),
+        false => c.to_string(),
+    };
+    name.chars().map(shown).collect()
 }
 
 /// What is wrong with a line, and where: line and column are counted from 1.

@@ -9,7 +9,7 @@ use crate::refusals;
 use crate::report::{Facts, Item, Report};
 use crate::values::{self, Value};
 use crate::walker;
-use std::fmt::{self, Write};
+use std::fmt;
 
 /// A JSON value.
 #[derive(Clone, Debug, PartialEq, Eq)]
@@ -57,46 +57,58 @@ fn list<T: Into<Json>>(all: impl IntoIterator<Item = T>) -> Json {
     Json::List(all.into_iter().map(T::into).collect())
 }
 
-impl fmt::Display for Json {
-    fn fmt(&self, f: &mut fmt::Formatter<'_>) -> fmt::Result {
+impl Json {
+    /// Adds the value to a text.
+    fn write(&self, out: &mut String) {
         match self {
-            Json::Null => f.write_str("null"),
-            Json::Bool(truth) => write!(f, "{truth}"),
-            Json::Number(digits) => f.write_str(digits),
-            Json::Text(text) => quoted(f, text),
+            Json::Null => out.push_str("null"),
+            Json::Bool(truth) => out.push_str(if *truth { "true" } else { "false" }),
+            Json::Number(digits) => out.push_str(digits),
+            Json::Text(text) => quote(out, text),
             Json::List(all) => {
-                f.write_char('[')?;
+                out.push('[');
                 for (i, one) in all.iter().enumerate() {
-                    write!(f, "{}{one}", if i == 0 { "" } else { "," })?;
+                    out.push_str(if i == 0 { "" } else { "," });
+                    one.write(out);
                 }
-                f.write_char(']')
+                out.push(']');
             }
             Json::Object(all) => {
-                f.write_char('{')?;
+                out.push('{');
                 for (i, (key, one)) in all.iter().enumerate() {
-                    write!(f, "{}\"{key}\":{one}", if i == 0 { "" } else { "," })?;
+                    out.push_str(if i == 0 { "" } else { "," });
+                    quote(out, key);
+                    out.push(':');
+                    one.write(out);
                 }
-                f.write_char('}')
+                out.push('}');
             }
         }
     }
 }
 
-fn quoted(f: &mut fmt::Formatter<'_>, text: &str) -> fmt::Result {
+impl fmt::Display for Json {
+    fn fmt(&self, f: &mut fmt::Formatter<'_>) -> fmt::Result {
+        let mut text = String::new();
+        self.write(&mut text);
+        f.write_str(&text)
+    }
+}
+
+fn quote(out: &mut String, text: &str) {
     let is_plain = |c: char| c >= ' ' && !matches!(c, '"' | '\\' | '\u{7F}');
-    f.write_char('"')?;
-    if text.chars().all(is_plain) {
-        f.write_str(text)?;
-        return f.write_char('"');
-    }
-    for c in text.chars() {
-        match c {
-            '"' | '\\' => write!(f, "\\{c}")?,
-            c if is_plain(c) => f.write_char(c)?,
-            c => write!(f, "\\u{:04x}", u32::from(c))?,
+    out.push('"');
+    let mut rest = text;
+    while let Some(at) = rest.find(|c| !is_plain(c)) {
+        out.push_str(&rest[..at]);
+        match rest.as_bytes()[at] {
+            c @ (b'"' | b'\\') => out.extend(['\\', char::from(c)]),
+            c => out.push_str(&format!("\\u{c:04x}")),
         }
+        rest = &rest[at + 1..];
     }
-    f.write_char('"')
+    out.push_str(rest);
+    out.push('"');
 }
 
 fn hex(bytes: &[u8]) -> String {
@@ -109,7 +121,10 @@ pub fn document(report: &Report, export: Option<&[u8]>) -> Json {
     let mut all = head(item.file, item.entry);
     all.push(("source", if item.is_link() { "isis" } else { "bgp-ls" }.into()));
     all.push(("refused", report.facts.as_ref().err().map(|r| refused(item, r)).into()));
-    all.push(("runs", Json::List(item.runs().into_iter().map(|r| run(report, r)).collect())));
+    all.push((
+        "runs",
+        Json::List(item.source.runs().into_iter().map(|r| run(report, r)).collect()),
+    ));
     if let Ok(facts) = &report.facts {
         all.push(("named", applications(&facts.named)));
         all.push(("link", Json::List(facts.of_the_link.iter().map(fact).collect())));
@@ -141,12 +156,12 @@ fn head(file: &str, entry: &Entry) -> Vec<(&'static str, Json)> {
 }
 
 fn refused(item: &Item, refusal: &Refusal) -> Json {
-    let run = item.entry.run(refusal.place.run).filter(|_| refusals::has_place(refusal));
+    let place = refusals::place(refusal);
     Json::Object(vec![
         ("number", usize::from(refusal.number).into()),
-        ("run", refusal.place.run.to_string().into()),
-        ("offset", refusal.place.offset.into()),
-        ("line", run.and_then(|r| r.line_of(refusal.place.offset)).into()),
+        ("run", place.run.to_string().into()),
+        ("offset", place.offset.into()),
+        ("line", refusals::line(item, refusal).into()),
         ("what", refusal.what.as_str().into()),
     ])
 }
@@ -214,7 +229,7 @@ fn advertisement(bytes: &[u8], found: &Advertisement) -> Vec<(&'static str, Json
 }
 
 fn applications(all: &[Application]) -> Json {
-    list(all.iter().map(|a| names::application(*a)))
+    list(all.iter().map(Application::to_string))
 }
 
 fn srlgs(all: &[u32]) -> Json {

@@ -24,7 +24,10 @@ pub fn wrap(text: &str, width: usize) -> Vec<String> {
     if !line.is_empty() || lines.is_empty() {
         lines.push(line);
     }
-    lines.iter().map(|line| line.replace('\u{A0}', " ")).collect()
+    if text.contains('\u{A0}') {
+        lines.iter_mut().for_each(|line| *line = line.replace('\u{A0}', " "));
+    }
+    lines
 }
 
 /// A text that is broken behind its semicolons alone.

@@ -46,14 +46,14 @@ pub struct Fact {
 #[derive(Clone, Debug, PartialEq, Eq)]
 pub struct Refusal {
     pub number: u8,
-    pub place: Place,
+    /// The element that is to blame, if one is.
+    pub place: Option<Place>,
     pub what: String,
 }
 
 impl From<nakhshirul::Refusal> for Refusal {
     fn from(refusal: nakhshirul::Refusal) -> Refusal {
-        // A refusal that is not about an element names run A and offset 0.
-        let place = refusal.place().map_or(Place { run: RunName::A, offset: 0 }, Place::from);
+        let place = refusal.place().map(Place::from);
         Refusal { number: refusal.number(), place, what: refusal.to_string() }
     }
 }
@@ -79,7 +79,36 @@ impl From<Run> for RunName {
 /// Room for all SRLGs of a link: 2,048 bytes of B and 1,024 of C have no more.
 const SRLGS_OF_A_LINK: usize = 768;
 
+impl RunName {
+    /// A longer run is refused.
+    pub fn longest(self) -> usize {
+        match self {
+            RunName::A | RunName::B => 2048,
+            RunName::C => 1024,
+            RunName::BgpLs => 524_288,
+        }
+    }
+}
+
 impl<'a> Source<'a> {
+    pub fn of_link(a: &'a [u8], b: &'a [u8], c: &'a [u8]) -> Source<'a> {
+        Source::Link(Link { a, b, c })
+    }
+
+    pub fn of_bgp_ls(run: &'a [u8]) -> Source<'a> {
+        Source::BgpLs(BgpLs { run })
+    }
+
+    /// The runs that it is made of.
+    pub fn runs(&self) -> Vec<(RunName, &'a [u8])> {
+        match self {
+            Source::Link(Link { a, b, c }) => {
+                vec![(RunName::A, a), (RunName::B, b), (RunName::C, c)]
+            }
+            Source::BgpLs(BgpLs { run }) => vec![(RunName::BgpLs, run)],
+        }
+    }
+
     /// The applications other than RSVP-TE that are named.
     pub fn named(&self) -> Result<Vec<Application>, Refusal> {
         let all = match self {

@@ -51,8 +51,8 @@ impl Length {
     }
 }
 
-/// One of the fourteen kinds.
-#[derive(Debug, PartialEq, Eq)]
+/// One of the fourteen kinds. Two are the same when their codes are.
+#[derive(Debug, Eq)]
 pub struct Kind {
     /// Its BGP-LS code.
     pub code: u16,
@@ -119,6 +119,12 @@ pub const ASLA: u16 = 16;
 /// The type of the IS-IS TLV with SRLGs of applications.
 pub const SRLG_TLV: u16 = 238;
 
+impl PartialEq for Kind {
+    fn eq(&self, other: &Kind) -> bool {
+        self.code == other.code
+    }
+}
+
 impl Kind {
     pub fn of_code(code: u16) -> Option<&'static Kind> {
         KINDS.iter().find(|k| k.code == code)
@@ -164,33 +170,31 @@ impl Identifier {
 /// RSVP-TE, a standard application like the others but for the rules that are its own.
 pub const RSVP_TE: Application = Application::Standard(0);
 
-/// An application in words.
-pub fn application(which: Application) -> String {
-    match which {
-        Application::Standard(0) => "RSVP-TE".into(),
-        Application::Standard(1) => "SR Policy".into(),
-        Application::Standard(2) => "LFA".into(),
-        Application::Standard(3) => "Flex-Algo".into(),
-        Application::Standard(n) => format!("standard {n}"),
-        Application::User(n) => format!("user {n}"),
-    }
-}
-
 /// A subject in words.
 pub fn subject(whom: Subject) -> String {
     match whom {
         Subject::General => "general".into(),
-        Subject::Standard(n) => application(Application::Standard(n as u8)),
-        Subject::User(n) => application(Application::User(n as u8)),
+        application => application.to_string(),
     }
 }
 
-/// The same in at most nine characters.
-pub fn short(which: Application) -> String {
-    match which {
-        Application::Standard(n) if n > 3 => format!("std {n}"),
-        other => application(other),
+/// The application that a subject is; none for the general set.
+pub fn application(whom: Subject) -> Option<Application> {
+    match whom {
+        Subject::General => None,
+        Subject::Standard(n) => u8::try_from(n).ok().map(Application::Standard),
+        Subject::User(n) => u8::try_from(n).ok().map(Application::User),
     }
+}
+
+/// Whether an application has a name of its own.
+fn has_name(which: Application) -> bool {
+    matches!(which, Application::Standard(_)) && !which.to_string().starts_with("standard")
+}
+
+/// A subject in at most nine characters.
+pub fn short(whom: Subject) -> String {
+    subject(whom).replace("standard", "std")
 }
 
 /// Ascending numbers as ranges: 0, 2-4, 9.
@@ -211,18 +215,21 @@ pub fn ranges(numbers: &[usize]) -> Vec<String> {
 
 /// Applications in words, those without a name of their own in ranges.
 pub fn applications(all: &[Application]) -> Vec<String> {
-    let numbers = |user: bool| -> Vec<usize> {
-        let of = |a: &Application| match a {
-            Application::Standard(n) if !user && *n > 3 => Some(usize::from(*n)),
-            Application::User(n) if user => Some(usize::from(*n)),
-            _ => None,
-        };
-        all.iter().filter_map(of).collect()
+    let numbers = |of: fn(Application) -> Option<u8>| -> Vec<usize> {
+        let unnamed = all.iter().copied().filter(|a| !has_name(*a));
+        unnamed.filter_map(of).map(usize::from).collect()
     };
-    let has_name = |a: &&Application| matches!(a, Application::Standard(0..=3));
-    let named = all.iter().filter(has_name).map(|a| application(*a));
-    let standard = ranges(&numbers(false)).into_iter().map(|r| format!("standard {r}"));
-    let user = ranges(&numbers(true)).into_iter().map(|r| format!("user {r}"));
+    let standard = numbers(|a| match a {
+        Application::Standard(n) => Some(n),
+        Application::User(_) => None,
+    });
+    let user = numbers(|a| match a {
+        Application::User(n) => Some(n),
+        Application::Standard(_) => None,
+    });
+    let named = all.iter().filter(|a| has_name(**a)).map(Application::to_string);
+    let standard = ranges(&standard).into_iter().map(|r| format!("standard {r}"));
+    let user = ranges(&user).into_iter().map(|r| format!("user {r}"));
     named.chain(standard).chain(user).collect()
 }
 

@@ -128,19 +128,32 @@ impl Reason {
 /// The reasons of one subject, for the kinds that somebody gets.
 fn of_subject(facts: &[Fact], told: &[&names::Kind], is_link: bool) -> Vec<String> {
     let mut all: Vec<Reason> = Vec::new();
+    // Words are made once for each rule and advertisement.
+    let mut known: Vec<(Why, bool, usize)> = Vec::new();
     for fact in facts.iter().filter(|f| told.contains(&f.kind)) {
-        let words = rule(fact, is_link);
-        let i = all.iter().position(|r| r.words == words).unwrap_or_else(|| {
-            all.push(Reason { why: fact.why, words, has: Vec::new(), lacks: Vec::new() });
-            all.len() - 1
+        let of_srlgs = fact.kind.code == 1096;
+        let same = known.iter().find(|(why, srlgs, _)| *why == fact.why && *srlgs == of_srlgs);
+        let i = same.map(|(.., i)| *i).unwrap_or_else(|| {
+            let i = place_for(&mut all, fact, is_link);
+            known.push((fact.why, of_srlgs, i));
+            i
         });
-        let code = fact.kind.code.to_string();
+        let code = fact.kind.code;
         match fact.value {
             Some(_) => all[i].has.push(format!("{code}\u{A0}{}", stands(fact)).trim_end().into()),
-            None => all[i].lacks.push(code),
+            None => all[i].lacks.push(code.to_string()),
         }
     }
     all.iter().map(Reason::text).collect()
+}
+
+/// Where the reason with the words of a fact stands; added if there is none.
+fn place_for(all: &mut Vec<Reason>, fact: &Fact, is_link: bool) -> usize {
+    let words = rule(fact, is_link);
+    all.iter().position(|r| r.words == words).unwrap_or_else(|| {
+        all.push(Reason { why: fact.why, words, has: Vec::new(), lacks: Vec::new() });
+        all.len() - 1
+    })
 }
 
 /// All reasons, each once, with those whom it is about.
@@ -159,12 +172,7 @@ pub fn all(facts: &Facts, is_link: bool) -> Vec<(String, String)> {
 }
 
 fn title(whom: &[Subject]) -> String {
-    let application = |s: &Subject| match *s {
-        Subject::General => None,
-        Subject::Standard(n) => Some(Application::Standard(n as u8)),
-        Subject::User(n) => Some(Application::User(n as u8)),
-    };
-    let named: Vec<Application> = whom.iter().filter_map(application).collect();
+    let named: Vec<Application> = whom.iter().filter_map(|w| names::application(*w)).collect();
     let general = whom.contains(&Subject::General).then(|| names::subject(Subject::General));
     let all: Vec<String> = general.into_iter().chain(names::applications(&named)).collect();
     all.join(", ")

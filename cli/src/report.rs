@@ -5,7 +5,6 @@ use crate::library::{Application, Fact, Refusal, Source, Subject};
 use crate::names::{Kind, KINDS, RSVP_TE};
 use crate::refusals;
 use crate::walker;
-use nakhshirul::{BgpLs, Link};
 
 /// A link or a BGP-LS run of a file.
 pub struct Item<'a> {
@@ -16,17 +15,11 @@ pub struct Item<'a> {
 
 /// The link and the run of an entry, whichever it has. An entry without a line is an empty link.
 pub fn items<'a>(file: &'a str, entry: &'a Entry) -> Vec<Item<'a>> {
-    let item = |source| Item { file, entry, source };
-    let run = entry.run(RunName::BgpLs).map(|r| Source::BgpLs(BgpLs { run: &r.bytes }));
+    let run = entry.run(RunName::BgpLs).map(|r| Source::of_bgp_ls(&r.bytes));
     let is_link = run.is_none() || entry.runs.len() > 1;
-    let link = is_link.then(|| {
-        Source::Link(Link {
-            a: entry.bytes(RunName::A),
-            b: entry.bytes(RunName::B),
-            c: entry.bytes(RunName::C),
-        })
-    });
-    link.into_iter().chain(run).map(item).collect()
+    let of = |name| entry.bytes(name);
+    let link = is_link.then(|| Source::of_link(of(RunName::A), of(RunName::B), of(RunName::C)));
+    link.into_iter().chain(run).map(|source| Item { file, entry, source }).collect()
 }
 
 impl<'a> Item<'a> {
@@ -34,37 +27,14 @@ impl<'a> Item<'a> {
         matches!(self.source, Source::Link(_))
     }
 
-    /// The runs that it is made of.
-    pub fn runs(&self) -> Vec<(RunName, &'a [u8])> {
-        match self.source {
-            Source::Link(link) => {
-                vec![(RunName::A, link.a), (RunName::B, link.b), (RunName::C, link.c)]
-            }
-            Source::BgpLs(run) => vec![(RunName::BgpLs, run.run)],
-        }
-    }
-
     pub fn run(&self, name: RunName) -> &'a [u8] {
-        let mut all = self.runs().into_iter();
+        let mut all = self.source.runs().into_iter();
         all.find(|r| r.0 == name).map_or(&[], |r| r.1)
     }
 
-    /// Its name, or the file's where it has none.
     pub fn title(&self) -> String {
-        match &self.entry.name {
-            Some(name) => plain(name),
-            None => format!("of {}", plain(self.file)),
-        }
+        self.entry.title(self.file)
     }
-}
-
-/// A name without what a terminal would obey.
-pub fn plain(name: &str) -> String {
-    let shown = |c: char| match c.is_control() {
-        true => c.escape_default().to_string(),
-        false => c.to_string(),
-    };
-    name.chars().map(shown).collect()
 }
 
 /// A subject and what it gets of each kind that was asked for.
@@ -124,18 +94,16 @@ impl<'a> Report<'a> {
     }
 }
 
-/// No run that is longer is walked: the library refuses it by its length.
+/// A run that the library refuses by its length is not walked.
 fn lists(source: &Source) -> Vec<(RunName, List)> {
-    let fits = |run: &[u8], most: usize| run.len() <= most;
-    match source {
-        Source::Link(l) if fits(l.a, 2048) && fits(l.b, 2048) => {
-            vec![(RunName::A, walker::of_a(l.a)), (RunName::B, walker::of_b(l.b))]
-        }
-        Source::BgpLs(r) if fits(r.run, 524_288) => {
-            vec![(RunName::BgpLs, walker::of_bgp_ls(r.run))]
-        }
-        _ => Vec::new(),
-    }
+    let all = source.runs().into_iter().filter(|(name, run)| run.len() <= name.longest());
+    let walked = |(name, run): (RunName, &[u8])| match name {
+        RunName::A => Some((name, walker::of_a(run))),
+        RunName::B => Some((name, walker::of_b(run))),
+        RunName::BgpLs => Some((name, walker::of_bgp_ls(run))),
+        RunName::C => None,
+    };
+    all.filter_map(walked).collect()
 }
 
 fn facts(source: &Source, lists: &[(RunName, List)]) -> Result<Facts, Refusal> {

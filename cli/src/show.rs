@@ -1,12 +1,12 @@
 //! Files read and shown, one after another.
-use crate::input::{self, Entry};
+use crate::input::{self, plain, Entry};
 use crate::json;
 use crate::library::{self, Refusal};
 use crate::options::Mode;
 use crate::pcap::Capture;
 use crate::reasons;
 use crate::refusals;
-use crate::report::{self, plain, Item, Report};
+use crate::report::{self, Item, Report};
 use crate::text;
 use std::fs::File;
 use std::io::{self, BufWriter, Read, Write};
@@ -109,7 +109,7 @@ impl<'o> Show<'o> {
 
     /// An entry with a faulty line: what its bytes are is not known.
     fn unread(&mut self, file: &str, entry: &Entry) -> io::Result<()> {
-        let name = entry.name.as_deref().map_or(format!("of {}", plain(file)), plain);
+        let name = entry.title(file);
         let lines: Vec<String> = entry.faults.iter().map(|f| f.line.to_string()).collect();
         let what = format!("{name}: not read, for faults in line {}", lines.join(", "));
         match self.mode {
@@ -175,8 +175,8 @@ fn bgp_ls(out: &mut dyn Write, report: &Report, export: Option<&[u8]>) -> io::Re
     if let Err(refusal) = &report.facts {
         return writeln!(out, "# {}", refused(report, refusal));
     }
-    let name = report.item.entry.name.as_deref().map(plain);
-    writeln!(out, "link {}", name.unwrap_or_default())?;
+    let name = report.item.entry.name.as_deref().map(plain).unwrap_or_default();
+    writeln!(out, "{}", format!("link {name}").trim_end())?;
     let bytes = export.unwrap_or(&[]);
     if bytes.is_empty() {
         return writeln!(out, "BGP-LS");

@@ -1,7 +1,7 @@
 //! The table of who gets what: a line for each kind, a column for RSVP-TE, for the general set and
 //! for each group of applications with equal sets.
 use crate::layout::{padded, widest, wrap};
-use crate::library::{Application, Fact, Subject};
+use crate::library::{Application, Fact};
 use crate::names::{self, Kind};
 use crate::report::Facts;
 use crate::values::{self, Value};
@@ -118,11 +118,7 @@ fn hang(lines: &mut Vec<String>, front: &str, text: &str) {
 }
 
 fn head(facts: &Facts, column: &[usize]) -> String {
-    match facts.all[column[0]].whom {
-        Subject::General => "general".into(),
-        Subject::Standard(n) => names::short(Application::Standard(n as u8)),
-        Subject::User(n) => names::short(Application::User(n as u8)),
-    }
+    names::short(facts.all[column[0]].whom)
 }
 
 fn more(column: &[usize]) -> String {

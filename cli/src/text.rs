@@ -1,7 +1,6 @@
 //! A report as text.
 use crate::input::RunName;
 use crate::layout::{padded, unbroken, wrap};
-use crate::library::Refusal;
 use crate::listing::{self, Listing};
 use crate::names::{applications, Kind};
 use crate::reasons;
@@ -24,7 +23,10 @@ pub fn brief(report: &Report, export: Option<&[u8]>) -> String {
     };
     let rest = match &report.facts {
         Ok(facts) => outcome(item, facts, export),
-        Err(refusal) => format!("{}{}", refusals::sentence(refusal), line_of(item, refusal)),
+        Err(refusal) => {
+            let line = refusals::line(item, refusal).map(|line| format!(" (line {line})"));
+            format!("{}{}", refusals::sentence(refusal), line.unwrap_or_default())
+        }
     };
     format!("link {}: {sizes}; {rest}", item.title())
 }
@@ -40,21 +42,12 @@ fn outcome(item: &Item, facts: &Facts, export: Option<&[u8]>) -> String {
     }
 }
 
-/// The line of the file where a fault stands.
-fn line_of(item: &Item, refusal: &Refusal) -> String {
-    let run = item.entry.run(refusal.place.run);
-    let line = run.and_then(|r| r.line_of(refusal.place.offset));
-    match line.filter(|_| refusals::has_place(refusal)) {
-        Some(line) => format!(" (line {line})"),
-        None => String::new(),
-    }
-}
-
 /// Everything.
 pub fn write(out: &mut dyn Write, report: &Report, export: Option<&[u8]>) -> io::Result<()> {
     writeln!(out, "{}", brief(report, export))?;
-    if let Err(refusal) = &report.facts {
-        bytes_around(out, &report.item, refusal)?;
+    let refusal = report.facts.as_ref().err();
+    if let Some(bytes) = refusal.and_then(|r| refusals::around(&report.item, r)) {
+        writeln!(out, "  {bytes}")?;
     }
     write_elements(out, report)?;
     if let Ok(facts) = &report.facts {
@@ -66,21 +59,12 @@ pub fn write(out: &mut dyn Write, report: &Report, export: Option<&[u8]>) -> io:
     }
 }
 
-fn bytes_around(out: &mut dyn Write, item: &Item, refusal: &Refusal) -> io::Result<()> {
-    let Some((start, before, from)) = refusals::around(item, refusal) else {
-        return Ok(());
-    };
-    let gap = if before.is_empty() { "" } else { " " };
-    let run = refusal.place.run;
-    writeln!(out, "  {run} from {start}: {before}{gap}[{from}]")
-}
-
 fn write_elements(out: &mut dyn Write, report: &Report) -> io::Result<()> {
     let facts = report.facts.as_ref().ok();
-    for (run, bytes) in report.item.runs() {
+    for (run, bytes) in report.item.source.runs() {
         let listed = match report.list(run) {
             Some(list) => Listing { run, bytes, list, facts }.lines(),
-            None if run == RunName::C && bytes.len() <= 1024 => listing::srlgs(bytes),
+            None if run == RunName::C && bytes.len() <= run.longest() => listing::srlgs(bytes),
             None => Vec::new(),
         };
         if !bytes.is_empty() && !listed.is_empty() {

@@ -9,7 +9,7 @@ use differential::reference::{bgp_ls, link as isis};
 use inspect::elements::{Body, List};
 use inspect::fates::Fates;
 use inspect::input::{self, RunName};
-use inspect::library::{Application, Source, Subject};
+use inspect::library::{Application, Place, Source, Subject};
 use inspect::names::Kind;
 use inspect::report::{items, Facts, Report};
 use inspect::table::Table;
@@ -78,7 +78,8 @@ fn check(file: &str, reference: &Reference) {
         }
         (Err(refusal), Err(expected)) => {
             assert_eq!(refusal.number, expected.fault.number(), "{file}");
-            assert_eq!(refusal.place.offset, expected.offset, "{file}");
+            let offset = refusal.place.map_or(0, |p| p.offset);
+            assert_eq!(offset, expected.offset, "{file}");
             check_walk(file, &report, refusal.number);
         }
         (facts, expected) => panic!("{file}: {} {expected:?}", facts.is_ok()),
@@ -112,10 +113,8 @@ fn check_walk(file: &str, report: &Report, number: u8) {
     let Err(refusal) = &report.facts else { return };
     if matches!(number, 3 | 4) {
         let fault = fault.unwrap_or_else(|| panic!("{file}: no fault"));
-        assert_eq!(
-            (fault.number, fault.run, fault.offset),
-            (number, refusal.place.run, refusal.place.offset)
-        );
+        let place = Place { run: fault.run, offset: fault.offset };
+        assert_eq!((fault.number, Some(place)), (number, refusal.place), "{file}");
         assert_eq!(fault.what, refusal.what, "{file}");
     }
 }
