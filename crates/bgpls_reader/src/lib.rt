@@ -109,6 +109,7 @@ fn answer_accepted(r: &[u8], whom: Subject, code: usize, list: &mut [u32]) -> An
 }
 
 // One kind of one subject: absent, found with its reading, or refused. SRLGs go ascending to the front of the lent list; for every other answer the list stays as it was.
+// Left free: which NaN a bandwidth is, where its bytes are a pattern of one (`value` hands back the bytes).
 pub fn ask(r: &[u8], whom: Subject, code: usize, list: &mut [u32]) -> Answer
     ensures { λ x. ⌜ toldAsked x (now (list .exit)) ≡ ask (runSource (now (r .entry))) (subjectOf whom) code (now (list .entry)) ⌝ }
 {
@@ -123,6 +124,8 @@ pub fn ask(r: &[u8], whom: Subject, code: usize, list: &mut [u32]) -> Answer
 }
 
 // The same question: the value's bytes as a part of the run; empty where it is absent, refused, or SRLG.
+// The contract settles the bytes. Left free: which part of the run they are, where the same bytes stand more than once, since a slice has no offset in the
+// language; it is the one at the place that `bgpls_values::find_value` gives, which the C interface tells.
 pub fn value(r: &[u8], whom: Subject, code: usize) -> &[u8]
     ensures { λ x. ⌜ now x ≡ value (runSource (now (r .entry))) (subjectOf whom) code ⌝ }
 {

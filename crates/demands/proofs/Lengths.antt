@@ -1,6 +1,6 @@
 -- A length that is right in run A is right in BGP-LS: one test over the rows of the table, computed, gives it for every type.
 -- `limit` is the most bytes that a kind's TLV has in the export of an IS-IS link. Assumes nothing.
-use mathlib.Core.Path.{_≡_, refl, sym, ap, _∙_}
+use mathlib.Core.Path.{_≡_, refl, sym, ap, _∙_, subst}
 use mathlib.Core.Logic.{_⊎_, inl, inr}
 use mathlib.Core.Bool.{Bool, true, false, cond, _&&_, not, false≢true}
 use mathlib.Core.List.{List, _∷_, map, List·Memᴰ, List·Memᴰ·head, List·Memᴰ·tail}
@@ -126,6 +126,42 @@ type-right t n w m = go (lookup-cases (hasType t) (λ q. q .code) 0 kinds)
         → RightLength (lookup (hasType t) (λ q. q .code) 0 kinds) (lengthInBgpLs (eqb t 18) n)
     go (inl r) = rw (r .3) (found (r .0) (r .1) (r .2))
     go (inr e) = absurd (zero-is-no-code (rw e at m))
+
+-- Only type 18 is a TE metric.
+metricRow : Carrier → ℕ → Bool
+metricRow (typeInA t) c = cond (eqb t 18) (eqb c 1092) (not (eqb c 1092))
+metricRow valuesInBC c = true
+
+metric-rows : all (λ q. metricRow (q .carrier) (q .code)) kinds ≡ true
+unfolding all metricRow kinds kind
+metric-rows = refl
+
+metric-known : codeOfType 18 ≡ 0 → ⊥
+unfolding codeOfType lookup kinds kind hasType carriedAs
+metric-known e = omega arith
+
+pub metric-type : (t : ℕ) → eqb t 18 ≡ eqb (codeOfType t) 1092
+unfolding codeOfType metricRow hasType carriedAs
+metric-type t = go (lookup-cases (hasType t) (λ q. q .code) 0 kinds)
+  where
+    same : (x y : Bool) → cond x y (not y) ≡ true → x ≡ y
+    same true true h = refl
+    same true false h = absurd (false≢true h)
+    same false true h = absurd (false≢true h)
+    same false false h = refl
+
+    row : (c : Carrier) (n : ℕ) → metricRow c n ≡ true → carriedAs t c ≡ true → eqb t 18 ≡ eqb n 1092
+    row (typeInA x) n h e = rw (eqb-true t x e) (same (eqb x 18) (eqb n 1092) h)
+    row valuesInBC n h e = absurd (false≢true e)
+
+    other : lookup (hasType t) (λ q. q .code) 0 kinds ≡ 0 → (b : Bool) → eqb t 18 ≡ b → b ≡ false
+    other e true i = absurd (metric-known (subst (λ (x : ℕ). codeOfType x ≡ 0) (eqb-true t 18 i) e))
+    other e false i = refl
+
+    go : ((q : Kind) × List·Memᴰ q kinds × (hasType t q ≡ true) × (lookup (hasType t) (λ q. q .code) 0 kinds ≡ q .code)) ⊎ (lookup (hasType t) (λ q. q .code) 0 kinds ≡ 0)
+        → eqb t 18 ≡ eqb (lookup (hasType t) (λ q. q .code) 0 kinds) 1092
+    go (inl r) = rw (r .3) (row (r .0 .carrier) (r .0 .code) (all-mem (λ q. metricRow (q .carrier) (q .code)) kinds metric-rows (r .1)) (r .2))
+    go (inr e) = rw e (other e (eqb t 18) refl)
 
 -- SRLGs: any multiple of four is right.
 pub fours-right : (n : ℕ) → 4 + 4 * n ≤ 2052 → RightLength 1096 (4 * n)

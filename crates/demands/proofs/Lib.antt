@@ -9,5 +9,7 @@ pub mod SideB
 pub mod AcceptedLinks
 pub mod MetByALink
 pub mod Bounds
+pub mod LinkReads
+pub mod LinkAccepted
 pub mod Demands
 pub mod ExactlyOne

@@ -4,9 +4,9 @@ use Rattle.isis.specs.RunA.{listElements, checkAttribute, checkAsla, che
 use Rattle.isis.specs.RunB.{afterNeighbour, identifierBytes, identifiers, srlgValues, identifier, knownIdentifiers, checkIdentifier, isOfType, times, repeats, identifies, ignored, checkSrlg, checkB, srlgAttribute, liveSrlg, srlgAdvertisement, srlgAdvertisements, sideB}
 use Rattle.isis.specs.Link.{linkVerdict, sideOf, linkSource, exportLink}
 use Rattle.isis.specs.Why.{standA, standB, standOf, sideWhy, linkWhy}
-use Rattle.isis.specs.Starred.{M, S, G, Z, subjects, metricOf, caseOf, metric, served, refusedCase, table, emptyReplies, msgBytes, msgInRoom}
+use Rattle.isis.specs.Starred.{M, S, G, Z, subjects, metricsOf, exportOf, metric, emptyReplies, msgBytes, msgInRoom}
 use Rattle.linkstate.proofs.Computing.{computing as linkstate-computing}
 
 unfoldable pub computing : Unit {0}
-unfolding linkstate-computing lFlag sabmLength udabmLength headerLength maskTooLong lForNobody advertisement listElements checkAttribute checkAsla checkA attributesOf liveAsla aslaAdvertisements sideA afterNeighbour identifierBytes identifiers srlgValues identifier knownIdentifiers checkIdentifier isOfType times repeats identifies ignored checkSrlg checkB srlgAttribute liveSrlg srlgAdvertisement srlgAdvertisements sideB linkVerdict sideOf linkSource exportLink standA standB standOf sideWhy linkWhy M S G Z subjects metricOf caseOf metric served refusedCase table emptyReplies msgBytes msgInRoom
+unfolding linkstate-computing lFlag sabmLength udabmLength headerLength maskTooLong lForNobody advertisement listElements checkAttribute checkAsla checkA attributesOf liveAsla aslaAdvertisements sideA afterNeighbour identifierBytes identifiers srlgValues identifier knownIdentifiers checkIdentifier isOfType times repeats identifies ignored checkSrlg checkB srlgAttribute liveSrlg srlgAdvertisement srlgAdvertisements sideB linkVerdict sideOf linkSource exportLink standA standB standOf sideWhy linkWhy M S G Z subjects metricsOf exportOf metric emptyReplies msgBytes msgInRoom
 computing = tt

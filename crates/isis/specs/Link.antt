@@ -27,7 +27,7 @@ linkVerdict a b c =
 unfoldable pub sideOf : List ℕ → List ℕ → List ℕ → ℕ → Side
 sideOf a b c k = cond (eqb k 1096) (sideB b c) (sideA a)
 
--- L19, W1. What questions to a link find; it names the applications that either side names.
+-- I1, L19, W1. What questions to a link find; it names the applications that either side names.
 unfoldable pub linkSource : List ℕ → List ℕ → List ℕ → Source
 linkSource a b c =
     record {

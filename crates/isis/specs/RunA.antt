@@ -20,7 +20,7 @@ listElements at v = elements 1 (at + 2 + headerLength v) (drop (headerLength v) 
 unfoldable pub checkAttribute : ℕ → ℕ → List ℕ → Verdict
 checkAttribute at t v = cond (wrongInA t (length v)) (fault 4 runA at) accepted
 
--- A3, A4. The checks of an ASLA, in order.
+-- A3, A4, R11. The checks of an ASLA, in order; what they do not reach is accepted.
 unfoldable pub checkAsla : ℕ → List ℕ → Verdict
 checkAsla at v =
     cond (ltb (length v) 2) (fault 3 runA at)
@@ -28,7 +28,7 @@ checkAsla at v =
     (cond (ltb (length v) (headerLength v)) (fault 3 runA at)
     (cond (lForNobody v) accepted (cond (lFlag v) accepted (faults runA checkAttribute (listElements at v))))))
 
--- A2. Type 16 is ASLA, any other a legacy attribute.
+-- A2, K3. The check of an element of run A: type 16 is ASLA; of any other the length is checked if its kind is known, else nothing.
 unfoldable pub checkA : ℕ → ℕ → List ℕ → Verdict
 checkA at t v = cond (eqb t 16) (checkAsla at v) (checkAttribute at t v)
 
@@ -45,6 +45,6 @@ unfoldable pub aslaAdvertisements : Element → List Advertisement
 aslaAdvertisements (element at t v) = cond (eqb t 16 && liveAsla v) (advertisement v (each attributesOf (listElements at v)) ∷ []) []
 aslaAdvertisements (cut at) = []
 
--- W1, W2. Side A: its own elements are its legacy values.
+-- I2, W1, W2. Side A: its own elements are its legacy values; an ASLA among them has code 0, like an unknown type, and is nobody's value.
 unfoldable pub sideA : List ℕ → Side
 sideA a = record { legacy = each attributesOf (elements 1 0 a); live = each aslaAdvertisements (elements 1 0 a) }

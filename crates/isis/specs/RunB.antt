@@ -61,7 +61,7 @@ identifies es = any (isOfType 4) es || (any (isOfType 6) es && any (isOfType 8) 
 unfoldable pub ignored : List ℕ → List Element → Bool
 ignored v es = lForNobody v || repeats es || not (identifies es)
 
--- B3. The checks of a 238, in order.
+-- B3, R11. The checks of a 238, in order; what they do not reach is accepted.
 unfoldable pub checkSrlg : ℕ → List ℕ → List ℕ → Verdict
 checkSrlg at value v =
     cond (ltb (length value) 9) (fault 3 runB at)
@@ -91,6 +91,6 @@ srlgAdvertisements (element at t value) =
     cond (eqb t 238 && liveSrlg at (afterNeighbour value)) (srlgAdvertisement at (afterNeighbour value) ∷ []) []
 srlgAdvertisements (cut at) = []
 
--- W1, W2. Side B: C holds its legacy values.
+-- I3, I4, W1, W2. Side B: C holds its legacy values.
 unfoldable pub sideB : List ℕ → List ℕ → Side
 sideB b c = record { legacy = srlgAttribute 0 c ∷ []; live = each srlgAdvertisements (elements 1 0 b) }

@@ -40,7 +40,7 @@ filled g ts = filledIn gridCodes g ts
 unfoldable pub unchecked : ℕ → ℕ → List ℕ → Verdict
 unchecked at t v = accepted
 
--- K3. The BGP-LS value bytes of a code whose value has these bytes in run A: a TE metric gets a zero in front.
+-- K1. The BGP-LS value bytes of a code whose value has these bytes in run A: a TE metric gets a zero in front.
 unfoldable pub bgplsValue : ℕ → List ℕ → List ℕ
 bgplsValue c v = cond (eqb c 1092) (0 ∷ v) v
 

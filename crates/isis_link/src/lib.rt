@@ -48,6 +48,7 @@ fn answer_accepted(
 }
 
 // One kind of one subject: absent, found with its reading, or refused. SRLGs go ascending to the front of the lent list; for every other answer the list stays as it was.
+// Left free: which NaN a bandwidth is, where its bytes are a pattern of one (`value` hands back the bytes).
 pub fn ask(a: &[u8], b: &[u8], c: &[u8], whom: Subject, code: usize, list: &mut [u32]) -> Answer
     ensures { λ r. ⌜ toldAsked r (now (list .exit)) ≡ ask (linkSource (now (a .entry)) (now (b .entry)) (now (c .entry))) (subjectOf whom) code (now (list .entry)) ⌝ }
 {
@@ -62,6 +63,8 @@ pub fn ask(a: &[u8], b: &[u8], c: &[u8], whom: Subject, code: usize, list: &mut 
 }
 
 // The same question: the value's bytes as a part of run A; empty where it is absent, refused, or SRLG.
+// The contract settles the bytes. Left free: which part of run A they are, where the same bytes stand more than once, since a slice has no offset in the
+// language; it is the one at the place that `isis_values::find_row` gives, which the C interface tells.
 pub fn value<'a, 'b, 'c>(
     a: &'a [u8],
     b: &'b [u8],

@@ -1,4 +1,4 @@
--- Attributes that are read together (rules W5, W6), and the reading of one (rule K4).
+-- Attributes that are read together (rules W5, W6, L11), and the reading of one (rule K4).
 use mathlib.Core.Bool.{Bool, true, false, cond}
 use mathlib.Core.List.{List, [], _∷_, map}
 use Prim.Native.Nat.{ℕ, _+_}
@@ -22,7 +22,7 @@ pub record Attribute : Type 0 where
 unfoldable pub attribute : ℕ → ℕ → List ℕ → ℕ → List ℕ → Attribute
 attribute w at v code value = record { code = code; at = at + (w + w); len = length v; value = value }
 
--- W5. The attributes of one kind, in byte order.
+-- W5, W6, L11. The attributes of one kind, in byte order.
 unfoldable pub ofKind : ℕ → List Attribute → List Attribute
 ofKind k ts = keep (λ t. eqb k (t .code)) ts
 
@@ -34,11 +34,11 @@ unfoldable pub firstValue : List Attribute → List ℕ
 firstValue [] = []
 firstValue (t ∷ ts) = t .value
 
--- W5, L16. A kind's value, as BGP-LS value bytes, none where it is absent: the first; for SRLG all.
+-- W5, W6, L11, L16. A kind's value, as BGP-LS value bytes, none where it is absent: the first; for SRLG all.
 unfoldable pub valueOf : ℕ → List Attribute → List ℕ
 valueOf k ts = cond (eqb k 1096) (bytesOfWords (srlgs ts)) (firstValue (ofKind k ts))
 
--- K4. The reading of a value, by its kind's form.
+-- K4. The reading of a value, by its kind's form. `ofBits` makes one NaN of every pattern of a NaN.
 unfoldable pub readingAs : Form → Run → Attribute → Reading
 readingAs wholeNumber run t = whole (number (t .value))
 readingAs twoNumbers run t = pair (number (take 4 (t .value))) (number (drop 4 (t .value)))

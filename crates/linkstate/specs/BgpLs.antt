@@ -52,7 +52,7 @@ checkTop at t v = cond (eqb t 1122) (checkAsla at v) (cond (wrongAtTop t (length
 unfoldable pub runVerdict : List ℕ → Verdict
 runVerdict r = refusedIf (ltb 524288 (length r)) 1 then faults runBgpLs checkTop (elements 2 0 r)
 
--- L11. An element as an attribute, its code being its type.
+-- L9, L10. An element, at the top level or inside a 1122, as an attribute: its code is its type, known or not.
 unfoldable pub attributesOf : Element → List Attribute
 attributesOf (element at t v) = attribute 2 at v t v ∷ []
 attributesOf (cut at) = []

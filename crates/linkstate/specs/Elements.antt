@@ -32,7 +32,7 @@ elementsAfter w at zero (b ∷ bs) =
     (element at (typeOf w (b ∷ bs)) (take (lengthOf w (b ∷ bs)) (drop (w + w) (b ∷ bs))) ∷ elementsAfter w (suc at) (pred (sizeOf w (b ∷ bs))) bs)
     (cut at ∷ [])
 
--- The elements of a list whose first byte is at an offset of its run.
+-- A1, B1, L1. The elements of a list whose first byte is at an offset of its run.
 unfoldable pub elements : ℕ → ℕ → List ℕ → List Element
 elements w at s = elementsAfter w at 0 s
 

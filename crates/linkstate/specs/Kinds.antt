@@ -1,4 +1,4 @@
--- Document 01, "The fourteen kinds" (rules K1 to K6): one table, and what it says of an IS-IS type and of a BGP-LS code.
+-- Document 01, "The fourteen kinds" (rules K1 to K4; K5 and K6 stand in Questions): one table, and what it says of an IS-IS type and of a BGP-LS code.
 use mathlib.Core.Bool.{Bool, true, false, cond, _&&_, not}
 use mathlib.Core.List.{List, [], _∷_, map}
 use Prim.Native.Nat.{ℕ, _%_}
@@ -46,6 +46,7 @@ unfoldable pub kind : ℕ → Carrier → Size → Size → Owner → Form → K
 kind c t i b o f = record { code = c; carrier = t; isisSize = i; bgplsSize = b; owner = o; form = f }
 
 -- K1, K2, K4. The table, ascending by code (RFC 8919 section 3; RFC 9294 section 3; RFC 8571 section 2 for 1114 to 1120).
+-- No type carries 1096, so no check asks for its IS-IS size, any number of values: run C and the rest of a 238 are measured by rules R2 and B3.
 unfoldable pub kinds : List Kind
 kinds =
     kind 1088 (typeInA 3) (exactly 4) (exactly 4) applications wholeNumber

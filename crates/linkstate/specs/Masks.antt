@@ -14,7 +14,7 @@ bit mask n = eqb (getD mask (n / 8) 0 / 2 ^ (7 - n % 8) % 2) 1
 unfoldable pub user : ℕ → ℕ
 user n = 64 + n
 
--- A8. Whether a standard and a user mask have an application's bit set.
+-- A8, I11. Whether a standard and a user mask have an application's bit set, registered or not.
 unfoldable pub inMasks : List ℕ → List ℕ → ℕ → Bool
 inMasks standardMask userMask a = cond (ltb a 64) (bit standardMask a) (bit userMask (a - 64))
 

@@ -4,7 +4,7 @@ use mathlib.Core.List.{List, [], _∷_}
 use Prim.Native.Nat.{ℕ}
 use lib.Ieee.{Float}
 
--- R8. The lent runs that a place can lie in.
+-- R8. The lent runs that a place can lie in. No value and no refusal has its place in C: it is there to be named as the run of legacy SRLGs.
 pub data Run : Type 0 where
   runA : Run
   runB : Run
@@ -56,6 +56,7 @@ unless accepted f x = x
 unless (refused r) f x = f r
 
 -- K4. A reading: a whole number, two numbers, a float, where the value stands and its length, or how many different SRLGs there are.
+-- There is one NaN among the floats, so a NaN's bits are no part of a reading.
 pub data Reading : Type 0 where
   whole : ℕ → Reading
   pair : ℕ → ℕ → Reading

@@ -24,7 +24,8 @@ fn read_number(s: &[u8], at: usize, len: usize) -> u32
     }
 }
 
-// What the value at a place of a run reads as. Its length is one that its kind may have.
+// What the value at a place of a run reads as. Its length is one that its kind may have. SRLGs are not read here: no length is Readable for their form,
+// so the last arm is never taken and its 0 is nobody's answer; the form has its arm because a match names every case.
 pub fn read_value(s: &[u8], run: Run, form: Form, at: usize, len: usize) -> Reading
     requires { ⌜ (at + len ≤ length (now s)) × Readable (toldForm form) len ⌝ }
     ensures { λ r. ⌜ toldReading r ≡ readingAs (toldForm form) (toldRun run) (standing (now (s .entry)) at len) ⌝ }

@@ -4,7 +4,7 @@ ghost use Rattle.replies.specs.Told.{toldRun, toldRefusal, subjectOf};
 ghost use Rattle.linkstate.specs.Replies.{refusalAt, runA};
 ghost use Rattle.linkstate.specs.Questions.{numberTooHigh};
 
-// The lent runs that a place can lie in.
+// The lent runs that a place can lie in. C is there to be told as the run of legacy SRLGs; no value and no refusal has its place in it.
 pub enum Run {
     A,
     B,
@@ -25,6 +25,7 @@ pub struct Refusal {
 }
 
 // What a value reads as: a whole number, two numbers, a bandwidth, where the value stands and its length, or how many different SRLGs there are.
+// Left free: which NaN a Bandwidth is, where the four bytes are a pattern of one; the value entries hand back the bytes themselves.
 pub enum Reading {
     Number(u32),
     Pair(u32, u32),

@@ -9,7 +9,7 @@ use borrow.Author.Tests.{eqb-true, le-ltb}
 use lib.Dec.{eqb}
 use Rattle.linkstate.specs.Lists.{member}
 use Rattle.linkstate.specs.Kinds.{applicationCodes, linkCodes, isCode, isLinkCode}
-use Rattle.linkstate.specs.Masks.{user, others, asNumber}
+use Rattle.linkstate.specs.Masks.{user, others}
 use Rattle.linkstate.specs.Replies.{accepted, unless, listed}
 use Rattle.linkstate.specs.Questions.{Subject, generally, standardNo, userNo, numberTooHigh, listNamed}
 use Rattle.linkstate.specs.Meaning.{Meaning, meaning, row, Same}
@@ -18,7 +18,7 @@ use Rattle.linkstate.specs.Export.{export}
 use Rattle.linkstate.specs.WellFormed.{WellFormed}
 use Rattle.linkstate.proofs.Computing.{computing}
 use Rattle.linkstate.proofs.MaskLaws.{number-same}
-use Rattle.rivals.specs.Reads.{applicationMeant, setMeant, meant, Reads}
+use Rattle.rivals.specs.Reads.{applicationMeant, setMeant, meant, namesMeant, inBgpLs, Reads, AnsweredBy}
 use Rattle.linkstate.proofs.ListLaws.{map-at}
 use Rattle.rivals.proofs.KindLaws.{standard-other, user-other, code-mem, link-mem, application-mem}
 use Rattle.rivals.proofs.RoundTrip.{export-is-rival}
@@ -65,7 +65,7 @@ rsvpTe-apart = refl
 
 module _ (m : Meaning) (ok : WellFormed m) where
   -- Every question to it, with a good application number and code, is answered by the meaning.
-  pub export-reads : (whom : Subject) → numberTooHigh whom ≡ false → (k : ℕ) → isCode k ≡ true → (list : List ℕ) → Reads (export m) m whom k list
+  export-reads : (whom : Subject) → numberTooHigh whom ≡ false → (k : ℕ) → isCode k ≡ true → (list : List ℕ) → Reads (runSource (export m)) inBgpLs m whom k list
   export-reads whom h k c list =
       let rival = export-is-rival m ok in
       let reads = run-reads (export m) (rival .accepted) whom h k c list in
@@ -93,9 +93,12 @@ module _ (m : Meaning) (ok : WellFormed m) where
   names-user n l = sym (export-is-rival m ok .same .named (user n) (user-other n (le-ltb 63 n (omega arith))))
 
   -- It lists the applications that the meaning names.
-  pub export-lists : listNamed (runSource (export m)) ≡ listed (asNumber (m .named)) (asNumber (λ n. m .named (user n)))
-  unfolding listNamed unless
+  export-lists : listNamed (runSource (export m)) ≡ namesMeant m
+  unfolding listNamed unless namesMeant
   export-lists =
       rw (export-is-rival m ok .accepted)
       (ap₂ listed (number-same (runSource (export m) .names) (m .named) names-standard)
       (number-same (λ n. runSource (export m) .names (user n)) (λ n. m .named (user n)) names-user))
+
+  pub export-answers : AnsweredBy (runSource (export m)) inBgpLs m
+  export-answers = record { reads = export-reads; names = export-lists }

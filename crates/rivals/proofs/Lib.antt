@@ -10,6 +10,7 @@ pub mod ReadBack
 pub mod RoundTrip
 pub mod Acceptance
 pub mod SrlgLaws
+pub mod SourceReads
 pub mod Reader
 pub mod ExportRead
 pub mod Example

@@ -2,67 +2,38 @@
 -- so a kind other than SRLG is never found without bytes, and it stands in the run at its place.
 use mathlib.Core.Path.{_≡_, refl, sym, ap, ap₂, _∙_, subst}
 use mathlib.Core.Bool.{Bool, true, false, cond, false≢true}
-use mathlib.Core.List.{List, [], _∷_, List·Memᴰ, List·Memᴰ·head}
+use mathlib.Core.List.{List, [], _∷_, List·Memᴰ}
 use Prim.Native.Nat.{ℕ, _+_, _<_}
 use native.Mathlib.Omega.{arith}
-use borrow.Author.Tests.{eqb-true, ltb-true, ltb-false}
-use lib.Dec.{eqb, ltb}
+use borrow.Author.Tests.{eqb-true}
+use lib.Dec.{eqb}
 use lib.ListN.{length, drop}
 use lib.Seq.{take-length}
-use Rattle.linkstate.specs.Lists.{keep, each, empty, put, member}
-use Rattle.linkstate.specs.Bytes.{bytesAt, distinct, words, four, bytesOfWords}
+use Rattle.linkstate.specs.Lists.{keep, each, empty, member}
+use Rattle.linkstate.specs.Bytes.{bytesAt}
 use Rattle.linkstate.specs.Kinds.{isCode, isLinkCode, wrongAtTop, wrongInside}
 use Rattle.linkstate.specs.Masks.{user, others}
-use Rattle.linkstate.specs.Replies.{runA, runBgpLs, refusalAt, accepted, refused, fault, faultOfCall, refusedIf, _then_, unless, found, askRefused, count}
+use Rattle.linkstate.specs.Replies.{runBgpLs, accepted, fault}
 use Rattle.linkstate.specs.Elements.{elements}
-use Rattle.linkstate.specs.Attributes.{Attribute, attribute, ofKind, srlgs, firstValue, valueOf, reading}
+use Rattle.linkstate.specs.Attributes.{Attribute, attribute, ofKind}
 use Rattle.linkstate.specs.Sides.{Advertisement, general, names, named, ofLive, generalSet, applicationSet}
-use Rattle.linkstate.specs.Questions.{Subject, generally, standardNo, userNo, numberTooHigh, setOf, given, beforeAnswer, firstOf, unwritten, srlgAnswer, answer, ask, bytesOfFirst, value}
+use Rattle.linkstate.specs.Questions.{Subject, generally, standardNo, userNo, numberTooHigh, setOf, given, value}
 use Rattle.linkstate.specs.Meaning.{meaning, Accepted}
 use Rattle.linkstate.specs.BgpLs.{aslaHeader, innerElements, checkInner, checkTop, advertisement, attributesOf, aslas, topLevel, runSide, runSource}
 use Rattle.linkstate.proofs.ElementLaws.{at-place, rest-place}
-use Rattle.rivals.specs.Reads.{applicationMeant, setMeant, meant, Tells, tellsAbsent, tellsReading, tellsSrlgs, tellsTooMany, Reads}
+use Rattle.rivals.specs.Reads.{inBgpLs, Reads, AnsweredBy}
 use Rattle.linkstate.proofs.ListLaws.{keep-mem, each-mem}
 use Rattle.rivals.proofs.Sizes.{not-refused}
-use Rattle.rivals.proofs.SrlgLaws.{distinct-twice}
-use Rattle.rivals.proofs.KindLaws.{standard-other, user-other, code-mem, not-asla, top-bytes, inside-bytes}
+use Rattle.rivals.proofs.KindLaws.{code-mem, not-asla, top-bytes, inside-bytes}
 use Rattle.rivals.proofs.RunLaws.{accepted-faults, faults-mem, attribute-mem, asla-mem, asla-checked, no-L}
+use Rattle.rivals.proofs.SourceReads.{Held, source-reads, source-lists}
 
--- ---- what is given, and what is meant
+-- ---- who gets the general set
 
-value-cond : (k : ℕ) (b : Bool) (x y : List Attribute) → cond b (valueOf k x) (valueOf k y) ≡ valueOf k (cond b x y)
-value-cond k true x y = refl
-value-cond k false x y = refl
-
-module _ (r : List ℕ) (k : ℕ) where
-  -- An application that no ASLA names gets the general set.
-  application-meant : (a : ℕ) → member a others ≡ true → applicationMeant (meaning (runSource r)) a k ≡ valueOf k (applicationSet a (runSide r))
-  unfolding applicationMeant meaning runSource applicationSet
-  application-meant a h = rw (h, no-L r a) (go (named a (runSide r)))
-    where
-      go : (b : Bool)
-          → cond b (valueOf k (cond b (ofLive (names a) (runSide r)) (generalSet (runSide r)))) (valueOf k (generalSet (runSide r)))
-          ≡ valueOf k (cond b (ofLive (names a) (runSide r)) (generalSet (runSide r)))
-      go true = refl
-      go false = refl
-
-  set-meant : (whom : Subject) → numberTooHigh whom ≡ false → setMeant (meaning (runSource r)) whom k ≡ valueOf k (setOf (runSource r) whom k)
-  unfolding setMeant setOf numberTooHigh meaning runSource
-  set-meant generally h = refl
-  set-meant (standardNo n) h = go (eqb n 0) refl
-    where
-      go : (b : Bool) → eqb n 0 ≡ b
-          → cond b (valueOf k (topLevel r)) (applicationMeant (meaning (runSource r)) n k) ≡ valueOf k (cond b (topLevel r) (applicationSet n (runSide r)))
-      go true e = refl
-      go false e = application-meant n (standard-other n h e)
-  set-meant (userNo n) h = application-meant (user n) (user-other n h)
-
-  -- A meaning is read from what a question is given.
-  pub meant-given : (whom : Subject) → numberTooHigh whom ≡ false → meant (meaning (runSource r)) whom k ≡ valueOf k (given (runSource r) whom k)
-  unfolding meant given meaning
-  meant-given whom h =
-      let s = runSource r in
-      ap (λ (v : List ℕ). cond (isLinkCode k) (valueOf k (s .bandwidth k)) v) (set-meant whom h) ∙ value-cond k (isLinkCode k) (s .bandwidth k) (setOf s whom k)
+-- An application that no ASLA names.
+unnamed : (r : List ℕ) (k a : ℕ) → member a others ≡ true → runSource r .names a ≡ false → runSource r .application a k ≡ runSource r .general k
+unfolding runSource applicationSet
+unnamed r k a h n = let z : named a (runSide r) ≡ false = rw h at n in rw (no-L r a, z)
 
 -- ---- where a given attribute comes from
 
@@ -175,75 +146,23 @@ module _ (r : List ℕ) (ok : Accepted (runSource r)) where
 
 -- ---- replies
 
--- The first attribute of a kind is told by its reading.
-first-tells : (r : List ℕ) (k : ℕ) (list : List ℕ) → eqb k 1096 ≡ false → (ts : List Attribute)
-    → ((t : Attribute) → List·Memᴰ t ts → Stands r t × (t .code ≡ k) × (empty (t .value) ≡ false))
-    → Tells r k (firstValue ts) list (unwritten list (firstOf runBgpLs ts)) × (bytesOfFirst r ts ≡ firstValue ts)
-unfolding firstValue firstOf bytesOfFirst
-first-tells r k list n [] h = (tellsAbsent refl, refl)
-first-tells r k list n (t ∷ ts) h =
-    let f = h t (List·Memᴰ·head refl) in
-    let same : record { code = k; at = t .at; len = length (t .value); value = t .value } ≡ t =
-    ap₂ (λ (c l : ℕ). record { code = c; at = t .at; len = l; value = t .value }) (sym (f .1)) (sym (f .0 .len)) in
-    let place : bytesAt r (t .at) (length (t .value)) ≡ t .value = sym (ap (bytesAt r (t .at)) (f .0 .len)) ∙ f .0 .bytes in (
-      subst (λ (u : Attribute). Tells r k (t .value) list (unwritten list (found (reading runBgpLs u)))) same (tellsReading (t .at) (f .2) n place),
-      f .0 .bytes,
-    )
-
--- Different numbers are told by their count.
-srlgs-tell : (r : List ℕ) (k : ℕ) (list : List ℕ) → eqb k 1096 ≡ true → (ns : List ℕ) → distinct ns ≡ ns → Tells r k (bytesOfWords ns) list (srlgAnswer ns list)
-unfolding srlgAnswer bytesOfWords each four empty unless refusedIf faultOfCall fault
-srlgs-tell r k list e [] d = tellsAbsent refl
-srlgs-tell r k list e (n ∷ ns) d = go (ltb (length list) (length (n ∷ ns))) refl
-  where
-    go : (b : Bool) → ltb (length list) (length (n ∷ ns)) ≡ b
-        → Tells r k (bytesOfWords (n ∷ ns)) list
-        (unless (cond b (refused (refusalAt 5 runA 0)) accepted) (λ r. unwritten list (askRefused r)) (record { reply = found (count (length (n ∷ ns))); list = put list 0 (n ∷ ns) }))
-    go true c = tellsTooMany (n ∷ ns) refl e d refl (ltb-true (length list) (length (n ∷ ns)) c)
-    go false c = tellsSrlgs (n ∷ ns) refl e d refl (ltb-false (length list) (length (n ∷ ns)) c)
-
 -- Every question to an accepted run, with a good application number and code, is answered by what the run means.
 module _ (r : List ℕ) (ok : Accepted (runSource r)) (whom : Subject) (n : numberTooHigh whom ≡ false) (k : ℕ) (c : isCode k ≡ true) (list : List ℕ) where
-  let-pass : beforeAnswer (runSource r) whom k ≡ accepted
-  unfolding beforeAnswer refusedIf _then_
-  let-pass = rw (n, c) ok
-
-  attributes : List Attribute
-  attributes = given (runSource r) whom k
-
-  meant-is : meant (meaning (runSource r)) whom k ≡ valueOf k attributes
-  unfolding attributes
-  meant-is = meant-given r k whom n
-
-  asked-is : ask (runSource r) whom k list ≡ answer runBgpLs k attributes list
-  unfolding ask unless runSource attributes
-  asked-is = rw let-pass
-
-  value-is : value (runSource r) whom k ≡ cond (eqb k 1096) [] (bytesOfFirst r (ofKind k attributes))
-  unfolding value unless runSource attributes
-  value-is = rw let-pass
-
   pub of-kind : (t : Attribute) → eqb k 1096 ≡ false → List·Memᴰ t (ofKind k (given (runSource r) whom k)) → Stands r t × (t .code ≡ k) × (empty (t .value) ≡ false)
-  unfolding ofKind attributes
+  unfolding ofKind
   of-kind t d i =
       let q = keep-mem (λ t. eqb k (t .code)) (given (runSource r) whom k) i in
       let from = given-from r k whom (q .1) in
       let e : t .code ≡ k = sym (eqb-true k (t .code) (q .0)) in
       (from-stands r ok k from, e, has-bytes r ok k c d from e)
 
-  tells : Tells r k (valueOf k attributes) list (answer runBgpLs k attributes list)
-      × (cond (eqb k 1096) [] (bytesOfFirst r (ofKind k attributes)) ≡ cond (eqb k 1096) [] (valueOf k attributes))
-  unfolding valueOf answer srlgs attributes
-  tells = go (eqb k 1096) refl
-    where
-      go : (b : Bool) → eqb k 1096 ≡ b
-          → Tells r k (cond b (bytesOfWords (srlgs attributes)) (firstValue (ofKind k attributes))) list
-          (cond b (srlgAnswer (srlgs attributes) list) (unwritten list (firstOf runBgpLs (ofKind k attributes))))
-          × (cond b [] (bytesOfFirst r (ofKind k attributes)) ≡ cond b [] (cond b (bytesOfWords (srlgs attributes)) (firstValue (ofKind k attributes))))
-      go true e = (srlgs-tell r k list e (srlgs attributes) (distinct-twice (each (λ t. words (t .value)) (ofKind 1096 attributes))), refl)
-      go false e = first-tells r k list e (ofKind k attributes) (λ t i. of-kind t e i)
+  held : eqb k 1096 ≡ false → (t : Attribute) → List·Memᴰ t (ofKind k (given (runSource r) whom k)) → Held (runSource r) inBgpLs k t
+  unfolding runSource
+  held d t i = let q = of-kind t d i in record { code = q .1; some = q .2; bytes = q .0 .bytes; len = q .0 .len }
 
-  pub run-reads : Reads r (meaning (runSource r)) whom k list
-  run-reads =
-      let m : meant (meaning (runSource r)) whom k ≡ valueOf k attributes = meant-is in
-      record { asked = rw (m, asked-is) (tells .0); bytes = value-is ∙ tells .1 ∙ ap (λ (v : List ℕ). cond (eqb k 1096) [] v) (sym m) }
+  pub run-reads : Reads (runSource r) inBgpLs (meaning (runSource r)) whom k list
+  run-reads = source-reads (runSource r) ok whom n k c inBgpLs refl held list (unnamed r k)
+
+-- Whoever wrote it.
+pub run-answers : (r : List ℕ) → Accepted (runSource r) → AnsweredBy (runSource r) inBgpLs (meaning (runSource r))
+run-answers r ok = record { reads = run-reads r ok; names = source-lists (runSource r) ok }

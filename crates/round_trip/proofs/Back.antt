@@ -4,23 +4,14 @@ use mathlib.Core.List.{List}
 use Prim.Native.Nat.{ℕ, _-_}
 use native.Mathlib.Omega.{arith}
 use lib.ListN.{take, drop}
-use Rattle.linkstate.specs.Masks.{user, asNumber}
-use Rattle.linkstate.specs.Replies.{Refusal, askRefused, Asked, Named, listed, namedRefused, unless}
+use Rattle.linkstate.specs.Replies.{Refusal, askRefused, Asked, Named}
 use Rattle.linkstate.specs.Questions.{Subject, unwritten, ask, listNamed}
-use Rattle.linkstate.specs.Meaning.{meaning, Accepted}
 use Rattle.linkstate.specs.BgpLs.{runSource}
 use Rattle.isis.specs.Link.{linkSource}
-use Rattle.demands.specs.Demands.{meaningOf, exportOf}
 use Rattle.demands.proofs.Demands.{demands}
 use Rattle.isis_export.proofs.Delivered.{delivered}
 use Rattle.round_trip.specs.ReadBack.{Alike, Refuses, Writes, AskedBack, refusedBack, askedBack, NamedBack, namedBack}
 use Rattle.round_trip.proofs.Answers.{export-answers}
-
--- The applications that an accepted link lists.
-link-lists : (a b c : List ℕ) → Accepted (linkSource a b c)
-    → listNamed (linkSource a b c) ≡ listed (asNumber (meaningOf a b c .named)) (asNumber (λ n. meaningOf a b c .named (user n)))
-unfolding listNamed unless meaning
-link-lists a b c ok = ap (λ v. unless v namedRefused (listed (asNumber (linkSource a b c .names)) (asNumber (λ n. linkSource a b c .names (user n))))) ok
 
 module _ (a b c buffer after : List ℕ) (n : ℕ) (w : Writes a b c buffer after n) where
   abbrev run : List ℕ
@@ -44,8 +35,9 @@ module _ (a b c buffer after : List ℕ) (n : ℕ) (w : Writes a b c buffer afte
   pub named-back : (x : Named) → x ≡ listNamed (runSource front) → NamedBack a b c buffer after x
   named-back x h =
       let d = delivered a b c buffer n after w in
+      let l = demands .links a b c (d .accepted) in
       let e : x ≡ listNamed (runSource run) = h ∙ ap (λ (r : List ℕ). listNamed (runSource r)) front-is in
-      namedBack n w e (link-lists a b c (d .accepted) ∙ sym (demands .links a b c (d .accepted) .named) ∙ ap (λ (r : List ℕ). listNamed (runSource r)) (sym (d .bytes)) ∙ sym e)
+      namedBack n w e (l .answers .names ∙ sym (l .readBack .names) ∙ ap (λ (r : List ℕ). listNamed (runSource r)) (sym (d .bytes)) ∙ sym e)
 
 pub refused-back : (a b c buffer after : List ℕ) (whom : Subject) (k : ℕ) (list : List ℕ) (r : Refusal) → Refuses a b c buffer after r
     → AskedBack a b c buffer after whom k list (record { reply = askRefused r; list = list })

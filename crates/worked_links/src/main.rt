@@ -215,26 +215,31 @@ fn starred_table() {
     starred(b"a metric cut short", b"\x12\x03\x00\x00");
 }
 
-// M S G in a room of just its length, in one of a byte more, whose last stays as it was, and in one of a byte less, which stays whole.
-fn rooms() {
-    let a =
-        b"\x12\x03\x00\x00\x0a\x10\x08\x01\x00\x40\x12\x03\x00\x00\x14\x10\x07\x00\x00\x12\x03\x00\x00\x1e";
-    let mut just = [0xAAu8; 44];
-    export_link(b"M S G in 44", a, b"", b"", &mut just);
-    let mut more = [0xAAu8; 45];
-    export_link(b"M S G in 45", a, b"", b"", &mut more);
-    say_room(&more);
-    let mut less = [0xAAu8; 43];
-    export_link(b"M S G in 43", a, b"", b"", &mut less);
-    say_room(&less);
+fn in_just(a: &[u8]) {
+    let mut room = [0xAAu8; 44];
+    export_link(b"M S G in 44", a, b"", b"", &mut room);
 }
 
-// A is general with metric 30, and B names SR Policy with SRLG 7.
-fn sides() {
-    let a = b"\x10\x07\x00\x00\x12\x03\x00\x00\x1e";
-    let b =
-        b"\xee\x19\x00\x00\x00\x00\x00\x00\x00\x01\x00\x40\x0a\x04\x08\x00\x00\x00\x01\x00\x00\x00\x02\x00\x00\x00\x07";
-    let c = b"";
+fn in_more(a: &[u8]) {
+    let mut room = [0xAAu8; 45];
+    export_link(b"M S G in 45", a, b"", b"", &mut room);
+    say_room(&room);
+}
+
+fn in_less(a: &[u8]) {
+    let mut room = [0xAAu8; 43];
+    export_link(b"M S G in 43", a, b"", b"", &mut room);
+    say_room(&room);
+}
+
+// M S G in a room of just its length, in one of a byte more, whose last stays as it was, and in one of a byte less, which stays whole.
+fn rooms(a: &[u8]) {
+    in_just(a);
+    in_more(a);
+    in_less(a);
+}
+
+fn sides(a: &[u8], b: &[u8], c: &[u8]) {
     ask_link(b"sides, SR Policy", a, b, c, Subject::Standard(1));
     ask_link(b"sides, LFA", a, b, c, Subject::Standard(2));
     ask_link(b"sides, standard 63", a, b, c, Subject::Standard(63));
@@ -243,20 +248,17 @@ fn sides() {
     export_whole(b"sides", a, b, c);
 }
 
-// Run A of the greatest size, and one byte more.
-fn sizes() {
-    let most = [0u8; 2048];
-    ask_link(b"2,048 bytes", &most, b"", b"", Subject::General);
-    let more = [0u8; 2049];
-    ask_link(b"2,049 bytes", &more, b"", b"", Subject::General);
+fn longest() {
+    let run = [0u8; 2048];
+    ask_link(b"2,048 bytes", &run, b"", b"", Subject::General);
 }
 
-// RFC 9294 section 4.1: an ASLA for S, F and X; general SRLGs; SRLGs for X.
-fn illustration() {
-    let a = b"\x10\x08\x01\x00\x70\x12\x03\x00\x00\x0a";
-    let b =
-        b"\xee\x18\x00\x00\x00\x00\x00\x00\x00\x00\x00\x0a\x04\x08\x00\x00\x00\x01\x00\x00\x00\x02\x00\x00\x00\x05\xee\x19\x00\x00\x00\x00\x00\x00\x00\x01\x00\x10\x0a\x04\x08\x00\x00\x00\x01\x00\x00\x00\x02\x00\x00\x00\x06";
-    let c = b"";
+fn too_long() {
+    let run = [0u8; 2049];
+    ask_link(b"2,049 bytes", &run, b"", b"", Subject::General);
+}
+
+fn illustration(a: &[u8], b: &[u8], c: &[u8]) {
     ask_link(b"illustration, S", a, b, c, Subject::Standard(1));
     ask_link(b"illustration, F", a, b, c, Subject::Standard(2));
     ask_link(b"illustration, X", a, b, c, Subject::Standard(3));
@@ -265,10 +267,7 @@ fn illustration() {
     export_whole(b"illustration", a, b, c);
 }
 
-// The export of M S G, as document 01 gives it, read back; and the same cut short.
-fn read_back() {
-    let r =
-        b"\x04\x44\x00\x04\x00\x00\x00\x0a\x04\x62\x00\x0c\x00\x00\x00\x00\x04\x44\x00\x04\x00\x00\x00\x1e\x04\x62\x00\x10\x04\x00\x00\x00\x40\x00\x00\x00\x04\x44\x00\x04\x00\x00\x00\x14";
+fn read_back(r: &[u8]) {
     ask_run(b"M S G read, RSVP-TE", r, Subject::Standard(0));
     ask_run(b"M S G read, SR Policy", r, Subject::Standard(1));
     ask_run(b"M S G read, LFA", r, Subject::Standard(2));
@@ -279,9 +278,26 @@ fn read_back() {
 
 fn main() {
     starred_table();
-    rooms();
-    sides();
-    sizes();
-    illustration();
-    read_back();
+    rooms(
+        b"\x12\x03\x00\x00\x0a\x10\x08\x01\x00\x40\x12\x03\x00\x00\x14\x10\x07\x00\x00\x12\x03\x00\x00\x1e",
+    );
+    // A is general with metric 30, and B names SR Policy with SRLG 7.
+    sides(
+        b"\x10\x07\x00\x00\x12\x03\x00\x00\x1e",
+        b"\xee\x19\x00\x00\x00\x00\x00\x00\x00\x01\x00\x40\x0a\x04\x08\x00\x00\x00\x01\x00\x00\x00\x02\x00\x00\x00\x07",
+        b"",
+    );
+    // Run A of the greatest size, and one byte more.
+    longest();
+    too_long();
+    // RFC 9294 section 4.1: an ASLA for S, F and X; general SRLGs; SRLGs for X.
+    illustration(
+        b"\x10\x08\x01\x00\x70\x12\x03\x00\x00\x0a",
+        b"\xee\x18\x00\x00\x00\x00\x00\x00\x00\x00\x00\x0a\x04\x08\x00\x00\x00\x01\x00\x00\x00\x02\x00\x00\x00\x05\xee\x19\x00\x00\x00\x00\x00\x00\x00\x01\x00\x10\x0a\x04\x08\x00\x00\x00\x01\x00\x00\x00\x02\x00\x00\x00\x06",
+        b"",
+    );
+    // The export of M S G, as document 01 gives it, read back; and the same cut short.
+    read_back(
+        b"\x04\x44\x00\x04\x00\x00\x00\x0a\x04\x62\x00\x0c\x00\x00\x00\x00\x04\x44\x00\x04\x00\x00\x00\x1e\x04\x62\x00\x10\x04\x00\x00\x00\x40\x00\x00\x00\x04\x44\x00\x04\x00\x00\x00\x14",
+    );
 }
