@@ -2,6 +2,7 @@
 use crate::input::{self, plain, Entry};
 use crate::json;
 use crate::library::{self, Refusal};
+use crate::names::ranges;
 use crate::options::Mode;
 use crate::pcap::Capture;
 use crate::reasons;
@@ -63,6 +64,12 @@ impl<'o> Show<'o> {
 
     /// Shows what a file holds.
     pub fn bytes(&mut self, name: &str, bytes: &[u8]) -> io::Result<()> {
+        if let Some(at) = bytes.iter().position(|b| *b == 0) {
+            let what = format!(
+                "no text: a zero byte stands at offset {at}; inspect reads hex, as xxd prints it"
+            );
+            return self.fault(&format!("{}: {what}", plain(name)));
+        }
         let file = input::read(bytes);
         for fault in file.faults() {
             let place = format!("{}:{}:{}", plain(name), fault.line, fault.column);
@@ -110,8 +117,10 @@ impl<'o> Show<'o> {
     /// An entry with a faulty line: what its bytes are is not known.
     fn unread(&mut self, file: &str, entry: &Entry) -> io::Result<()> {
         let name = entry.title(file);
-        let lines: Vec<String> = entry.faults.iter().map(|f| f.line.to_string()).collect();
-        let what = format!("{name}: not read, for faults in line {}", lines.join(", "));
+        let mut lines: Vec<usize> = entry.faults.iter().map(|f| f.line).collect();
+        lines.dedup();
+        let s = if lines.len() == 1 { "" } else { "s" };
+        let what = format!("{name}: not read, for faults in line{s} {}", ranges(&lines).join(", "));
         match self.mode {
             Mode::Text | Mode::Brief => writeln!(self.out, "link {what}"),
             Mode::Why(..) => writeln!(self.out, "{what}"),

@@ -50,6 +50,21 @@ fn a_faulty_line_is_status_2_and_the_rest_is_shown() {
 }
 
 #[test]
+fn bytes_that_are_no_text_are_one_fault() {
+    let (out, errors, status) = run(&["-"], "A 12 03\0\nnothing\n");
+    assert_eq!((out.as_str(), status), ("", Some(2)));
+    assert_eq!(errors.lines().count(), 1, "{errors}");
+    assert!(errors.contains("a zero byte stands at offset 7"), "{errors}");
+}
+
+#[test]
+fn faulty_lines_are_told_in_ranges() {
+    let (out, errors, status) = run(&["--brief", "-"], "link x\nq\nq\nA 12\nq\n");
+    assert_eq!((out.as_str(), status), ("link x: not read, for faults in lines 2-3, 5\n", Some(2)));
+    assert_eq!(errors.lines().count(), 3, "{errors}");
+}
+
+#[test]
 fn a_wrong_command_line_is_status_2() {
     for arguments in [&["--nonsense"][..], &["--why"], &["--why", "nobody"], &["--json", "--brief"]]
     {
