@@ -1,129 +1,116 @@
--- Laws of the bytes of an ASLA TLV. Assumes nothing.
-use Prim.Native.Nat.{ℕ, _+_, _-_, _≤_, _<_}
+-- Laws of what stands before the set of an ASLA TLV, and that with the set it is the TLV. Assumes nothing.
+use Prim.Native.Nat.{ℕ, _+_, _*_, _/_, _%_, _≤_, _<_}
 use mathlib.Core.Path.{_≡_, refl, sym, _∙_, ap, ap₂}
 use mathlib.Core.Bool.{Bool}
 use mathlib.Core.List.{List, [], _∷_, _++_, append-assoc}
-use lib.ListN.{length, take, drop, length-append}
-use lib.Seq.{length-take-le, take-append-le, take-take, drop-at}
 use native.Mathlib.Omega.{arith}
-use borrow.Author.Tests.{lt-ltb, le-ltb}
+use lib.ListN.{length, length-append}
 use Rattle.linkstate.specs.Lists.{put}
-use Rattle.linkstate.specs.Bytes.{two}
+use Rattle.linkstate.specs.Bytes.{two, four}
 use Rattle.linkstate.specs.Kinds.{applicationCodes}
-use Rattle.linkstate.specs.Masks.{user, inNumber, maskSize, mask}
+use Rattle.linkstate.specs.Masks.{user, maskSize, mask}
 use Rattle.linkstate.specs.Meaning.{row}
 use Rattle.linkstate.specs.Export.{tlv, bytesOf, aslaValue}
-use Rattle.octets.proofs.Laws.{put-then}
-use Rattle.masks.proofs.Laws.{size-same, size-le, mask-same}
 use Rattle.linkstate.proofs.MaskLaws.{length-mask}
-use Rattle.set_bytes.specs.Sets.{inTlvs}
-use Rattle.set_bytes.proofs.Laws.{length-tlv, tlvs-same}
-use Rattle.asla_bytes.specs.Applications.{inNumbers, aslaRest}
+use Rattle.octets.proofs.Laws.{put-then}
+use Rattle.masks.specs.Sets.{inSent}
+use Rattle.masks.proofs.Laws.{size-same, size-le, mask-same}
+use Rattle.tlv_bytes.specs.Tlvs.{inTlvs, Wrote}
+use Rattle.tlv_bytes.proofs.Laws.{tlvs-same, same-write, behind-room, behind-write}
+use Rattle.asla_bytes.specs.Fronts.{frontSize, aslaFront}
 
--- A mask's length is small.
-pub small : (m r : ℕ) → r ≡ maskSize (inNumber m) → r ≤ 8
-small m r e = omega (arith, size-le (inNumber m))
+-- ---- pieces
 
--- The masks of two numbers.
-module _ (s u : ℕ) where
-  standard-in : (n : ℕ) → n < 64 → inNumbers s u n ≡ inNumber s n
-  unfolding inNumbers
-  standard-in n h = rw (lt-ltb n 64 h)
+pub mask-wrote : (m : ℕ) (d : List ℕ) (at : ℕ) {r : ℕ} {o : List ℕ} → (r ≡ at + maskSize (inSent m)) × (o ≡ put d at (mask (inSent m))) → Wrote d at (mask (inSent m)) r o
+mask-wrote m d at w = (w .0 ∙ ap (λ (k : ℕ). at + k) (sym (length-mask (inSent m))), w .1)
 
-  user-in : (n : ℕ) → n < 64 → inNumbers s u (user n) ≡ inNumber u n
-  unfolding inNumbers user
-  user-in n h = let e : 64 + n - 64 ≡ n = omega arith in rw (le-ltb (64 + n) 64 (omega arith), e)
-
-  pub standard-size : maskSize (inNumbers s u) ≡ maskSize (inNumber s)
-  standard-size = size-same (inNumbers s u) (inNumber s) standard-in
-
-  pub user-size : maskSize (λ n. inNumbers s u (user n)) ≡ maskSize (inNumber u)
-  user-size = size-same (λ n. inNumbers s u (user n)) (inNumber u) user-in
-
-  pub length-masks : length (mask (inNumber s) ++ mask (inNumber u)) ≡ maskSize (inNumber s) + maskSize (inNumber u)
-  length-masks = length-append (mask (inNumber s)) (mask (inNumber u)) ∙ ap₂ (λ (i j : ℕ). i + j) (length-mask (inNumber s)) (length-mask (inNumber u))
-
-  -- The value of an ASLA TLV: four bytes of lengths and zeros, the masks, and the TLVs of the set.
-  abbrev pub sizes : List ℕ
-  sizes = maskSize (inNumber s) ∷ maskSize (inNumber u) ∷ 0 ∷ 0 ∷ []
-
-  module _ (f : ℕ → List ℕ) where
-    pub value-is : aslaValue (inNumbers s u) f ≡ sizes ++ aslaRest s u f
-    unfolding aslaValue
-    value-is =
-        let a = standard-size in
-        let b = user-size in
-        let c = mask-same (inNumbers s u) (inNumber s) standard-in in
-        let d = mask-same (λ n. inNumbers s u (user n)) (inNumber u) user-in in
-        cc
-
-    pub length-rest : length (aslaRest s u f) ≡ maskSize (inNumber s) + maskSize (inNumber u) + length (inTlvs f applicationCodes)
-    length-rest = length-append (mask (inNumber s) ++ mask (inNumber u)) (inTlvs f applicationCodes) ∙ ap (λ (k : ℕ). k + length (inTlvs f applicationCodes)) length-masks
-
-    pub length-value : length (aslaValue (inNumbers s u) f) ≡ 4 + length (aslaRest s u f)
-    length-value = ap length value-is ∙ omega arith
-
-    pub length-asla : length (bytesOf (tlv 1122 (aslaValue (inNumbers s u) f))) ≡ 8 + length (aslaRest s u f)
-    length-asla = length-tlv 1122 (aslaValue (inNumbers s u) f) ∙ omega (arith, length-value)
-
--- The value depends on the applications below 64 of each kind, and on the values of the set.
-pub asla-same : (p q : ℕ → Bool) (f h : ℕ → List ℕ) → ((n : ℕ) → n < 64 → p n ≡ q n) → ((n : ℕ) → n < 64 → p (user n) ≡ q (user n)) → row f ≡ row h → aslaValue p f ≡ aslaValue q h
-unfolding aslaValue row
-asla-same p q f h i j e =
-    let a = size-same p q i in
-    let b = size-same (λ n. p (user n)) (λ n. q (user n)) j in
-    let c = mask-same p q i in
-    let d = mask-same (λ n. p (user n)) (λ n. q (user n)) j in
-    let t = tlvs-same f h applicationCodes e in
+sizes-four : (s u : ℕ) → s ≤ 8 → u ≤ 8 → four (s * 16777216 + u * 65536) ≡ s ∷ u ∷ 0 ∷ 0 ∷ []
+unfolding four
+sizes-four s u h k =
+    let n = s * 16777216 + u * 65536 in
+    let a : n / 16777216 ≡ s = omega arith in
+    let b : n / 65536 % 256 ≡ u = omega arith in
+    let c : n / 256 % 256 ≡ 0 = omega arith in
+    let e : n % 256 ≡ 0 = omega arith in
     cc
 
--- ---- an ASLA TLV written in parts
+pub put-head : (d e f : List ℕ) (at s u n : ℕ) → s ≤ 8 → u ≤ 8 → e ≡ put d at (two 1122 ++ two n) → f ≡ put e (at + 4) (four (s * 16777216 + u * 65536)) → at + 8 ≤ length d
+    → f ≡ put d at (two 1122 ++ two n ++ (s ∷ u ∷ 0 ∷ 0 ∷ []))
+unfolding two
+put-head d e f at s u n hs hu p q h = put-then d e f at (two 1122 ++ two n) (at + 4) (s ∷ u ∷ 0 ∷ 0 ∷ []) p (q ∙ ap (put e (at + 4)) (sizes-four s u hs hu)) refl (omega arith)
 
-pub put-sizes : (d e f : List ℕ) (at x y v w s u : ℕ) → e ≡ put d at (x ∷ y ∷ []) → f ≡ put e (at + 2) (v ∷ w ∷ []) → x ≡ s → y ≡ u → v ≡ 0 → w ≡ 0 → at + 4 ≤ length d
-    → f ≡ put d at (s ∷ u ∷ 0 ∷ 0 ∷ [])
-put-sizes d e f at x y v w s u p q i j k l h = put-then d e f at (x ∷ y ∷ []) (at + 2) (v ∷ w ∷ []) p q refl (omega arith) ∙ ap (put d at) (cc)
+module _ (standard users : ℕ) where
+  abbrev S : ℕ
+  S = maskSize (inSent standard)
 
--- A second write, right before a first, is one write of both.
-pub put-before : (d e f : List ℕ) (at : ℕ) (vs : List ℕ) (k : ℕ) (ws : List ℕ) → e ≡ put d k ws → f ≡ put e at vs → k ≡ at + length vs → k + length ws ≤ length d → f ≡ put d at (vs ++ ws)
-unfolding put
-put-before d e f at vs k ws p q r h =
-    let z = drop (k + length ws) d in
-    let l = length-take-le k d (omega arith) in
-    let whole : e ≡ take k d ++ (ws ++ z) = p ∙ append-assoc (take k d) ws z in
-    let low : take at e ≡ take at d = ap (take at) whole ∙ take-append-le at (take k d) (ws ++ z) (omega arith) ∙ take-take at k d (omega arith) in
-    let high : drop (at + length vs) e ≡ ws ++ z = ap (λ (j : ℕ). drop j e) (sym r) ∙ ap (drop k) whole ∙ drop-at (take k d) (ws ++ z) k l in
-    let end : k + length ws ≡ at + length (vs ++ ws) = omega (arith, length-append vs ws) in
-    q
-    ∙ ap₂ (λ (x y : List ℕ). x ++ vs ++ y) low high
-    ∙ sym (append-assoc (take at d ++ vs) ws z)
-    ∙ ap (λ (x : List ℕ). x ++ z) (append-assoc (take at d) vs ws)
-    ∙ ap (λ (j : ℕ). take at d ++ (vs ++ ws) ++ drop j d) end
+  abbrev U : ℕ
+  U = maskSize (inSent users)
 
-module _ (s u : ℕ) (d : List ℕ) (at : ℕ) where
-  pub put-masks : (e f : List ℕ) (k : ℕ) → e ≡ put d at (mask (inNumber s)) → f ≡ put e (at + k) (mask (inNumber u)) → k ≡ maskSize (inNumber s)
-      → at + (maskSize (inNumber s) + maskSize (inNumber u)) ≤ length d → f ≡ put d at (mask (inNumber s) ++ mask (inNumber u))
-  put-masks e f k p q i h =
-      put-then d e f at (mask (inNumber s)) (at + k) (mask (inNumber u)) p q (omega (arith, length-mask (inNumber s))) (omega (arith, length-mask (inNumber u)))
+  abbrev masks : List ℕ
+  masks = mask (inSent standard) ++ mask (inSent users)
 
-  pub masks-write : {r : ℕ} {o : List ℕ} → (r ≡ at + (maskSize (inNumber s) + maskSize (inNumber u))) × (o ≡ put d at (mask (inNumber s) ++ mask (inNumber u)))
-      → (r ≡ at + length (mask (inNumber s) ++ mask (inNumber u))) × (o ≡ put d at (mask (inNumber s) ++ mask (inNumber u)))
-  masks-write w = (w .0 ∙ ap (λ (k : ℕ). at + k) (sym (length-masks s u)), w .1)
+  pub length-masks : length masks ≡ S + U
+  length-masks = length-append (mask (inSent standard)) (mask (inSent users)) ∙ ap₂ (λ (i j : ℕ). i + j) (length-mask (inSent standard)) (length-mask (inSent users))
 
-  pub put-front : (n : ℕ) (e f : List ℕ) → e ≡ put d at (two 1122 ++ two n) → f ≡ put e (at + 4) (sizes s u) → at + 8 ≤ length d → f ≡ put d at (two 1122 ++ two n ++ sizes s u)
-  unfolding two
-  put-front n e f p q h = put-then d e f at (two 1122 ++ two n) (at + 4) (sizes s u) p q refl (omega arith)
+  pub size-is : frontSize standard users ≡ 8 + (S + U)
+  unfolding frontSize
+  size-is = omega arith
 
-  module _ (f : ℕ → List ℕ) where
-    as-tlv : (n : ℕ) → n ≡ length (aslaValue (inNumbers s u) f) → two 1122 ++ two n ++ sizes s u ++ aslaRest s u f ≡ bytesOf (tlv 1122 (aslaValue (inNumbers s u) f))
-    unfolding bytesOf
-    as-tlv n e = append-assoc (two 1122 ++ two n) (sizes s u) (aslaRest s u f) ∙ ap₂ (λ (k : ℕ) (v : List ℕ). two 1122 ++ two k ++ v) e (sym (value-is s u f))
+  module _ (size : ℕ) where
+    abbrev head : List ℕ
+    head = two 1122 ++ two (4 + S + U + size) ++ (S ∷ U ∷ 0 ∷ 0 ∷ [])
 
-    front-length : (n : ℕ) → length (two 1122 ++ two n ++ sizes s u) ≡ 8
+    length-head : length head ≡ 8
     unfolding two
-    front-length n = refl
+    length-head = refl
 
-    pub put-asla : (n : ℕ) (e o : List ℕ) → e ≡ put d (at + 8) (aslaRest s u f) → o ≡ put e at (two 1122 ++ two n ++ sizes s u) → n ≡ 4 + length (aslaRest s u f)
-        → at + length (bytesOf (tlv 1122 (aslaValue (inNumbers s u) f))) ≤ length d → o ≡ put d at (bytesOf (tlv 1122 (aslaValue (inNumbers s u) f)))
-    put-asla n e o p q i h =
-        put-before d e o at (two 1122 ++ two n ++ sizes s u) (at + 8) (aslaRest s u f) p q (ap (λ (k : ℕ). at + k) (sym (front-length n))) (omega (arith, length-asla s u f))
-        ∙ ap (put d at) (as-tlv n (i ∙ sym (length-value s u f)))
+    front-is : head ++ masks ≡ aslaFront standard users size
+    unfolding aslaFront
+    front-is = sym (append-assoc head (mask (inSent standard)) (mask (inSent users)))
+
+    pub length-front : length (aslaFront standard users size) ≡ frontSize standard users
+    length-front = ap length (sym front-is) ∙ length-append head masks ∙ omega (arith, length-head, length-masks, size-is)
+
+    -- The head written, then the masks.
+    module _ (d : List ℕ) (at : ℕ) (room : at + frontSize standard users ≤ length d) (s u n : ℕ) (es : s ≡ S) (eu : u ≡ U) (en : n ≡ 4 + s + u + size) (e : List ℕ)
+        (is : e ≡ put d at (two 1122 ++ two n ++ (s ∷ u ∷ 0 ∷ 0 ∷ []))) (kept : length e ≡ length d) where
+      head-wrote : Wrote d at head (at + 8) e
+      head-wrote =
+          let z : n ≡ 4 + S + U + size = omega arith in
+          (ap (λ (k : ℕ). at + k) (sym length-head), is ∙ ap (put d at) (pieces z))
+        where
+          pieces : n ≡ 4 + S + U + size → two 1122 ++ two n ++ (s ∷ u ∷ 0 ∷ 0 ∷ []) ≡ head
+          pieces z = cc
+
+      whole-room : at + length (head ++ masks) ≤ length d
+      whole-room = omega (arith, length-append head masks, length-head, length-masks, size-is)
+
+      pub masks-room : at + 8 + (S + U) ≤ length e
+      masks-room = omega (arith, size-is)
+
+      pub front-written : {r : ℕ} {o : List ℕ} → Wrote e (at + 8) masks r o → Wrote d at (aslaFront standard users size) r o
+      front-written w = same-write front-is d at (behind-write d at head masks whole-room kept head-wrote w)
+
+  pub front-small : frontSize standard users ≤ 24
+  front-small = omega (arith, size-is, size-le (inSent standard), size-le (inSent users))
+
+-- ---- with the set, it is the TLV
+
+module _ (standard users : ℕ) (p : ℕ → Bool) (f h : ℕ → List ℕ) (s : (n : ℕ) → n < 64 → p n ≡ inSent standard n) (u : (n : ℕ) → n < 64 → p (user n) ≡ inSent users n) (same : row f ≡ row h) where
+  pub asla-is : bytesOf (tlv 1122 (aslaValue p f)) ≡ aslaFront standard users (length (inTlvs h applicationCodes)) ++ inTlvs h applicationCodes
+  unfolding bytesOf aslaValue row aslaFront
+  asla-is =
+      let a = size-same p (inSent standard) s in
+      let b = size-same (λ n. p (user n)) (inSent users) u in
+      let c = mask-same p (inSent standard) s in
+      let d = mask-same (λ n. p (user n)) (inSent users) u in
+      let t = tlvs-same f h applicationCodes same in
+      rw (a, b, c, d, t) (go (mask (inSent standard)) (mask (inSent users)) (inTlvs h applicationCodes) (length-mask (inSent standard)) (length-mask (inSent users)))
+    where
+      go : (x y z : List ℕ) → length x ≡ maskSize (inSent standard) → length y ≡ maskSize (inSent users)
+          → two 1122 ++ two (length (maskSize (inSent standard) ∷ maskSize (inSent users) ∷ 0 ∷ 0 ∷ x ++ y ++ z)) ++ (maskSize (inSent standard) ∷ maskSize (inSent users) ∷ 0 ∷ 0 ∷ x ++ y ++ z)
+          ≡ two 1122 ++ two (4 + maskSize (inSent standard) + maskSize (inSent users) + length z) ++ (maskSize (inSent standard) ∷ maskSize (inSent users) ∷ 0 ∷ 0 ∷ []) ++ x ++ y ++ z
+      go x y z e k =
+          let l : length (maskSize (inSent standard) ∷ maskSize (inSent users) ∷ 0 ∷ 0 ∷ x ++ y ++ z) ≡ 4 + maskSize (inSent standard) + maskSize (inSent users) + length z =
+          omega (arith, length-append (x ++ y) z, length-append x y) in
+          rw l (simp append-assoc)

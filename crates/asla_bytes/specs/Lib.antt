@@ -1,1 +1,1 @@
-pub mod Applications
+pub mod Fronts

@@ -26,7 +26,7 @@ use Rattle.kinds.specs.declared.Size.{Size}
 use Rattle.kinds.specs.declared.Rule.{Rule}
 use Rattle.kinds.proofs.Kind.{the-type}
 use Rattle.kinds.specs.Rules.{ruleOfCode, fitsIn, wrongInsideBy}
-use Rattle.kinds.proofs.Laws.{wrong-inside, wrong-at-top}
+use Rattle.kinds.proofs.Laws.{any-kept, wrong-inside, wrong-at-top}
 use Rattle.bgpls_check.specs.declared.Frame.the-variants.{Cut, Whole}
 use Rattle.bgpls_check.specs.Framing.{frameAt}
 
@@ -107,18 +107,6 @@ module _ (check : ℕ → ℕ → List ℕ → Verdict) (base : ℕ) (s : List �
     element-refused r p = faults-stop runBgpLs check 2 (omega arith) base s at n r (f .size) (f .within) (same-check ∙ p)
 
 -- ---- lengths
-
--- What p finds among those with g.
-any-kept : {A : Type 0} (p g : A → Bool) (qs : List A) → any (λ q. p q && g q) qs ≡ any p (keep g qs)
-unfolding any keep
-any-kept p g [] = refl
-any-kept p g (q ∷ qs) = go (p q) (g q) refl (any-kept p g qs)
-  where
-    go : (y x : Bool) → p q ≡ y → any (λ q. p q && g q) qs ≡ any p (keep g qs) → (y && x) || any (λ q. p q && g q) qs ≡ any p (cond x (q ∷ keep g qs) (keep g qs))
-    go true true i e = ap₂ (λ (b c : Bool). b || c) (sym i) e
-    go false true i e = ap₂ (λ (b c : Bool). b || c) (sym i) e
-    go true false i e = e
-    go false false i e = e
 
 -- Four bytes are wrong for few codes.
 pub inside-four : (c n : ℕ) → n ≡ 4 → eqb c 1115 ≡ wrongInside c n

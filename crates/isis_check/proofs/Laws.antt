@@ -1,16 +1,30 @@
 -- The verdict on a link, check by check: the refusals of the call, then run A, then run B.
-use mathlib.Core.Path.{_≡_}
+use mathlib.Core.Path.{_≡_, refl, sym, ap, _∙_, subst}
 use mathlib.Core.Bool.{Bool, true, false, _||_}
-use mathlib.Core.List.{List}
-use Prim.Native.Nat.{ℕ, _%_}
-use borrow.Author.Tests.{ne-eqb, eq-eqb}
+use mathlib.Core.List.{List, [], _∷_}
+use Prim.Native.Nat.{ℕ, _%_, _≤_}
+use native.Mathlib.Omega.{arith}
+use borrow.Author.Tests.{ne-eqb, eq-eqb, ltb-false}
 use lib.Dec.{ltb}
 use lib.ListN.{length}
+use Rattle.linkstate.specs.Lists.{each}
 use Rattle.linkstate.specs.Replies.{refused, refusalAt, fault, faultOfCall, refusedIf, _then_, runA, runB}
 use Rattle.linkstate.specs.Elements.{elements, faults}
-use Rattle.isis.specs.RunA.{checkA}
-use Rattle.isis.specs.RunB.{checkB}
+use Rattle.linkstate.proofs.ElementLaws.{none-left}
+use Rattle.linkstate.proofs.ListLaws.{or-l, or-r}
+use Rattle.linkstate.proofs.WalkLaws.{then-passed, then-refused}
+use Rattle.isis.specs.RunA.{checkA, sideA}
+use Rattle.isis.specs.RunB.{checkB, sideB}
 use Rattle.isis.specs.Link.{linkVerdict}
+use Rattle.replies.specs.declared.Refusal.{Refusal as Fault}
+use Rattle.replies.specs.Told.{toldRefusal}
+use Rattle.naming.specs.declared.Names.{Names}
+use Rattle.naming.specs.declared.Checking.{Checking}
+use Rattle.naming.specs.declared.Checking.the-variants as Run
+use Rattle.naming.specs.Names.{Tells, toldChecking, Named, Checks}
+use Rattle.isis_check.specs.declared.Sides.{Sides}
+use Rattle.isis_check.specs.declared.LinkChecked.the-variants.{Refused, Accepted}
+use Rattle.isis_check.specs.Sides.{ChecksLink}
 
 module _ (a b c : List ℕ) where
   abbrev pub long : Bool
@@ -25,6 +39,40 @@ module _ (a b c : List ℕ) where
     unfolding linkVerdict refusedIf faultOfCall fault _then_
     link-odd n = rw (t, ne-eqb (length c % 4) 0 n)
 
+    pub link-short : (length a ≤ 2048) × (length b ≤ 2048)
+    link-short =
+        let x = or-l (ltb 2048 (length a) || ltb 2048 (length b)) (ltb 1024 (length c)) t in
+        (ltb-false 2048 (length a) (or-l (ltb 2048 (length a)) (ltb 2048 (length b)) x), ltb-false 2048 (length b) (or-r (ltb 2048 (length a)) (ltb 2048 (length b)) x))
+
     pub link-runs : length c % 4 ≡ 0 → (faults runA checkA (elements 1 0 a) then faults runB checkB (elements 1 0 b)) ≡ linkVerdict a b c
     unfolding linkVerdict refusedIf _then_
     link-runs e = rw (t, eq-eqb (length c % 4) 0 e)
+
+    -- by what the checks of the two runs answer
+    module _ (e : length c % 4 ≡ 0) (x : Checking) (p : Checks (faults runA checkA (elements 1 0 a)) ((sideA a) .live) x) where
+      pub refused-a : (r : Fault) → x ≡ Run.Refused r → ChecksLink a b c (Refused r)
+      refused-a r g =
+          record { told = sym (then-refused (faults runA checkA (elements 1 0 a)) (faults runB checkB (elements 1 0 b)) (toldRefusal r) (sym (p .told) ∙ ap toldChecking g)) ∙ link-runs e; names = tt }
+
+      module _ (m : Names) (g : x ≡ Run.Accepted m) (y : Checking) (q : Checks (faults runB checkB (elements 1 0 b)) ((sideB b c) .live) y) where
+        by-b : toldChecking y ≡ linkVerdict a b c
+        by-b =
+            q .told ∙ sym (then-passed (faults runA checkA (elements 1 0 a)) (faults runB checkB (elements 1 0 b)) (sym (p .told) ∙ ap toldChecking g)) ∙ link-runs e
+
+        pub refused-b : (r : Fault) → y ≡ Run.Refused r → ChecksLink a b c (Refused r)
+        refused-b r h = record { told = sym (ap toldChecking h) ∙ by-b; names = tt }
+
+        pub accepted-both : (n : Names) → y ≡ Run.Accepted n → (s : Sides) → s ≡ record { a = m; b = n } → ChecksLink a b c (Accepted s)
+        accepted-both n h s z =
+            record {
+              told = sym (ap toldChecking h) ∙ by-b;
+              names =
+                  subst (λ (w : Sides). Tells ((sideA a) .live) (w .a) × Tells ((sideB b c) .live) (w .b)) (sym z)
+                  (subst (λ (w : Checking). Named w ((sideA a) .live)) g (p .names), subst (λ (w : Checking). Named w ((sideB b c) .live)) h (q .names));
+            }
+
+-- a run B of no bytes names nobody
+pub none-b : (b c : List ℕ) (m : Names) → length b ≡ 0 → Tells [] m → Checks (faults runB checkB (elements 1 0 b)) ((sideB b c) .live) (Run.Accepted m)
+unfolding sideB faults each
+none-b [] c m e t = rw (none-left 1 0) (record { told = refl; names = t })
+none-b (x ∷ b) c m e t = absurd (omega arith)

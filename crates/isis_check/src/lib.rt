@@ -1,11 +1,21 @@
 // The checks of an IS-IS link: all that can refuse it, in document 01's order.
 ghost use mathlib.Core.Path.{_≡_};
 ghost use mathlib.Core.Bool.{_||_};
+ghost use mathlib.Core.List.{List};
+ghost use Prim.Native.Nat.{ℕ, _<_};
 ghost use lib.Dec.{ltb};
-ghost use Rattle.linkstate.specs.Replies.{_then_};
+ghost use lib.ListN.{length};
+ghost use Rattle.linkstate.specs.Replies.{_then_, runB};
+ghost use Rattle.linkstate.specs.Elements.{elements, faults};
+ghost use Rattle.isis.specs.RunB.{checkB, sideB};
 ghost use Rattle.isis.specs.Link.{linkVerdict};
 ghost use Rattle.replies.specs.Told.{toldChecked};
+ghost use Rattle.naming.specs.Names.{Checks};
+ghost use Rattle.isis_check.specs.Sides.{ChecksLink};
+use naming::Checking;
+use naming::Names;
 use replies::Checked;
+use replies::Refusal;
 
 // Whether a run is longer than it may be, by the lengths of runs A, B and C.
 fn too_long(a: usize, b: usize, c: usize) -> bool
@@ -30,6 +40,48 @@ fn first_refusal(x: Checked, y: Checked) -> Checked
     }
 }
 
+// Whom the two sides of a link name.
+pub struct Sides {
+    pub a: Names,
+    pub b: Names,
+}
+
+// What the checks of a link found: the first refusal, or whom its sides name.
+pub enum LinkChecked {
+    Refused(Refusal),
+    Accepted(Sides),
+}
+
+// Side B: run B whole; most links have none.
+fn check_side_b(b: &[u8]) -> Checking
+    requires { ⌜ length (now b) < 4294967296 ⌝ }
+    ensures { λ r. ⌜ ((c : List ℕ) → Checks (faults runB checkB (elements 1 0 (now (b .entry)))) ((sideB (now (b .entry)) c) .live) r) ⌝ }
+{
+    if b.len() == 0 {
+        return Checking::Accepted(naming::nobody());
+    }
+    isis_check_b::check_b(b)
+}
+
+// The checks of a link, with whom its sides name: by the names the rule of any question is known before a value is looked for.
+pub fn check_sides(a: &[u8], b: &[u8], c: &[u8]) -> LinkChecked
+    ensures { λ r. ⌜ ChecksLink (now (a .entry)) (now (b .entry)) (now (c .entry)) r ⌝ }
+{
+    if too_long(a.len(), b.len(), c.len()) {
+        return LinkChecked::Refused(replies::refuse_call(1));
+    }
+    if c.len() % 4 != 0 {
+        return LinkChecked::Refused(replies::refuse_call(2));
+    }
+    match isis_check_a::check_a(a) {
+        Checking::Refused(r) => return LinkChecked::Refused(r),
+        Checking::Accepted(x) => match check_side_b(b) {
+            Checking::Refused(r) => return LinkChecked::Refused(r),
+            Checking::Accepted(y) => return LinkChecked::Accepted(Sides { a: x, b: y }),
+        },
+    }
+}
+
 // Checks a link before anything is read from it. `a` holds the sub-TLVs of its neighbour entry, `b` its TLVs 238, `c` its legacy SRLG values.
 // Takes any bytes, walks each run once, and keeps nothing.
 // Accepted: every question to the link and its export can be answered from these runs.
@@ -44,7 +96,7 @@ pub fn check_link(a: &[u8], b: &[u8], c: &[u8]) -> Checked
     if c.len() % 4 != 0 {
         return Checked::Refused(replies::refuse_call(2));
     }
-    let of_a = isis_check_a::check_a(a);
-    let of_b = isis_check_b::check_b(b);
+    let of_a = naming::verdict_alone(isis_check_a::check_a(a));
+    let of_b = naming::verdict_alone(isis_check_b::check_b(b));
     first_refusal(of_a, of_b)
 }

@@ -2,23 +2,20 @@
 use mathlib.Core.Path.{_≡_, refl, sym, ap, ap₂, _∙_, subst}
 use mathlib.Core.Logic.{_⊎_, inl, inr}
 use mathlib.Core.Bool.{Bool, true, false, cond, _&&_}
-use mathlib.Core.List.{List}
-use Prim.Native.Nat.{ℕ, _+_, _-_, _≤_, _<_}
+use mathlib.Core.List.{List, [], _∷_}
+use Prim.Native.Nat.{ℕ, zero, suc, _+_, _-_, _≤_, _<_}
+use native.Mathlib.Nat.{zero-add}
 use native.Mathlib.Omega.{arith}
 use borrow.Author.Tests.{le-leb, lt-leb, leb-true, leb-false, lt-ltb, le-ltb, ltb-true, ltb-false, ne-eqb}
 use lib.Dec.{leb, ltb}
 use lib.ListN.{length, take, drop, getD, length-drop}
-use lib.Seq.{take-all}
+use lib.Seq.{take-all, take-nil, take-take, length-take-le, getD-take}
 use Rattle.linkstate.specs.Bytes.{bytesAt}
 use Rattle.linkstate.specs.Kinds.{wrongInA}
 use Rattle.linkstate.specs.Replies.{Run, runA, Verdict, accepted, refused, Refusal, fault}
 use Rattle.linkstate.specs.Elements.{elements, faults}
 use Rattle.linkstate.proofs.WalkLaws.{left, typeAt, type-one, length-one, faults-end, faults-cut, faults-pass, faults-stop}
 use Rattle.octets.proofs.Laws.{length-bytesAt, part-is}
-use Rattle.replies.specs.declared.Refusal.{Refusal as Told}
-use Rattle.replies.specs.declared.Checked.{Checked}
-use Rattle.replies.specs.Told.{toldChecked, toldRefusal}
-use Rattle.replies.specs.declared.Checked.the-variants as Checks
 use Rattle.isis.specs.MaskHeader.{lFlag, headerLength, maskTooLong, lForNobody}
 use Rattle.isis.specs.RunA.{listElements, checkAttribute, checkAsla, checkA}
 use Rattle.isis_check_a.specs.declared.Frame.{Frame}
@@ -85,17 +82,6 @@ module _ (run : Run) (check : ℕ → ℕ → List ℕ → Verdict) (base : ℕ)
       pub turn-refused : (r : Refusal) → check o (getD s at 0) (bytesAt s (at + 2) n) ≡ refused r → refused r ≡ faults run check (left 1 base s at)
       turn-refused r a = faults-stop run check 1 (omega arith) base s at n r (length-one s at ∙ frame-says s at (Whole n) e .0) (frame-says s at (Whole n) e .1) (here (refused r) a)
 
-      -- with the answer of a function that checks the element by its value, a part of the list
-      module _ (c : Checked) (told : toldChecked c ≡ check o (getD s at 0) (take (at + 2 + n - (at + 2)) (drop (at + 2) s))) where
-        value-told : toldChecked c ≡ check o (getD s at 0) (bytesAt s (at + 2) n)
-        value-told = told ∙ ap (check o (getD s at 0)) (part-is s (at + 2) n)
-
-        pub turn-told-passed : c ≡ Checks.Accepted → faults run check (left 1 base s (at + 2 + n)) ≡ faults run check (left 1 base s at)
-        turn-told-passed a = turn-passed (sym value-told ∙ ap toldChecked a)
-
-        pub turn-told-refused : (r : Told) → c ≡ Checks.Refused r → refused (toldRefusal r) ≡ faults run check (left 1 base s at)
-        turn-told-refused r a = turn-refused (toldRefusal r) (sym value-told ∙ ap toldChecked a)
-
 -- ---- an attribute's length
 
 module _ (at t : ℕ) (v : List ℕ) (n : ℕ) (l : length v ≡ n) where
@@ -149,7 +135,7 @@ module _ (h : Header) (n : ℕ) where
 
   -- and back, of the bytes v that have the header
   module _ (v : List ℕ) (is : h ≡ headerOf v) where
-    abbrev Ends : Masks → Type 0
+    abbrev pub Ends : Masks → Type 0
     Ends Masks.Ignored = maskTooLong v ≡ true
     Ends Masks.Past = (maskTooLong v ≡ false) × (n < headerLength v)
     Ends (Masks.End e) = (maskTooLong v ≡ false) × (e ≡ headerLength v) × (e ≤ n)
@@ -169,6 +155,70 @@ rest-is v n h = take-all (length v - n) (drop n v) (omega (arith, length-drop n 
 
 pub rest-length : (v : List ℕ) (n : ℕ) → n ≤ length v → length (take (length v - n) (drop n v)) ≡ length v - n
 rest-length v n h = ap length (rest-is v n h) ∙ length-drop n v
+
+-- ---- a part of a run by its places
+
+-- what stands behind a place in what ends at another
+pub drop-take : (i j : ℕ) (l : List ℕ) → drop i (take (i + j) l) ≡ take j (drop i l)
+drop-take zero j l = rw (zero-add j)
+drop-take (suc i) j [] = ap (drop (suc i)) (take-nil {A = ℕ} (suc i + j)) ∙ sym (take-nil {A = ℕ} j)
+drop-take (suc i) j (x ∷ l) = let e : suc i + j ≡ suc (i + j) = omega arith in rw e (drop-take i j l)
+
+module _ (s : List ℕ) (end : ℕ) (fits : end ≤ length s) where
+  pub front-length : length (take end s) ≡ end
+  front-length = length-take-le end s fits
+
+  module _ (at : ℕ) (h : at ≤ end) where
+    pub part-in : take (end - at) (drop at s) ≡ drop at (take end s)
+    part-in = let e : at + (end - at) ≡ end = omega arith in sym (ap (λ (i : ℕ). drop at (take i s)) (sym e) ∙ drop-take at (end - at) s)
+
+    pub part-in-length : length (drop at (take end s)) ≡ end - at
+    part-in-length = length-drop at (take end s) ∙ ap (λ (n : ℕ). n - at) front-length
+
+    pub part-of-part : (n : ℕ) → at + n ≤ end → take n (drop at (take end s)) ≡ take n (drop at s)
+    part-of-part n g = ap (take n) (sym part-in) ∙ take-take n (end - at) (drop at s) (omega arith)
+
+-- ---- elements from one place of a run to another: one turn of a loop that checks them
+
+-- what is left to check at a place
+abbrev pub leftIn : Run → (ℕ → ℕ → List ℕ → Verdict) → List ℕ → ℕ → ℕ → Verdict
+leftIn run check s end at = faults run check (left 1 0 (take end s) at)
+
+module _ (run : Run) (check : ℕ → ℕ → List ℕ → Verdict) (s : List ℕ) (end : ℕ) (fits : end ≤ length s) (at : ℕ) where
+  pub in-start : leftIn run check s end at ≡ faults run check (elements 1 at (drop at (take end s)))
+  in-start = ap (λ (o : ℕ). faults run check (elements 1 o (drop at (take end s)))) (zero-add at)
+
+  pub in-end : end ≤ at → accepted ≡ leftIn run check s end at
+  in-end h = turn-end run check 0 (take end s) at (sym (frame-end (take end s) at (omega (arith, front-length s end fits))))
+
+  pub in-short : at < end → end < at + 2 → fault 3 run at ≡ leftIn run check s end at
+  in-short h g =
+      turn-cut run check 0 (take end s) at at (sym (zero-add at))
+      (sym (frame-cut (take end s) at (omega (arith, front-length s end fits)) (omega (arith, front-length s end fits))))
+
+  pub in-cut : at + 2 ≤ end → end < at + 2 + getD s (at + 1) 0 → fault 3 run at ≡ leftIn run check s end at
+  in-cut h g =
+      turn-cut run check 0 (take end s) at at (sym (zero-add at))
+      (sym (frame-cut (take end s) at (omega (arith, front-length s end fits)) (omega (arith, front-length s end fits, getD-take end s (at + 1) 0 (omega arith)))))
+
+module _ (s : List ℕ) (end : ℕ) (fits : end ≤ length s) (at : ℕ) (g : at + 2 + getD s (at + 1) 0 ≤ end) where
+  pub whole-in : frameAt (take end s) at ≡ Whole (getD s (at + 1) 0)
+  whole-in =
+      let e : getD (take end s) (at + 1) 0 ≡ getD s (at + 1) 0 = getD-take end s (at + 1) 0 (omega arith) in
+      sym (frame-whole (take end s) at (omega (arith, front-length s end fits))) ∙ ap Whole e
+
+  pub type-in : getD (take end s) at 0 ≡ getD s at 0
+  type-in = getD-take end s at 0 (omega arith)
+
+-- of an attribute list
+module _ (a : List ℕ) (end : ℕ) (fits : end ≤ length a) (at : ℕ) (g : at + 2 + getD a (at + 1) 0 ≤ end) where
+  pub list-on : wrongInA (getD a at 0) (getD a (at + 1) 0) ≡ false → leftIn runA checkAttribute a end (at + 2 + getD a (at + 1) 0) ≡ leftIn runA checkAttribute a end at
+  list-on w = list-passed 0 (take end a) at (getD a (at + 1) 0) (whole-in a end fits at g) (ap (λ (t : ℕ). wrongInA t (getD a (at + 1) 0)) (type-in a end fits at g) ∙ w)
+
+  pub list-wrong : wrongInA (getD a at 0) (getD a (at + 1) 0) ≡ true → fault 4 runA at ≡ leftIn runA checkAttribute a end at
+  list-wrong w =
+      ap (fault 4 runA) (sym (zero-add at))
+      ∙ list-refused 0 (take end a) at (getD a (at + 1) 0) (whole-in a end fits at g) (ap (λ (t : ℕ). wrongInA t (getD a (at + 1) 0)) (type-in a end fits at g) ∙ w)
 
 -- ---- an ASLA sub-TLV, check by check
 
@@ -198,11 +248,10 @@ module _ (at : ℕ) (v : List ℕ) where
             go true = refl
             go false = refl
 
-        pub asla-list : lFlag v ≡ false → faults runA checkAttribute (elements 1 (at + 2 + list) (take (length v - list) (drop list v))) ≡ checkAsla at v
+        pub asla-list : lFlag v ≡ false → faults runA checkAttribute (elements 1 (at + 2 + list) (drop list v)) ≡ checkAsla at v
         unfolding checkAsla lForNobody listElements
         asla-list l =
-            ap (λ (s : List ℕ). faults runA checkAttribute (elements 1 (at + 2 + list) s)) (rest-is v list p)
-            ∙ ap (λ (n : ℕ). faults runA checkAttribute (elements 1 (at + 2 + n) (drop n v))) is
+            ap (λ (n : ℕ). faults runA checkAttribute (elements 1 (at + 2 + n) (drop n v))) is
             ∙ rw (le-ltb (length v) 2 h, m, le-ltb (length v) (headerLength v) (omega arith), l)
 
 -- ---- a sub-TLV

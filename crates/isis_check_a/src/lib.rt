@@ -1,14 +1,18 @@
 // The checks of run A: framing, the mask header of an ASLA sub-TLV, and the lengths of attributes (document 01, "Advertisements in A").
 ghost use mathlib.Core.Path.{_≡_};
-ghost use Prim.Native.Nat.{_+_, _^_, _≤_, _<_};
-ghost use lib.ListN.{length};
+ghost use mathlib.Core.List.{[], _∷_};
+ghost use Prim.Native.Nat.{_+_, _≤_, _<_};
+ghost use lib.ListN.{length, take, drop};
 ghost use Rattle.linkstate.specs.Replies.{runA, fault};
-ghost use Rattle.linkstate.specs.Elements.{elements, faults};
+ghost use Rattle.linkstate.specs.Elements.{element, elements, faults};
 ghost use Rattle.linkstate.specs.Kinds.{wrongInA};
 ghost use Rattle.replies.specs.Told.{toldRun, toldChecked};
-ghost use Rattle.isis.specs.RunA.{checkAttribute, checkAsla, checkA};
+ghost use Rattle.naming.specs.Names.{Adds, Checks, ChecksBehind};
+ghost use Rattle.isis.specs.RunA.{checkAttribute, checkAsla, checkA, aslaAdvertisements, sideA};
 ghost use Rattle.isis_check_a.specs.Frames.{frameAt};
-ghost use Rattle.isis_check_a.specs.Headers.{headerOf, tooLong, forNobody, bytesBefore, masksIn};
+ghost use Rattle.isis_check_a.specs.Headers.{headerOf, tooLong, forNobody, bytesBefore, masksIn, advertisedAt, valueIn};
+use naming::Checking;
+use naming::Names;
 use replies::Checked;
 use replies::Run;
 
@@ -110,8 +114,8 @@ pub fn refused(number: u8, run: Run, at: usize) -> Checked
     Checked::Refused(replies::refuse_at(number, run, at))
 }
 
-// Whether the type is known and does not let a value have n bytes.
-fn wrong_length(t: u8, n: usize) -> bool
+// Whether the type is known and does not let a value have n bytes, by its rule.
+fn wrong_by_rule(t: u8, n: usize) -> bool
     ensures { λ r. ⌜ r ≡ wrongInA t n ⌝ }
 {
     let rule = kinds::classify_type(t);
@@ -119,79 +123,130 @@ fn wrong_length(t: u8, n: usize) -> bool
     !kinds::fits(size, n)
 }
 
-// An attribute list whose first byte is at an offset of run A.
-pub fn check_attributes(s: &[u8], base: usize) -> Checked
-    requires { ⌜ base + length (now s) < 2 ^ 64 ⌝ }
-    ensures { λ r. ⌜ toldChecked r ≡ faults runA checkAttribute (elements 1 base (now (s .entry))) ⌝ }
+// The same; the lengths that most values have are tested first.
+fn wrong_length(t: u8, n: usize) -> bool
+    ensures { λ r. ⌜ r ≡ wrongInA t n ⌝ }
 {
-    let mut at = 0;
-    loop {
-        match frame_at(s, at) {
-            Frame::End => return Checked::Accepted,
-            Frame::Cut => return refused(3, Run::A, base + at),
-            Frame::Whole(n) => {
-                if wrong_length(s[at], n) {
-                    return refused(4, Run::A, base + at);
-                }
-                at = at + 2 + n;
-            }
+    if n == 4 {
+        return (t == 11) | (t == 18) | (t == 34);
+    }
+    if (n == 3) & (t == 18) {
+        return false;
+    }
+    if n == 8 {
+        if (t == 14) | (t == 34) {
+            return false;
         }
     }
+    wrong_by_rule(t, n)
 }
 
-// An ASLA sub-TLV by its value; its first byte is at an offset of run A. With L its list is not read, whoever it names.
-pub fn check_asla(v: &[u8], at: usize) -> Checked
-    requires { ⌜ at + 2 + length (now v) < 2 ^ 64 ⌝ }
-    ensures { λ r. ⌜ toldChecked r ≡ checkAsla at (now (v .entry)) ⌝ }
+// The attribute list that stands in run A from one place to another.
+fn check_list(a: &[u8], from: usize, end: usize) -> Checked
+    requires { ⌜ (from ≤ end) × (end ≤ length (now a)) × (length (now a) < 4294967296) ⌝ }
+    ensures { λ r. ⌜ toldChecked r ≡ faults runA checkAttribute (elements 1 from (drop from (take end (now (a .entry))))) ⌝ }
 {
-    if v.len() < 2 {
+    let mut at = from;
+    while at + 2 <= end {
+        let n = a[at + 1] as usize;
+        let next = at + 2 + n;
+        if end < next {
+            return refused(3, Run::A, at);
+        }
+        if wrong_length(a[at], n) {
+            return refused(4, Run::A, at);
+        }
+        at = next;
+    }
+    if at < end {
         return refused(3, Run::A, at);
-    }
-    let h = read_header(v);
-    match masks_within(h, v.len()) {
-        Masks::Ignored => return Checked::Accepted,
-        Masks::Past => return refused(3, Run::A, at),
-        Masks::End(list) => {
-            let l = h.l;
-            if l {
-                return Checked::Accepted;
-            }
-            return check_attributes(&v[list..], at + 2 + list);
-        }
-    }
-}
-
-// A sub-TLV of run A by its type and value.
-fn check_element(t: u8, v: &[u8], at: usize) -> Checked
-    requires { ⌜ at + 2 + length (now v) < 2 ^ 64 ⌝ }
-    ensures { λ r. ⌜ toldChecked r ≡ checkA at t (now (v .entry)) ⌝ }
-{
-    if t == 16 {
-        return check_asla(v, at);
-    }
-    if wrong_length(t, v.len()) {
-        return refused(4, Run::A, at);
     }
     Checked::Accepted
 }
 
-// Run A whole.
-pub fn check_a(a: &[u8]) -> Checked
-    ensures { λ r. ⌜ toldChecked r ≡ faults runA checkA (elements 1 0 (now (a .entry))) ⌝ }
+// The names with those of an advertisement whose masks stand at a place of the run, by its header.
+fn names_with(names: Names, h: Header, s: &[u8], at: usize) -> Names
+    requires { ⌜ (h .standard ≤ 8) × (h .user ≤ 8) × (at + h .standard + h .user ≤ length (now s)) × (length (now s) < 4294967296) ⌝ }
+    ensures { λ r. ⌜ Adds names (advertisedAt h (now (s .entry)) at ∷ []) r ⌝ }
 {
-    let mut at = 0;
-    loop {
-        match frame_at(a, at) {
-            Frame::End => return Checked::Accepted,
-            Frame::Cut => return refused(3, Run::A, at),
-            Frame::Whole(n) => {
-                let value = at + 2;
-                let end = value + n;
-                if let Checked::Refused(r) = check_element(a[at], &a[value..end], at) {
-                    return Checked::Refused(r);
-                }
-                at = end;
+    let behind = at + h.standard;
+    let standard = masks::with_sent(names.standard, s, at, h.standard);
+    let user = masks::with_sent(names.user, s, behind, h.user);
+    let l = h.l;
+    if l {
+        let lstandard = masks::with_sent(names.lstandard, s, at, h.standard);
+        let luser = masks::with_sent(names.luser, s, behind, h.user);
+        return Names {
+            standard,
+            user,
+            lstandard,
+            luser,
+        };
+    }
+    Names {
+        standard,
+        user,
+        lstandard: names.lstandard,
+        luser: names.luser,
+    }
+}
+
+// The ASLA sub-TLV that stands in run A from one place to another, behind elements that name `names`. With L its list is not read, whoever it names.
+fn check_asla(a: &[u8], at: usize, end: usize, names: Names) -> Checking
+    requires { ⌜ (at + 2 ≤ end) × (end ≤ length (now a)) × (length (now a) < 4294967296) ⌝ }
+    ensures { λ r. ⌜ ChecksBehind names (checkAsla at (valueIn (now (a .entry)) at end)) (aslaAdvertisements (element at 16 (valueIn (now (a .entry)) at end))) r ⌝ }
+{
+    let value = at + 2;
+    if end < value + 2 {
+        return naming::refuse(3, Run::A, at);
+    }
+    let h = read_header(&a[value..end]);
+    match masks_within(h, end - value) {
+        Masks::Ignored => return Checking::Accepted(names),
+        Masks::Past => return naming::refuse(3, Run::A, at),
+        Masks::End(list) => {
+            let all = names_with(names, h, a, value + 2);
+            let l = h.l;
+            if l {
+                return Checking::Accepted(all);
             }
+            if let Checked::Refused(r) = check_list(a, value + list, end) {
+                return Checking::Refused(r);
+            }
+            return Checking::Accepted(all);
         }
     }
+}
+
+// Run A whole: its refusal, or the applications that it names, and those that it names with L.
+pub fn check_a(a: &[u8]) -> Checking
+    requires { ⌜ length (now a) < 4294967296 ⌝ }
+    ensures { λ r. ⌜ Checks (faults runA checkA (elements 1 0 (now (a .entry)))) ((sideA (now (a .entry))) .live) r ⌝ }
+{
+    let mut names = naming::nobody();
+    let mut at = 0;
+    while at + 2 <= a.len() {
+        let n = a[at + 1] as usize;
+        let next = at + 2 + n;
+        if a.len() < next {
+            return naming::refuse(3, Run::A, at);
+        }
+        if a[at] == 16 {
+            match check_asla(a, at, next, names) {
+                Checking::Refused(r) => return Checking::Refused(r),
+                Checking::Accepted(all) => {
+                    names = all;
+                }
+            }
+        } else {
+            if wrong_length(a[at], n) {
+                return naming::refuse(4, Run::A, at);
+            }
+        }
+        at = next;
+    }
+    if at < a.len() {
+        return naming::refuse(3, Run::A, at);
+    }
+    Checking::Accepted(names)
 }

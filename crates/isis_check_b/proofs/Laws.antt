@@ -4,22 +4,24 @@ use mathlib.Core.Bool.{Bool, true, false, cond, _&&_, _||_, not}
 use mathlib.Core.List.{List, [], _∷_, map}
 use Prim.Native.Nat.{ℕ, zero, suc, pred, _+_, _*_, _/_, _%_, _≤_, _<_}
 use native.Mathlib.Omega.{arith}
+use native.Mathlib.Nat.{zero-add}
 use borrow.Author.Tests.{eqb-true, ne-eqb, eq-eqb, lt-ltb, le-ltb}
 use lib.Dec.{eqb, ltb, leb}
-use lib.ListN.{length, getD}
+use lib.ListN.{length, take, drop, getD}
 use Rattle.linkstate.specs.Lists.{any, count}
 use Rattle.linkstate.specs.Bytes.{bytesAt}
 use Rattle.linkstate.specs.Replies.{accepted, fault, runB}
 use Rattle.linkstate.specs.Elements.{Element, element, cut, sizeOf, elementsAfter, elements, faults}
 use Rattle.linkstate.proofs.ElementLaws.{moved, elements-moved}
+use Rattle.linkstate.proofs.ListLaws.{and-false}
 use Rattle.linkstate.proofs.WalkLaws.{left, left-end, left-cut, left-whole, type-one, length-one}
 use Rattle.octets.proofs.Laws.{length-bytesAt}
 use Rattle.isis.specs.RunB.{identifier, knownIdentifiers, checkIdentifier, isOfType, times, repeats, identifies}
 use Rattle.isis_check_a.specs.declared.Frame.the-variants.{End, Cut, Whole}
 use Rattle.isis_check_a.specs.Frames.{frameAt}
-use Rattle.isis_check_a.proofs.Laws.{frame-says, turn-passed, turn-refused}
+use Rattle.isis_check_a.proofs.Laws.{frame-end, frame-says, turn-passed, turn-refused, front-length, part-in-length, leftIn, whole-in, type-in}
 use Rattle.isis_check_b.specs.declared.Known.{Known}
-use Rattle.isis_check_b.specs.Identifiers.{knownOf, wrongIdentifier, tallyOf, identifiedBy, onceAndPaired}
+use Rattle.isis_check_b.specs.Identifiers.{knownOf, tallyOf, identifiedBy, identifiedIn, onceAndPaired, identifiersIn}
 
 -- ---- the five types
 
@@ -39,6 +41,10 @@ or-false : (b : Bool) → b ≡ b || false
 or-false true = refl
 or-false false = refl
 
+-- "identifier length (type 4: 8 bytes; 6, 8: 4; 12, 13: 16)".
+unfoldable pub wrongIdentifier : ℕ → ℕ → Bool
+wrongIdentifier t n = any (λ q. eqb t (q .type) && not (eqb n (q .len))) knownIdentifiers
+
 -- The table's lengths by the classification: an unknown type has no wrong one.
 by-known : (n t : ℕ) → wrongIdentifier t n ≡ not (eqb ((knownOf t) .weight) 0) && not (eqb n ((knownOf t) .length))
 unfolding wrongIdentifier knownOf any knownIdentifiers identifier
@@ -48,11 +54,14 @@ by-known n =
     (λ t n4 n6 n8 n12 n13. simp (n4, n6, n8, n12, n13))
 
 module _ (t n : ℕ) (k : Known) (is : k ≡ knownOf t) where
-  pub identifier-unknown : k .weight ≡ 0 → false ≡ wrongIdentifier t n
-  identifier-unknown e = let z : (knownOf t) .weight ≡ 0 = sym (ap (λ (q : Known). q .weight) is) ∙ e in sym (by-known n t ∙ rw z)
+  pub identifier-unknown : k .weight ≡ 0 → wrongIdentifier t n ≡ false
+  identifier-unknown e = let z : (knownOf t) .weight ≡ 0 = sym (ap (λ (q : Known). q .weight) is) ∙ e in by-known n t ∙ rw z
 
-  pub identifier-known : (k .weight ≡ 0 → ⊥) → not (eqb n (k .length)) ≡ wrongIdentifier t n
-  identifier-known e = sym (by-known n t ∙ rw (sym is, ne-eqb (k .weight) 0 e))
+  pub identifier-right : n ≡ k .length → wrongIdentifier t n ≡ false
+  identifier-right e = by-known n t ∙ rw (sym is, eq-eqb n (k .length) e) (and-false (not (eqb (k .weight) 0)))
+
+  pub identifier-wrong : (k .weight ≡ 0 → ⊥) → (n ≡ k .length → ⊥) → wrongIdentifier t n ≡ true
+  identifier-wrong e f = by-known n t ∙ rw (sym is, ne-eqb (k .weight) 0 e, ne-eqb n (k .length) f)
 
 -- ---- counts
 
@@ -128,10 +137,6 @@ tally-small at s h = omega (arith, times-le 4 at s, times-le 6 at s, times-le 8 
 
 -- ---- what a tally says
 
--- Whether the counts that are a tally's digits are those of a list that identifies the link.
-abbrev identifiedIn : ℕ → Bool
-identifiedIn n = identifiedBy (n % 256) (n / 256 % 256) (n / 65536 % 256) (n / 16777216 % 256) (n / 4294967296 % 256)
-
 -- The digits of a tally are the counts.
 module _ (a b c d e n : ℕ) (is : n ≡ a + 256 * b + 65536 * c + 16777216 * d + 4294967296 * e) (small : (a < 256) × (b < 256) × (c < 256) × (d < 256) × (e < 256)) where
   digits : identifiedIn n ≡ identifiedBy a b c d e
@@ -204,3 +209,39 @@ module _ (base : ℕ) (s : List ℕ) (at : ℕ) where
     pub list-refused : wrongIdentifier (getD s at 0) n ≡ true → fault 4 runB (base + at) ≡ faults runB checkIdentifier (left 1 base s at)
     unfolding fault
     list-refused w = turn-refused runB checkIdentifier base s at (base + at) refl n e _ (identifier-check true w)
+
+-- ---- the identifiers that stand in run B from one place to another
+
+-- the tally of what is left at a place
+abbrev pub tallyIn : List ℕ → ℕ → ℕ → ℕ
+tallyIn b end at = tallyOf (left 1 0 (take end b) at)
+
+pub tally-start : (b : List ℕ) (from end : ℕ) → tallyIn b end from ≡ tallyOf (identifiersIn b from end)
+tally-start b from end = ap (λ (o : ℕ). tallyOf (elements 1 o (drop from (take end b)))) (zero-add from)
+
+pub tally-fits : (b : List ℕ) (from end : ℕ) → end ≤ length b → from ≤ end → end < from + 256 → tallyOf (identifiersIn b from end) < 1099511627776
+tally-fits b from end fits h g = tally-small from (drop from (take end b)) (omega (arith, part-in-length b end fits from h))
+
+-- a tally of identifiers says whether they identify the link
+pub tally-tells : (b : List ℕ) (from end : ℕ) → end ≤ length b → from ≤ end → end < from + 256 → (n : ℕ) → n ≡ tallyOf (identifiersIn b from end) → identifiedIn n ≡ onceAndPaired (identifiersIn b from end)
+tally-tells b from end fits h g n e =
+    tally-says (drop from (take end b)) n (omega (arith, part-in-length b end fits from h)) (e ∙ tally-anywhere from (drop from (take end b))) from
+
+module _ (b : List ℕ) (end : ℕ) (fits : end ≤ length b) (at : ℕ) where
+  pub tally-over : end ≤ at → tallyIn b end at ≡ 0
+  tally-over h = tally-end 0 (take end b) at (sym (frame-end (take end b) at (omega (arith, front-length b end fits))))
+
+  module _ (g : at + 2 + getD b (at + 1) 0 ≤ end) where
+    pub tally-on : (k : Known) → k ≡ knownOf (getD b at 0) → tallyIn b end at ≡ k .weight + tallyIn b end (at + 2 + getD b (at + 1) 0)
+    tally-on k is = tally-turn 0 (take end b) at (getD b (at + 1) 0) (whole-in b end fits at g) k (is ∙ ap knownOf (sym (type-in b end fits at g)))
+
+    here-wrong : (x : Bool) → wrongIdentifier (getD b at 0) (getD b (at + 1) 0) ≡ x → wrongIdentifier (getD (take end b) at 0) (getD b (at + 1) 0) ≡ x
+    here-wrong x w = ap (λ (t : ℕ). wrongIdentifier t (getD b (at + 1) 0)) (type-in b end fits at g) ∙ w
+
+    pub identifier-on : wrongIdentifier (getD b at 0) (getD b (at + 1) 0) ≡ false
+        → leftIn runB checkIdentifier b end (at + 2 + getD b (at + 1) 0) ≡ leftIn runB checkIdentifier b end at
+    identifier-on w = list-passed 0 (take end b) at (getD b (at + 1) 0) (whole-in b end fits at g) (here-wrong false w)
+
+    pub identifier-stop : wrongIdentifier (getD b at 0) (getD b (at + 1) 0) ≡ true → fault 4 runB at ≡ leftIn runB checkIdentifier b end at
+    identifier-stop w =
+        ap (fault 4 runB) (sym (zero-add at)) ∙ list-refused 0 (take end b) at (getD b (at + 1) 0) (whole-in b end fits at g) (here-wrong true w)

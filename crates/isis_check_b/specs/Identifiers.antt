@@ -1,12 +1,17 @@
 -- What the code notes of a list of link identifiers: how often each of the five known types stands there, all in one number.
+use mathlib.Core.Path.{_≡_}
 use mathlib.Core.Bool.{Bool, cond, _&&_, _||_, not}
 use mathlib.Core.List.{List}
-use Prim.Native.Nat.{ℕ, _+_, _*_}
+use Prim.Native.Nat.{ℕ, _+_, _*_, _/_, _%_}
 use lib.Dec.{eqb, ltb}
-use Rattle.linkstate.specs.Lists.{any}
-use Rattle.linkstate.specs.Elements.{Element}
-use Rattle.isis.specs.RunB.{knownIdentifiers, times, repeats, identifies}
+use lib.ListN.{take, drop}
+use Rattle.linkstate.specs.Elements.{Element, elements}
+use Rattle.isis.specs.RunB.{times, repeats, identifies}
+use Rattle.linkstate.specs.Replies.{Verdict, accepted, refused}
+use Rattle.replies.specs.Told.{toldRefusal}
 use Rattle.isis_check_b.specs.declared.Known.{Known}
+use Rattle.isis_check_b.specs.declared.Listed.{Listed}
+use Rattle.isis_check_b.specs.declared.Listed.the-variants.{Refused, Tally}
 
 abbrev pub known : ℕ → ℕ → Known
 known n w = record { length = n; weight = w }
@@ -20,10 +25,6 @@ knownOf t =
     (cond (eqb t 12) (known 16 16777216)
     (cond (eqb t 13) (known 16 4294967296) (known 0 0)))))
 
--- "identifier length (type 4: 8 bytes; 6, 8: 4; 12, 13: 16)".
-unfoldable pub wrongIdentifier : ℕ → ℕ → Bool
-wrongIdentifier t n = any (λ q. eqb t (q .type) && not (eqb n (q .len))) knownIdentifiers
-
 -- The tally: each type's count is a digit to the base 256.
 unfoldable pub tallyOf : List Element → ℕ
 tallyOf es = times 4 es + 256 * times 6 es + 65536 * times 8 es + 16777216 * times 12 es + 4294967296 * times 13 es
@@ -32,6 +33,27 @@ tallyOf es = times 4 es + 256 * times 6 es + 65536 * times 8 es + 16777216 * tim
 unfoldable pub identifiedBy : ℕ → ℕ → ℕ → ℕ → ℕ → Bool
 identifiedBy a b c d e = not (ltb 1 a || (ltb 1 b || (ltb 1 c || (ltb 1 d || ltb 1 e)))) && (ltb 0 a || (ltb 0 b && ltb 0 c) || (ltb 0 d && ltb 0 e))
 
+-- Whether the counts that are a tally's digits are those of a list that identifies the link.
+abbrev pub identifiedIn : ℕ → Bool
+identifiedIn n = identifiedBy (n % 256) (n / 256 % 256) (n / 65536 % 256) (n / 16777216 % 256) (n / 4294967296 % 256)
+
 -- The same of a list of identifiers, in the definitions' words.
 abbrev pub onceAndPaired : List Element → Bool
 onceAndPaired es = not (repeats es) && identifies es
+
+-- The identifiers that stand in run B from one place to another.
+abbrev pub identifiersIn : List ℕ → ℕ → ℕ → List Element
+identifiersIn b from end = elements 1 from (drop from (take end b))
+
+-- What reading a list answers: its refusal, or its tally.
+abbrev pub toldListed : Listed → Verdict
+toldListed (Refused r) = refused (toldRefusal r)
+toldListed (Tally n) = accepted
+
+abbrev pub Tallied : Listed → List Element → Type 0
+Tallied (Refused r) es = Unit {0}
+Tallied (Tally n) es = n ≡ tallyOf es
+
+pub record Lists (v : Verdict) (es : List Element) (r : Listed) : Type 0 where
+  pub told : toldListed r ≡ v
+  pub tally : Tallied r es

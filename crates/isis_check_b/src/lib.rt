@@ -1,18 +1,22 @@
 // The checks of run B: TLVs 238, Application-Specific SRLG (document 01, "Advertisements in B").
 ghost use mathlib.Core.Path.{_≡_};
+ghost use mathlib.Core.List.{List, [], _∷_};
 ghost use mathlib.Core.Logic.{_⊎_};
-ghost use Prim.Native.Nat.{ℕ, _+_, _^_, _≤_, _<_};
+ghost use Prim.Native.Nat.{ℕ, _+_, _≤_, _<_};
 ghost use lib.ListN.{length};
 ghost use Rattle.linkstate.specs.Replies.{runB};
-ghost use Rattle.linkstate.specs.Elements.{elements, faults};
-ghost use Rattle.replies.specs.Told.{toldChecked};
-ghost use Rattle.isis.specs.RunB.{checkIdentifier, afterNeighbour, checkSrlg, checkB, liveSrlg};
-ghost use Rattle.isis_check_b.specs.Identifiers.{knownOf, wrongIdentifier, tallyOf, identifiedBy, onceAndPaired};
-ghost use Rattle.isis_check_b.specs.Parts.{partsVerdict, Within};
+ghost use Rattle.linkstate.specs.Elements.{element, elements, faults};
+ghost use Rattle.naming.specs.Names.{Adds, Checks, ChecksBehind};
+ghost use Rattle.isis_check_a.specs.Headers.{headerOf, advertisedAt, valueIn};
+ghost use Rattle.isis.specs.RunB.{checkIdentifier, checkB, liveSrlg, srlgAdvertisements, sideB};
+ghost use Rattle.isis_check_b.specs.Identifiers.{knownOf, tallyOf, identifiedBy, identifiedIn, onceAndPaired, identifiersIn, Lists};
+ghost use Rattle.isis_check_b.specs.Parts.{partsVerdict, behindIn, Within, Judges};
 use isis_check_a::Frame;
 use isis_check_a::Header;
 use isis_check_a::Masks;
-use replies::Checked;
+use naming::Checking;
+use naming::Names;
+use replies::Refusal;
 use replies::Run;
 
 // A type of link identifier: the length of its value, and its weight in a tally of types, 0 where the type is none of the five known ones.
@@ -52,35 +56,38 @@ fn known_identifier(t: u8) -> Known
     }
 }
 
-// Whether the type is known and a value of it does not have n bytes.
-fn wrong_identifier(t: u8, n: usize) -> bool
-    ensures { λ r. ⌜ r ≡ wrongIdentifier t n ⌝ }
-{
-    let known = known_identifier(t);
-    if known.weight == 0 {
-        return false;
-    }
-    n != known.length
+// An identifier list: its first refusal, or how often each known type stands in it, a byte of the tally for each.
+pub enum Listed {
+    Refused(Refusal),
+    Tally(u64),
 }
 
-// An identifier list whose first byte is at an offset of run B.
-pub fn check_identifiers(s: &[u8], base: usize) -> Checked
-    requires { ⌜ base + length (now s) < 2 ^ 64 ⌝ }
-    ensures { λ r. ⌜ toldChecked r ≡ faults runB checkIdentifier (elements 1 base (now (s .entry))) ⌝ }
+// The identifier list that stands in run B from one place to another, in one walk.
+fn read_identifiers(b: &[u8], from: usize, end: usize) -> Listed
+    requires { ⌜ (from ≤ end) × (end < from + 256) × (end ≤ length (now b)) × (length (now b) < 4294967296) ⌝ }
+    ensures { λ r. ⌜ Lists (faults runB checkIdentifier (identifiersIn (now (b .entry)) from end)) (identifiersIn (now (b .entry)) from end) r ⌝ }
 {
-    let mut at = 0;
-    loop {
-        match isis_check_a::frame_at(s, at) {
-            Frame::End => return Checked::Accepted,
-            Frame::Cut => return isis_check_a::refused(3, Run::B, base + at),
-            Frame::Whole(n) => {
-                if wrong_identifier(s[at], n) {
-                    return isis_check_a::refused(4, Run::B, base + at);
-                }
-                at = at + 2 + n;
+    let mut tally: u64 = 0;
+    let mut at = from;
+    while at + 2 <= end {
+        let n = b[at + 1] as usize;
+        let next = at + 2 + n;
+        if end < next {
+            return Listed::Refused(replies::refuse_at(3, Run::B, at));
+        }
+        let known = known_identifier(b[at]);
+        if known.weight != 0 {
+            if n != known.length {
+                return Listed::Refused(replies::refuse_at(4, Run::B, at));
             }
         }
+        tally = tally + known.weight;
+        at = next;
     }
+    if at < end {
+        return Listed::Refused(replies::refuse_at(3, Run::B, at));
+    }
+    Listed::Tally(tally)
 }
 
 // How often each known type stands in an identifier list: a byte of the tally for each.
@@ -131,12 +138,13 @@ fn identifies(a: u64, b: u64, c: u64, d: u64, e: u64) -> bool
     d + e == 2
 }
 
-// Whether an identifier list identifies the link: no known type repeats, and a 4, both 6 and 8, or both 12 and 13 are there.
-pub fn identifies_link(s: &[u8]) -> bool
-    requires { ⌜ length (now s) < 256 ⌝ }
-    ensures { λ r. ⌜ ((base : ℕ) → r ≡ onceAndPaired (elements 1 base (now (s .entry)))) ⌝ }
+// The same by a tally; most lists have a 4 and no other known type.
+fn tally_identifies(tally: u64) -> bool
+    ensures { λ r. ⌜ r ≡ identifiedIn tally ⌝ }
 {
-    let tally = tally_identifiers(s);
+    if tally == 1 {
+        return true;
+    }
     identifies(
         tally % 256,
         tally / 256 % 256,
@@ -146,82 +154,136 @@ pub fn identifies_link(s: &[u8]) -> bool
     )
 }
 
-// The identifiers, then the SRLG values, of a TLV 238 whose first byte is at an offset of run B. v follows its neighbour bytes and has the header h;
-// the identifiers stand in it from `list` to `values`. An odd rest is a fault only without L, and where the identifiers identify the link.
-fn check_parts(v: &[u8], h: Header, list: usize, values: usize, at: usize) -> Checked
-    requires { ⌜ Within (now v) h list values × (at + 9 + length (now v) < 2 ^ 64) ⌝ }
-    ensures { λ r. ⌜ toldChecked r ≡ partsVerdict at (now (v .entry)) ⌝ }
+// Whether an identifier list identifies the link: no known type repeats, and a 4, both 6 and 8, or both 12 and 13 are there.
+pub fn identifies_link(s: &[u8]) -> bool
+    requires { ⌜ length (now s) < 256 ⌝ }
+    ensures { λ r. ⌜ ((base : ℕ) → r ≡ onceAndPaired (elements 1 base (now (s .entry)))) ⌝ }
 {
-    if let Checked::Refused(r) = check_identifiers(&v[list..values], at + 9 + list) {
-        return Checked::Refused(r);
+    tally_identifies(tally_identifiers(s))
+}
+
+// What the checks of a TLV 238 find: a fault, that it is ignored, or that it is live unless it has L for nobody.
+pub enum Judged {
+    Refused(Refusal),
+    Ignored,
+    Live,
+}
+
+// The identifiers, then the SRLG values, of the TLV 238 that stands in run B from `at` to `end`; its identifiers stand from `list` to `values`.
+// An odd rest is a fault only without L, and where the identifiers identify the link.
+fn check_parts(b: &[u8], l: bool, list: usize, values: usize, end: usize, at: usize) -> Judged
+    requires { ⌜ Within (now b) l list values end at × (length (now b) < 4294967296) ⌝ }
+    ensures { λ r. ⌜ Judges (partsVerdict at (behindIn (now (b .entry)) at end)) at (behindIn (now (b .entry)) at end) r ⌝ }
+{
+    match read_identifiers(b, list, values) {
+        Listed::Refused(r) => return Judged::Refused(r),
+        Listed::Tally(tally) => {
+            if !tally_identifies(tally) {
+                return Judged::Ignored;
+            }
+            if (end - values) % 4 == 0 {
+                return Judged::Live;
+            }
+            if l {
+                return Judged::Live;
+            }
+            return Judged::Refused(replies::refuse_at(4, Run::B, at));
+        }
     }
-    if (v.len() - values) % 4 == 0 {
-        return Checked::Accepted;
+}
+
+// The TLV 238 that stands in run B from `at` to `end`, by its header.
+fn check_srlg(b: &[u8], h: Header, at: usize, end: usize) -> Judged
+    requires { ⌜ (at + 11 ≤ end) × (end ≤ length (now b)) × (length (now b) < 4294967296) × (h ≡ headerOf (behindIn (now b) at end)) × (h .standard < 128) × (h .user < 128) ⌝ }
+    ensures { λ r. ⌜ Judges (checkB at 238 (valueIn (now (b .entry)) at end)) at (behindIn (now (b .entry)) at end) r ⌝ }
+{
+    let head = at + 9;
+    match isis_check_a::masks_within(h, end - head - 1) {
+        Masks::Ignored => return Judged::Ignored,
+        Masks::Past => return Judged::Refused(replies::refuse_at(3, Run::B, at)),
+        Masks::End(masks) => {
+            let list = head + masks + 1;
+            let values = list + b[head + masks] as usize;
+            if end < values {
+                return Judged::Refused(replies::refuse_at(3, Run::B, at));
+            }
+            let l = h.l;
+            return check_parts(b, l, list, values, end, at);
+        }
     }
+}
+
+// The names with those of an advertisement whose masks stand at a place of the run, by its header.
+fn names_with(names: Names, h: Header, s: &[u8], at: usize) -> Names
+    requires { ⌜ (h .standard ≤ 8) × (h .user ≤ 8) × (at + h .standard + h .user ≤ length (now s)) × (length (now s) < 4294967296) ⌝ }
+    ensures { λ r. ⌜ Adds names (advertisedAt h (now (s .entry)) at ∷ []) r ⌝ }
+{
+    let behind = at + h.standard;
+    let standard = masks::with_sent(names.standard, s, at, h.standard);
+    let user = masks::with_sent(names.user, s, behind, h.user);
     let l = h.l;
     if l {
-        return Checked::Accepted;
+        let lstandard = masks::with_sent(names.lstandard, s, at, h.standard);
+        let luser = masks::with_sent(names.luser, s, behind, h.user);
+        return Names {
+            standard,
+            user,
+            lstandard,
+            luser,
+        };
     }
-    if !identifies_link(&v[list..values]) {
-        return Checked::Accepted;
-    }
-    isis_check_a::refused(4, Run::B, at)
-}
-
-// A TLV 238 by its value; its first byte is at an offset of run B.
-pub fn check_srlg(value: &[u8], at: usize) -> Checked
-    requires { ⌜ at + 2 + length (now value) < 2 ^ 64 ⌝ }
-    ensures { λ r. ⌜ toldChecked r ≡ checkSrlg at (now (value .entry)) (afterNeighbour (now (value .entry))) ⌝ }
-{
-    if value.len() < 9 {
-        return isis_check_a::refused(3, Run::B, at);
-    }
-    let v = &value[7..];
-    let h = isis_check_a::read_header(v);
-    match isis_check_a::masks_within(h, v.len() - 1) {
-        Masks::Ignored => return Checked::Accepted,
-        Masks::Past => return isis_check_a::refused(3, Run::B, at),
-        Masks::End(length_byte) => {
-            let list = length_byte + 1;
-            let n = v[length_byte] as usize;
-            if v.len() - list < n {
-                return isis_check_a::refused(3, Run::B, at);
-            }
-            return check_parts(v, h, list, list + n, at);
-        }
+    Names {
+        standard,
+        user,
+        lstandard: names.lstandard,
+        luser: names.luser,
     }
 }
 
-// A TLV of run B by its type and value.
-fn check_element(t: u8, value: &[u8], at: usize) -> Checked
-    requires { ⌜ at + 2 + length (now value) < 2 ^ 64 ⌝ }
-    ensures { λ r. ⌜ toldChecked r ≡ checkB at t (now (value .entry)) ⌝ }
+// The same TLV, behind elements that name `names`.
+fn check_tlv(b: &[u8], at: usize, end: usize, names: Names) -> Checking
+    requires { ⌜ (at + 2 ≤ end) × (end ≤ length (now b)) × (length (now b) < 4294967296) ⌝ }
+    ensures { λ r. ⌜ ChecksBehind names (checkB at 238 (valueIn (now (b .entry)) at end)) (srlgAdvertisements (element at 238 (valueIn (now (b .entry)) at end))) r ⌝ }
 {
-    if t != 238 {
-        return Checked::Accepted;
+    let head = at + 9;
+    if end < head + 2 {
+        return naming::refuse(3, Run::B, at);
     }
-    check_srlg(value, at)
+    let h = isis_check_a::read_header(&b[head..end]);
+    match check_srlg(b, h, at, end) {
+        Judged::Refused(r) => return Checking::Refused(r),
+        Judged::Ignored => return Checking::Accepted(names),
+        Judged::Live => return Checking::Accepted(names_with(names, h, b, head + 2)),
+    }
 }
 
-// Run B whole.
-pub fn check_b(b: &[u8]) -> Checked
-    ensures { λ r. ⌜ toldChecked r ≡ faults runB checkB (elements 1 0 (now (b .entry))) ⌝ }
+// Run B whole: its refusal, or the applications that it names, and those that it names with L.
+pub fn check_b(b: &[u8]) -> Checking
+    requires { ⌜ length (now b) < 4294967296 ⌝ }
+    ensures { λ r. ⌜ ((c : List ℕ) → Checks (faults runB checkB (elements 1 0 (now (b .entry)))) ((sideB (now (b .entry)) c) .live) r) ⌝ }
 {
+    let mut names = naming::nobody();
     let mut at = 0;
-    loop {
-        match isis_check_a::frame_at(b, at) {
-            Frame::End => return Checked::Accepted,
-            Frame::Cut => return isis_check_a::refused(3, Run::B, at),
-            Frame::Whole(n) => {
-                let value = at + 2;
-                let end = value + n;
-                if let Checked::Refused(r) = check_element(b[at], &b[value..end], at) {
-                    return Checked::Refused(r);
+    while at + 2 <= b.len() {
+        let n = b[at + 1] as usize;
+        let next = at + 2 + n;
+        if b.len() < next {
+            return naming::refuse(3, Run::B, at);
+        }
+        if b[at] == 238 {
+            match check_tlv(b, at, next, names) {
+                Checking::Refused(r) => return Checking::Refused(r),
+                Checking::Accepted(all) => {
+                    names = all;
                 }
-                at = end;
             }
         }
+        at = next;
     }
+    if at < b.len() {
+        return naming::refuse(3, Run::B, at);
+    }
+    Checking::Accepted(names)
 }
 
 fn least(x: usize, y: usize) -> usize

@@ -181,11 +181,47 @@ module _ (p : ℕ → T.Kind → Bool) (size : T.Kind → T.Size) (asla t : ℕ)
       go true e = subst (λ (x : ℕ). lookup (p x) wrong false kinds ≡ false) (sym (eqb-true t asla e)) h ∙ sym own
       go false e = ap (λ (d : Bool). lookup (p t) wrong d kinds) (sym unknown) ∙ sym (lookup-map f (p t) (ruleWith size) wrong (rule Unknown Any 0) kinds same)
 
+-- What p finds among those with g.
+pub any-kept : {A : Type 0} (p g : A → Bool) (qs : List A) → any (λ q. p q && g q) qs ≡ any p (keep g qs)
+unfolding any keep
+any-kept p g [] = refl
+any-kept p g (q ∷ qs) = go (p q) (g q) refl (any-kept p g qs)
+  where
+    go : (y x : Bool) → p q ≡ y → any (λ q. p q && g q) qs ≡ any p (keep g qs) → (y && x) || any (λ q. p q && g q) qs ≡ any p (cond x (q ∷ keep g qs) (keep g qs))
+    go true true i e = ap₂ (λ (b c : Bool). b || c) (sym i) e
+    go false true i e = ap₂ (λ (b c : Bool). b || c) (sym i) e
+    go true false i e = e
+    go false false i e = e
+
 -- A wrong length is one that does not fit the rule's size: in run A, and at the top of a BGP-LS run.
 pub wrong-in-a : (t n : ℕ) → wrongInA t n ≡ not (fitsIn ((ruleOfType t) .size) n)
 unfolding computing
 wrong-in-a t n =
     by-rule hasType (λ q. q .isisSize) 16 t (λ r. not (fitsIn (r .size) n)) (λ q. not (T.fits (q .isisSize) n)) (types-once t) (λ q. ap not (size-fits (q .isisSize) n)) refl refl refl
+
+-- In run A four bytes are wrong for three types; three are right for a type, and eight for two.
+pub four-in-a : (t n : ℕ) → n ≡ 4 → (eqb t 11 || eqb t 18) || eqb t 34 ≡ wrongInA t n
+unfolding computing
+four-in-a t n e =
+    sym (ap (wrongInA t) e ∙ any-kept (hasType t) (λ q. not (T.fits (q .isisSize) 4)) kinds ∙ go (eqb t 11) (eqb t 18) (eqb t 34))
+  where
+    go : (x y z : Bool) → x || (y || (z || false)) ≡ (x || y) || z
+    go true y z = refl
+    go false true z = refl
+    go false false true = refl
+    go false false false = refl
+
+pub three-in-a : (t n : ℕ) → n ≡ 3 → t ≡ 18 → wrongInA t n ≡ false
+unfolding computing
+three-in-a t n e f = ap₂ wrongInA f e
+
+pub eight-in-a : (t n : ℕ) → n ≡ 8 → eqb t 14 || eqb t 34 ≡ true → wrongInA t n ≡ false
+unfolding computing
+eight-in-a t n e f = go (eqb t 14) refl f
+  where
+    go : (b : Bool) → eqb t 14 ≡ b → b || eqb t 34 ≡ true → wrongInA t n ≡ false
+    go true g h = ap₂ wrongInA (eqb-true t 14 g) e
+    go false g h = ap₂ wrongInA (eqb-true t 34 h) e
 
 pub wrong-at-top : (c n : ℕ) → wrongAtTop c n ≡ not (fitsIn ((ruleOfCode c) .size) n)
 unfolding computing

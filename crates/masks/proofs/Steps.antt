@@ -1,24 +1,24 @@
 -- What the proofs of the functions cite: the members of a number under the operations of the code. Assumes nothing.
 use mathlib.Core.Path.{_≡_, refl, sym, ap, ap₂, subst, _∙_}
 use mathlib.Core.Bool.{Bool, true, false, cond, _||_, _&&_, not, false≢true}
-use mathlib.Core.List.{List, [], _∷_}
+use mathlib.Core.List.{List, [], _∷_, _++_}
 use Prim.Native.Nat.{ℕ, zero, suc, _+_, _-_, _*_, _/_, _%_, _^_, _≤_, _<_, zero-le}
-use native.Mathlib.Nat.{pow-suc, add-comm, zero-add, zero-div, div-eq-of-lt, div-eq-of-lt-le, le-trans, lt-of-lt-of-le, lt-irrefl, lt-of-not-le}
+use native.Mathlib.Nat.{pow-suc, mul-assoc, add-comm, zero-add, zero-div, div-eq-of-lt, div-eq-of-lt-le, le-trans, lt-of-lt-of-le, lt-irrefl, lt-of-not-le}
 use native.Mathlib.Numerals.{add-one}
 use native.Mathlib.Omega.{arith}
 use borrow.Author.Tests.{ltb-true, ltb-false, leb-true, leb-false, lt-ltb, le-ltb}
 use lib.Dec.{T, eqb, ltb, leb, eqb→eq, ltb→lt}
 use lib.Arith.{digits-lt, digits-div}
-use lib.Pow.{pow-mono, split, shr-shr, shr-lt, shl-shr}
+use lib.Pow.{pow-mono, pow-add, split, low, field, shr-shr, shr-lt, shl-shr}
 use lib.Bits.{bitOr, bitAnd, bitXor, or-shr, or-mod, and-shr, and-mod, xor-shr, xor-mod}
 use lib.Count.{leadingZeros, leading-top, trailingZeros, under}
-use lib.ListN.{length, getD, set, take, drop, length-drop}
-use lib.Seq.{drop-cons, drop-length, getD-drop, paste, paste-suc, take-all, take-length}
-use Rattle.linkstate.specs.Lists.{put}
+use lib.ListN.{length, getD, set, take, drop, length-drop, length-set}
+use lib.Seq.{drop-cons, drop-drop, drop-length, getD-drop, length-take-le, paste, paste-suc, take-add, take-all, take-length}
+use Rattle.linkstate.specs.Lists.{numbers, put}
 use Rattle.linkstate.specs.Masks.{bit, one, asNumber, inNumber, last, lastBelow, bytesToHold, maskSize, maskByte, mask}
-use Rattle.masks.specs.Sets.{IsNext, littleEndian, turnedPlace, exchanged}
-use Rattle.masks.proofs.Laws.{below-suc, low-digit, digit-one, is-number, last-is, none-is, byte-is, mask-at, size-le}
-use Rattle.linkstate.proofs.MaskLaws.{length-mask}
+use Rattle.masks.specs.Sets.{IsNext, littleEndian, turnedPlace, inSent, fourBytes, exchanged}
+use Rattle.masks.proofs.Laws.{below-suc, low-digit, digit-one, is-number, last-is, none-is, byte-is, IsSize, size-cases, size-holds, size-least}
+use Rattle.octets.proofs.Laws.{put-nil, put-then, set-two}
 
 -- ---- a test at each number below k, computed
 
@@ -93,7 +93,7 @@ and-table true false = refl
 and-table false true = refl
 and-table false false = refl
 
-and-in : (a b n : ℕ) → inNumber (bitAnd a b) n ≡ inNumber a n && inNumber b n
+pub and-in : (a b n : ℕ) → inNumber (bitAnd a b) n ≡ inNumber a n && inNumber b n
 and-in = op-in bitAnd (λ x y. x && y) and-shr and-mod and-table
 
 xor-table : (x y : Bool) → eqb (bitXor (one x) (one y)) 1 ≡ cond x (not y) y
@@ -249,6 +249,57 @@ eight-all (a ∷ b ∷ c ∷ d ∷ e ∷ f ∷ []) l = let z : ⊥ = omega arith
 eight-all (a ∷ b ∷ c ∷ d ∷ e ∷ f ∷ g ∷ []) l = let z : ⊥ = omega arith in absurd z
 eight-all (a ∷ b ∷ c ∷ d ∷ e ∷ f ∷ g ∷ h ∷ x ∷ s) l = let z : ⊥ = omega arith in absurd z
 
+-- the bytes in front are the low digits
+little-append : (xs ys : List ℕ) → littleEndian (xs ++ ys) ≡ littleEndian ys * 2 ^ (8 * length xs) + littleEndian xs
+unfolding littleEndian
+little-append [] ys = omega arith
+little-append (b ∷ bs) ys =
+    let e : 8 * length (b ∷ bs) ≡ 8 * length bs + 8 = omega arith in
+    let p : 2 ^ (8 * length bs + 8) ≡ 2 ^ (8 * length bs) * 256 = pow-add 2 (8 * length bs) 8 in
+    rw (little-append bs ys, e, p) (omega (arith, mul-assoc (littleEndian ys) (2 ^ (8 * length bs)) 256))
+
+little-small : (s : List ℕ) → ((i : ℕ) → getD s i 0 < 256) → littleEndian s < 2 ^ (8 * length s)
+unfolding littleEndian
+little-small [] small = omega arith
+little-small (b ∷ bs) small =
+    let e : 8 * length (b ∷ bs) ≡ 8 * length bs + 8 = omega arith in
+    rw (e, pow-add 2 (8 * length bs) 8) (omega (arith, little-small bs (λ i. small (suc i)), small 0))
+
+-- so they are what is left by a power of their length
+little-front : (xs ys : List ℕ) → ((i : ℕ) → getD xs i 0 < 256) → littleEndian (xs ++ ys) % 2 ^ (8 * length xs) ≡ littleEndian xs
+little-front xs ys small = ap (λ (x : ℕ). x % 2 ^ (8 * length xs)) (little-append xs ys) ∙ low (littleEndian ys) (8 * length xs) (little-small xs small)
+
+small-take : (n : ℕ) (s : List ℕ) → ((i : ℕ) → getD s i 0 < 256) → (i : ℕ) → getD (take n s) i 0 < 256
+small-take zero s all i = omega arith
+small-take (suc n) [] all i = all i
+small-take (suc n) (b ∷ s) all zero = all 0
+small-take (suc n) (b ∷ s) all (suc i) = small-take n s (λ j. all (suc j)) i
+
+module _ (s : List ℕ) (small : (i : ℕ) → getD s i 0 < 256) (at : ℕ) where
+  pub small-part : (n i : ℕ) → getD (take n (drop at s)) i 0 < 256
+  small-part n = small-take n (drop at s) (λ i. rw (getD-drop at s i 0) (small (at + i)))
+
+  module _ (h : at + 8 ≤ length s) (lo hi : ℕ) (p : lo ≡ littleEndian (take 4 (drop at s))) (q : hi ≡ littleEndian (take 4 (drop (at + 4) s))) where
+    eight-at : hi * 4294967296 + lo ≡ littleEndian (take 8 (drop at s))
+    eight-at =
+        let l : length (take 4 (drop at s)) ≡ 4 = length-take-le 4 (drop at s) (rw length-drop (omega arith)) in
+        let e : take 8 (drop at s) ≡ take 4 (drop at s) ++ take 4 (drop (at + 4) s) = take-add 4 4 (drop at s) ∙ ap (λ (x : List ℕ). take 4 (drop at s) ++ take 4 x) (drop-drop 4 at s) in
+        let f : littleEndian (take 4 (drop at s) ++ take 4 (drop (at + 4) s)) ≡ hi * 2 ^ 32 + lo
+        = little-append (take 4 (drop at s)) (take 4 (drop (at + 4) s)) ∙ rw (l, sym p, sym q) in
+        sym (ap littleEndian e ∙ f)
+
+    -- eight bytes shifted up and down again: the first n of them
+    pub front-at : (n k : ℕ) → n ≤ 8 → k ≡ 64 - 8 * n → (hi * 4294967296 + lo) * 2 ^ k % 2 ^ 64 / 2 ^ k ≡ littleEndian (take n (drop at s))
+    front-at n k g e =
+        let j : 64 ≡ 8 * n + k = omega arith in
+        let l : length (take n (drop at s)) ≡ n = length-take-le n (drop at s) (rw length-drop (omega arith)) in
+        let m : n + (8 - n) ≡ 8 = omega arith in
+        let x = hi * 4294967296 + lo in
+        let c : take 8 (drop at s) ≡ take n (drop at s) ++ take (8 - n) (drop n (drop at s)) = ap (λ (i : ℕ). take i (drop at s)) (sym m) ∙ take-add n (8 - n) (drop at s) in
+        ap (λ (i : ℕ). x * 2 ^ k % 2 ^ i / 2 ^ k) j ∙ field (x * 2 ^ k) (8 * n) k ∙ ap (λ (i : ℕ). i % 2 ^ (8 * n)) (shl-shr x k ∙ eight-at ∙ ap littleEndian c)
+        ∙ ap (λ (i : ℕ). littleEndian (take n (drop at s) ++ take (8 - n) (drop n (drop at s))) % 2 ^ (8 * i)) (sym l)
+        ∙ little-front (take n (drop at s)) (take (8 - n) (drop n (drop at s))) (small-part n)
+
 -- the applications of a mask, by its bytes' number
 pub sent-bit : (s : List ℕ) (m : ℕ) → ((i : ℕ) → getD s i 0 < 256) → m ≡ littleEndian s → (n : ℕ) → inNumber m (turnedPlace n) ≡ bit s n
 unfolding turnedPlace bit
@@ -257,32 +308,22 @@ sent-bit s m small e n =
     let g : (n / 8 * 8 + (7 - n % 8)) % 8 ≡ 7 - n % 8 = omega arith in
     ap (λ (x : ℕ). inNumber x (turnedPlace n)) e ∙ (rw (f, g) at (little-in s small (turnedPlace n)))
 
+-- a set with those of a mask, of none or of some bytes
+bit-none : (k : ℕ) → bit [] k ≡ false
+unfolding bit
+bit-none k = rw zero-div
+
+pub sent-same : (m n : ℕ) (l : List ℕ) → n ≡ 0 → (k : ℕ) → inNumber m (turnedPlace k) ≡ inNumber m (turnedPlace k) || bit (take n l) k
+sent-same m n l e k = rw (e, bit-none k) (sym (or-false (inNumber m (turnedPlace k))))
+
+pub sent-joined : (m x r : ℕ) (l : List ℕ) → ((i : ℕ) → getD l i 0 < 256) → x ≡ littleEndian l → ((n : ℕ) → inNumber r n ≡ inNumber m n || inNumber x n)
+    → (k : ℕ) → inNumber r (turnedPlace k) ≡ inNumber m (turnedPlace k) || bit l k
+sent-joined m x r l small e j k = j (turnedPlace k) ∙ ap (λ (b : Bool). inNumber m (turnedPlace k) || b) (sent-bit l x small e k)
+
 -- turned round, it is the number of the mask
 pub read-mask : (s : List ℕ) (m r : ℕ) → ((i : ℕ) → getD s i 0 < 256) → r < 2 ^ 64 → m ≡ littleEndian s
     → ((n : ℕ) → n < 64 → inNumber r n ≡ inNumber m (turnedPlace n)) → r ≡ asNumber (bit s)
 read-mask s m r small h e t = is-number r (bit s) h (λ n l. t n l ∙ sent-bit s m small e n)
-
--- ---- a mask that is written
-
--- its byte at a place
-write-byte : (m r i : ℕ) → i < 8 → ((n : ℕ) → n < 64 → inNumber r n ≡ inNumber m (turnedPlace n)) → r / 2 ^ (8 * i) % 256 ≡ maskByte (inNumber m) (8 * i)
-unfolding turnedPlace
-write-byte m r i h t =
-    byte-is (inNumber m) (8 * i) (r / 2 ^ (8 * i) % 256) (omega arith) (λ j l.
-    let f : (8 * i + j) / 8 * 8 + (7 - (8 * i + j) % 8) ≡ 8 * i + (7 - j) = omega arith in
-    lowest (r / 2 ^ (8 * i)) 8 j l ∙ shifted r (8 * i) j ∙ t (8 * i + j) (omega arith) ∙ ap (inNumber m) f)
-
-module _ (m r : ℕ) (turned : (n : ℕ) → n < 64 → inNumber r n ≡ inNumber m (turnedPlace n))
-    (d : List ℕ) (at i : ℕ) (out : List ℕ) (so : out ≡ paste d at (mask (inNumber m)) i) where
-  pub write-next : i < maskSize (inNumber m) → at + maskSize (inNumber m) ≤ length d → set out (at + i) (r / 2 ^ (8 * i) % 256) ≡ paste d at (mask (inNumber m)) (i + 1)
-  write-next h l =
-      let p = inNumber m in
-      let f : r / 2 ^ (8 * i) % 256 ≡ getD (mask p) i 0 = write-byte m r i (omega (arith, size-le p)) turned ∙ sym (mask-at p i h) in
-      rw (so, f, add-one i) (paste-suc d at (mask p) i 0 (omega arith) (omega (arith, length-mask p)))
-
-  pub write-all : i ≡ maskSize (inNumber m) → out ≡ put d at (mask (inNumber m))
-  unfolding put
-  write-all e = so ∙ ap (paste d at (mask (inNumber m))) (e ∙ sym (length-mask (inNumber m))) ∙ rw (take-length (mask (inNumber m)))
 
 -- ---- the members of a number
 
@@ -332,6 +373,120 @@ module _ (m : ℕ) (some : 0 < m) (fits : m < 2 ^ 64) where
       let (j, e, a, b) = leading-top 64 m some fits in
       let l = power-order 32 (suc j) m h b in
       size-top j a b ∙ rw (le-ltb j 32 (omega arith))
+
+-- ---- the place of an application's bit in a mask that is sent
+
+unfoldable pub turns : ℕ → Bool
+turns n = eqb (bitXor n 7) (turnedPlace n) && ltb (turnedPlace n) 128
+
+pub turned-is : T (every turns 128) → (n : ℕ) → n < 128 → (bitXor n 7 ≡ turnedPlace n) × (bitXor n 7 < 128)
+unfolding turns
+turned-is all n h =
+    let t = every-step (eqb (bitXor n 7) (turnedPlace n)) (ltb (turnedPlace n) 128) (every-at turns 128 all n h) in
+    let e = eqb→eq (bitXor n 7) (turnedPlace n) (t .0) in
+    (e, omega (arith, ltb→lt (turnedPlace n) 128 (t .1)))
+
+-- ---- a mask that is written as it was sent
+
+turned-low : (n k : ℕ) → IsSize k → turnedPlace n < 8 * k → n < 8 * k
+unfolding turnedPlace
+turned-low n k s h = omega arith
+
+pub turned-back : (n : ℕ) → turnedPlace (turnedPlace n) ≡ n
+unfolding turnedPlace
+turned-back n = omega arith
+
+pub turned-below : (n : ℕ) → n < 64 → turnedPlace n < 64
+unfolding turnedPlace
+turned-below n h = omega arith
+
+-- it takes as many bytes as the number itself would, since no place leaves its byte
+pub size-sent : (m : ℕ) → maskSize (inSent m) ≡ maskSize (inNumber m)
+size-sent m =
+    let p = inNumber m in
+    let q = inSent m in
+    let a : maskSize q ≤ maskSize p = size-least q (maskSize p) (size-cases p) (λ n h e. turned-low n (maskSize p) (size-cases p) (size-holds p (turnedPlace n) (turned-below n h) e)) in
+    let b : maskSize p ≤ maskSize q =
+    size-least p (maskSize q) (size-cases q) (λ n h e. turned-low n (maskSize q) (size-cases q) (size-holds q (turnedPlace n) (turned-below n h) (ap p (turned-back n) ∙ e))) in
+    omega arith
+
+-- a byte of it
+sent-byte : (m i : ℕ) → m / 2 ^ (8 * i) % 256 ≡ maskByte (inSent m) (8 * i)
+unfolding turnedPlace
+sent-byte m i =
+    byte-is (inSent m) (8 * i) (m / 2 ^ (8 * i) % 256) (omega arith) (λ j l.
+    let f : 8 * i + j ≡ (8 * i + (7 - j)) / 8 * 8 + (7 - (8 * i + (7 - j)) % 8) = omega arith in
+    lowest (m / 2 ^ (8 * i)) 8 j l ∙ shifted m (8 * i) j ∙ ap (inNumber m) f)
+
+module _ (m : ℕ) where
+  pub mask-four : maskSize (inSent m) ≡ 4 → mask (inSent m) ≡ fourBytes m
+  unfolding mask numbers fourBytes
+  mask-four e =
+      let a = sent-byte m 0 in
+      let b = sent-byte m 1 in
+      let c = sent-byte m 2 in
+      let d = sent-byte m 3 in
+      let z : m / 1 % 256 ≡ m % 256 = omega arith in
+      rw e (cc)
+
+  pub mask-eight : maskSize (inSent m) ≡ 8 → mask (inSent m) ≡ fourBytes m ++ fourBytes (m / 4294967296)
+  unfolding mask numbers fourBytes
+  mask-eight e =
+      let a = sent-byte m 0 in
+      let b = sent-byte m 1 in
+      let c = sent-byte m 2 in
+      let d = sent-byte m 3 in
+      let f = sent-byte m 4 in
+      let g = sent-byte m 5 in
+      let h = sent-byte m 6 in
+      let i = sent-byte m 7 in
+      let z : m / 1 % 256 ≡ m % 256 = omega arith in
+      let x : m / 1099511627776 ≡ m / 4294967296 / 256 = sym (shr-shr m 32 8) in
+      let y : m / 281474976710656 ≡ m / 4294967296 / 65536 = sym (shr-shr m 32 16) in
+      let w : m / 72057594037927936 ≡ m / 4294967296 / 16777216 = sym (shr-shr m 32 24) in
+      rw e (cc)
+
+pub put-four : (d : List ℕ) (at a b c e : ℕ) → at + 4 ≤ length d → set (set (set (set d at a) (at + 1) b) (at + 2) c) (at + 3) e ≡ put d at (a ∷ b ∷ c ∷ e ∷ [])
+put-four d at a b c e h =
+    let f : at + 2 + 1 ≡ at + 3 = omega arith in
+    let x = set (set d at a) (at + 1) b in
+    let l : length x ≡ length d = simp length-set in
+    put-then d x _ at (a ∷ b ∷ []) (at + 2) (c ∷ e ∷ []) (set-two d at a b (omega arith)) (rw (sym f) (set-two x (at + 2) c e (omega arith))) refl (omega arith)
+
+module _ (m : ℕ) (fits : m < 2 ^ 64) (d : List ℕ) (at : ℕ) where
+  abbrev Written : ℕ → List ℕ → Type 0
+  Written r o = (r ≡ at + maskSize (inSent m)) × (o ≡ put d at (mask (inSent m)))
+
+  pub sent-none : m ≡ 0 → maskSize (inSent m) ≡ 0
+  sent-none e = size-sent m ∙ ap (λ (k : ℕ). maskSize (inNumber k)) e ∙ size-zero
+
+  pub sent-four : 0 < m → m < 2 ^ 32 → maskSize (inSent m) ≡ 4
+  sent-four s h = size-sent m ∙ size-four m s fits h
+
+  pub sent-eight : 2 ^ 32 ≤ m → maskSize (inSent m) ≡ 8
+  sent-eight h = size-sent m ∙ size-eight m (omega arith) fits h
+
+  pub sent-some : 0 < m → 4 ≤ maskSize (inSent m)
+  sent-some s = go (ltb m 4294967296) refl
+    where
+      go : (b : Bool) → ltb m 4294967296 ≡ b → 4 ≤ maskSize (inSent m)
+      go true e = omega (arith, sent-four s (ltb-true m 4294967296 e))
+      go false e = omega (arith, sent-eight (ltb-false m 4294967296 e))
+
+  pub none-written : m ≡ 0 → Written at d
+  unfolding mask numbers
+  none-written e = let z = sent-none e in (omega arith, put-nil d at ∙ ap (put d at) (sym (rw z)))
+
+  pub four-written : (o : List ℕ) → o ≡ put d at (fourBytes m) → 0 < m → m < 2 ^ 32 → Written (at + 4) o
+  four-written o e s h = let z = sent-four s h in (omega arith, e ∙ ap (put d at) (sym (mask-four m z)))
+
+  pub eight-written : (x o : List ℕ) → x ≡ put d at (fourBytes m) → o ≡ put x (at + 4) (fourBytes (m / 4294967296)) → 2 ^ 32 ≤ m → at + 8 ≤ length d → Written (at + 8) o
+  unfolding fourBytes
+  eight-written x o e f h k =
+      let z = sent-eight h in (
+        omega arith,
+        put-then d x o at (fourBytes m) (at + 4) (fourBytes (m / 4294967296)) e f refl (omega arith) ∙ ap (put d at) (sym (mask-eight m z)),
+      )
 
 -- ---- the first member
 

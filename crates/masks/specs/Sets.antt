@@ -32,6 +32,10 @@ turnedPlace n = n / 8 * 8 + (7 - n % 8)
 abbrev pub inSent : ℕ → ℕ → Bool
 inSent m n = inNumber m (turnedPlace n)
 
+-- The low four bytes of a number, the lowest first.
+unfoldable pub fourBytes : ℕ → List ℕ
+fourBytes m = m % 256 ∷ m / 256 % 256 ∷ m / 65536 % 256 ∷ m / 16777216 % 256 ∷ []
+
 -- Bit n of a set p whose bits at the places of q change places with those k above.
 unfoldable pub exchanged : (q p : ℕ → Bool) → ℕ → ℕ → Bool
 exchanged q p k n = q n && p (k + n) || leb k n && (q (n - k) && p (n - k))

@@ -1,11 +1,11 @@
-// Masks of applications: read from their bytes, kept as 64-bit numbers (application n is 2 to the n), and written.
+// Masks of applications: read from their bytes, kept as 64-bit numbers (application n is 2 to the n; or as sent, the first byte the lowest), and written.
 ghost use mathlib.Core.Path.{_≡_};
 ghost use mathlib.Core.Bool.{_||_, _&&_, not};
 ghost use Prim.Native.Nat.{ℕ, _+_, _≤_, _<_};
 ghost use lib.ListN.{length, take, drop};
 ghost use Rattle.linkstate.specs.Lists.{put};
 ghost use Rattle.linkstate.specs.Masks.{bit, inMasks, asNumber, inNumber, lastBelow, maskSize, mask};
-ghost use Rattle.masks.specs.Sets.{lastOf, IsNext, littleEndian, inSent, exchanged};
+ghost use Rattle.masks.specs.Sets.{lastOf, IsNext, littleEndian, inSent, turnedPlace, fourBytes, exchanged};
 
 // The bits of m at the places of q, and those k above them, in each other's place.
 fn exchange(q: u64, m: u64, k: u32) -> u64
@@ -22,6 +22,14 @@ pub fn turned(m: u64) -> u64
     let a = exchange(0x5555555555555555, m, 1);
     let b = exchange(0x3333333333333333, a, 2);
     exchange(0x0F0F0F0F0F0F0F0F, b, 4)
+}
+
+// Where the bit of application n stands in a mask as sent.
+pub fn turned_place(n: usize) -> usize
+    requires { ⌜ n < 128 ⌝ }
+    ensures { λ r. ⌜ (r ≡ turnedPlace n) × (r < 128) ⌝ }
+{
+    n ^ 7
 }
 
 // A byte as a number.
@@ -72,6 +80,32 @@ fn little_endian(s: &[u8]) -> u64
         return high * 4294967296 + low;
     }
     few_bytes(s)
+}
+
+// The number of the n bytes from a place on, where eight can be read at once.
+fn front_bytes(s: &[u8], at: usize, n: usize) -> u64
+    requires { ⌜ (at + 8 ≤ length (now s)) × (0 < n) × (n ≤ 8) ⌝ }
+    ensures { λ r. ⌜ r ≡ littleEndian (take n (drop at (now (s .entry)))) ⌝ }
+{
+    let low = four_bytes(s, at);
+    let high = four_bytes(s, at + 4);
+    let all = high * 4294967296 + low;
+    let unused = (64 - 8 * n) as u32;
+    (all << unused) >> unused
+}
+
+// A set in the order of a mask's bytes, with the applications of the mask of n bytes at a place of a run. Eight bytes are read where the run has them.
+pub fn with_sent(m: u64, s: &[u8], at: usize, n: usize) -> u64
+    requires { ⌜ (at + n ≤ length (now s)) × (n ≤ 8) × (length (now s) < 4294967296) ⌝ }
+    ensures { λ r. ⌜ ((k : ℕ) → inSent r k ≡ inSent m k || bit (take n (drop at (now (s .entry)))) k) ⌝ }
+{
+    if n == 0 {
+        return m;
+    }
+    if at + 8 <= s.len() {
+        return joined(m, front_bytes(s, at, n));
+    }
+    joined(m, few_bytes(&s[at..at + n]))
 }
 
 // The bytes of a mask as a number, for masks that are joined before their applications are told.
@@ -164,9 +198,9 @@ pub fn without(a: u64, b: u64) -> u64
     a ^ (a & b)
 }
 
-// How many bytes the mask of a set is written in.
+// How many bytes a mask as sent is written in.
 pub fn mask_size(m: u64) -> usize
-    ensures { λ r. ⌜ r ≡ maskSize (inNumber m) ⌝ }
+    ensures { λ r. ⌜ (r ≡ maskSize (inSent m)) × (r ≤ 8) ⌝ }
 {
     if m == 0 {
         return 0;
@@ -177,15 +211,30 @@ pub fn mask_size(m: u64) -> usize
     8
 }
 
-// The mask of a set, written at a place of a buffer. Answers its length.
-pub fn write_mask(m: u64, out: &mut [u8], at: usize) -> usize
-    requires { ⌜ at + maskSize (inNumber m) ≤ length (now out) ⌝ }
-    ensures { λ r. ⌜ (r ≡ maskSize (inNumber m)) × (now (out .exit) ≡ put (now (out .entry)) at (mask (inNumber m))) ⌝ }
+// The low four bytes of a number, the lowest first.
+fn write_four(m: u64, out: &mut [u8], at: usize)
+    requires { ⌜ at + 4 ≤ length (now out) ⌝ }
+    ensures { λ _. ⌜ now (out .exit) ≡ put (now (out .entry)) at (fourBytes m) ⌝ }
 {
-    let size = mask_size(m);
-    let r = turned(m);
-    for i in 0..size {
-        out[at + i] = ((r >> (8 * i)) % 256) as u8;
+    out[at] = (m % 256) as u8;
+    out[at + 1] = (m / 256 % 256) as u8;
+    out[at + 2] = (m / 65536 % 256) as u8;
+    out[at + 3] = (m / 16777216 % 256) as u8;
+}
+
+// A mask as sent, written at a place of a buffer; the place after it.
+pub fn write_mask(m: u64, out: &mut [u8], at: usize) -> usize
+    requires { ⌜ at + maskSize (inSent m) ≤ length (now out) ⌝ }
+    ensures { λ r. ⌜ (r ≡ at + maskSize (inSent m)) × (now (out .exit) ≡ put (now (out .entry)) at (mask (inSent m))) ⌝ }
+{
+    if m == 0 {
+        return at;
     }
-    size
+    write_four(m, out, at);
+    let high = m / 4294967296;
+    if high == 0 {
+        return at + 4;
+    }
+    write_four(high, out, at + 4);
+    at + 8
 }

@@ -5,8 +5,8 @@ use mathlib.Core.Bool.{Bool, true, false, _&&_, and-true, and-false}
 use mathlib.Core.List.{List, [], _∷_, _++_, append-assoc}
 use Prim.Native.Nat.{ℕ, zero, suc, _+_, _-_, _*_, _/_, _%_, _^_, _≤_, _<_}
 use lib.Dec.{eqb}
-use lib.ListN.{length, take, drop, getD, set, length-append, length-drop, drop-of-length-le, length-set}
-use lib.Seq.{length-take-le, take-add, take-length, take-at, drop-at, drop-drop, drop-cons, getD-drop, sets-eq, paste, paste-zero, paste-suc}
+use lib.ListN.{length, take, drop, getD, set, length-append, length-drop, drop-of-length-le, length-set, List·getD-append}
+use lib.Seq.{length-take-le, take-add, take-length, ext-getD, take-at, drop-at, drop-drop, drop-cons, getD-take, getD-drop, sets-eq, paste, paste-zero, paste-suc}
 use native.Mathlib.Nat.{zero-add, add-assoc, add-mul, mul-assoc, pow-suc, pow-succ', add-sub-cancel-left, mul-le-mul-right}
 use native.Mathlib.Numerals.{add-one}
 use native.Mathlib.Omega.{arith}
@@ -116,6 +116,41 @@ pub number-four : (n : ℕ) → number (four n) ≡ n
 number-four n =
     rw (four-is n, number-append (two (n / 65536)) (two (n % 65536)), number-two (n / 65536), number-two (n % 65536), length-two (n % 65536)) (omega arith)
 
+-- Two halves of a number, as the two bytes of each.
+pub four-head : (t n : ℕ) → n < 65536 → four (t * 65536 + n) ≡ two t ++ two n
+four-head t n h =
+    let a : (t * 65536 + n) / 65536 ≡ t = omega arith in
+    let b : (t * 65536 + n) % 65536 ≡ n = omega arith in
+    rw (four-is (t * 65536 + n), a, b)
+
+-- The bytes of the number that four bytes write, and three.
+pub four-number : (bs : List ℕ) → Octets bs → length bs ≡ 4 → four (number bs) ≡ bs
+unfolding four number numberFrom
+four-number (a ∷ b ∷ c ∷ d ∷ []) all e =
+    let ha = all 0 in
+    let hb = all 1 in
+    let hc = all 2 in
+    let hd = all 3 in
+    let n = (((0 * 256 + a) * 256 + b) * 256 + c) * 256 + d in
+    let p : n / 16777216 ≡ a = omega arith in
+    let q : n / 65536 % 256 ≡ b = omega arith in
+    let r : n / 256 % 256 ≡ c = omega arith in
+    let s : n % 256 ≡ d = omega arith in
+    cc
+four-number [] all e = absurd (omega arith)
+four-number (a ∷ []) all e = absurd (omega arith)
+four-number (a ∷ b ∷ []) all e = absurd (omega arith)
+four-number (a ∷ b ∷ c ∷ []) all e = absurd (omega arith)
+four-number (a ∷ b ∷ c ∷ d ∷ x ∷ bs) all e = absurd (omega arith)
+
+pub four-short : (bs : List ℕ) → Octets bs → length bs ≡ 3 → four (number bs) ≡ 0 ∷ bs
+unfolding number numberFrom
+four-short bs all e = four-number (0 ∷ bs) front (omega arith)
+  where
+    front : Octets (0 ∷ bs)
+    front zero = omega arith
+    front (suc i) = all i
+
 -- ---- a number read byte by byte
 
 -- r is the number of the n bytes at an offset.
@@ -207,6 +242,16 @@ module _ {A : Type 0} where
     unfolding put
     copy-end e = so ∙ ap (paste d at s) e ∙ rw (take-length s)
 
+-- A part of a buffer copied to another place of it: the byte to come.
+pub getD-bytesAt : (s : List ℕ) (at n i : ℕ) → i < n → getD (bytesAt s at n) i 0 ≡ getD s (at + i) 0
+unfolding bytesAt
+getD-bytesAt s at n i h = getD-take n (drop at s) i 0 h ∙ getD-drop at s i 0
+
+pub copy-part-next : (d : List ℕ) (from n to i : ℕ) (out : List ℕ) → out ≡ paste d to (bytesAt d from n) i → (b : ℕ) → b ≡ getD d (from + i) 0 → i < n → from + n ≤ to → to + n ≤ length d
+    → set out (to + i) b ≡ paste d to (bytesAt d from n) (i + 1)
+copy-part-next d from n to i out so b e h l k =
+    rw (e ∙ sym (getD-bytesAt d from n i h)) (copy-next d to (bytesAt d from n) i out so 0 (omega arith) (omega (arith, length-bytesAt d from n (omega arith))))
+
 -- What is written is read back.
 pub bytesAt-put : (d : List ℕ) (at : ℕ) (vs : List ℕ) → at + length vs ≤ length d → bytesAt (put d at vs) at (length vs) ≡ vs
 unfolding bytesAt put
@@ -214,6 +259,24 @@ bytesAt-put d at vs room =
     ap (λ (l : List ℕ). take (length vs) (drop at l)) (append-assoc (take at d) vs (drop (at + length vs) d))
     ∙ ap (take (length vs)) (drop-at (take at d) (vs ++ drop (at + length vs) d) at (length-take-le at d (omega arith)))
     ∙ take-at vs (drop (at + length vs) d) (length vs) refl
+
+-- What stands before a write stays.
+module _ (d : List ℕ) (at : ℕ) (vs : List ℕ) (room : at + length vs ≤ length d) where
+  getD-before : (j : ℕ) → j < at → getD (put d at vs) j 0 ≡ getD d j 0
+  unfolding put
+  getD-before j h =
+      let l = length-take-le at d (omega arith) in
+      ap (λ (x : List ℕ). getD x j 0) (append-assoc (take at d) vs (drop (at + length vs) d))
+      ∙ List·getD-append (take at d) (vs ++ drop (at + length vs) d) 0 j (omega arith)
+      ∙ getD-take at d j 0 h
+
+  pub bytesAt-before : (p n : ℕ) → p + n ≤ at → bytesAt (put d at vs) p n ≡ bytesAt d p n
+  bytesAt-before p n h =
+      let l = length-put d at vs room in
+      let x = length-bytesAt (put d at vs) p n (omega arith) in
+      let y = length-bytesAt d p n (omega arith) in
+      ext-getD 0 (bytesAt (put d at vs) p n) (bytesAt d p n) (x ∙ sym y) (λ i k.
+      getD-bytesAt (put d at vs) p n i (omega arith) ∙ getD-before (p + i) (omega arith) ∙ sym (getD-bytesAt d p n i (omega arith)))
 
 -- The halves of a number, written one after the other.
 pub put-halves : (d e f : List ℕ) (at n : ℕ) → e ≡ put d at (two (n / 65536)) → f ≡ put e (at + 2) (two (n % 65536)) → at + 4 ≤ length d → f ≡ put d at (four n)

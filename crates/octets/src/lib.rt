@@ -103,6 +103,16 @@ pub fn copy_part(src: &[u8], a: usize, n: usize, out: &mut [u8], at: usize)
     copy_all(&src[a..a + n], out, at);
 }
 
+// n bytes of a buffer, copied to a later place of it.
+pub fn copy_on(out: &mut [u8], from: usize, n: usize, to: usize)
+    requires { ⌜ (from + n ≤ to) × (to + n ≤ length (now out)) ⌝ }
+    ensures { λ _. ⌜ now (out .exit) ≡ put (now (out .entry)) to (bytesAt (now (out .entry)) from n) ⌝ }
+{
+    for i in 0..n {
+        out[to + i] = out[from + i];
+    }
+}
+
 // The float whose bits these are. Every NaN pattern lies above that of infinity, and gives the one NaN.
 pub fn float_of(bits: u32) -> f32
     ensures { λ r. ⌜ r ≡ ofBits binary32 bits ⌝ }

@@ -1,3 +1,2 @@
 -- Laws that the crates above share, and those of this crate's own functions.
 pub mod Laws
-pub mod Sized

@@ -14,6 +14,7 @@ use Rattle.linkstate.specs.Masks.{user, others, asNumber, inNumber}
 use Rattle.linkstate.specs.Meaning.{Meaning, row}
 use Rattle.linkstate.specs.Export.{leader, inGroup}
 use Rattle.rivals.proofs.Groups.{leader-row}
+use Rattle.masks.specs.Sets.{turnedPlace}
 use Rattle.masks.proofs.Laws.{in-number, number-of}
 use Rattle.masks.proofs.Steps.{zero-none}
 use Rattle.set_groups.specs.Groups.{Group, group, added, join, groupBelow, groupsBelow}
@@ -119,7 +120,7 @@ module _ (g : ℕ → Bool) (n k : ℕ) where
       go false f true h = let q = eqb-true k n h in rw (lt-ltb k (n + 1) (omega arith)) (sym (ap g q ∙ e))
       go false f false h = let a = ltb-false k n f in let q = eqb-false k n h in rw (le-ltb k (n + 1) (omega arith))
 
--- As numbers, of those that t says: standard applications, or user ones.
+-- As numbers, by the application that t says of a bit: the standard one, or the user one.
 module _ (t : ℕ → ℕ) (g : ℕ → Bool) (n : ℕ) where
   abbrev before : ℕ → Bool
   before = λ i. ltb (t i) n && g (t i)
@@ -146,15 +147,15 @@ module _ (m : Meaning) where
   module _ (n l : ℕ) where
     group-in : inGroup m l n ≡ true → added n (groupBelow m n l) ≡ groupBelow m (n + 1) l
     unfolding groupBelow group added
-    group-in e = ap₂ (λ (s u : ℕ). group (row (m .set l)) s u) (number-in (λ i. i) (inGroup m l) n e) (number-in user (inGroup m l) n e)
+    group-in e = ap₂ (λ (s u : ℕ). group (row (m .set l)) s u) (number-in turnedPlace (inGroup m l) n e) (number-in (λ i. user (turnedPlace i)) (inGroup m l) n e)
 
     group-out : inGroup m l n ≡ false → groupBelow m n l ≡ groupBelow m (n + 1) l
     unfolding groupBelow
-    group-out e = ap₂ (λ (s u : ℕ). group (row (m .set l)) s u) (number-out (λ i. i) (inGroup m l) n e) (number-out user (inGroup m l) n e)
+    group-out e = ap₂ (λ (s u : ℕ). group (row (m .set l)) s u) (number-out turnedPlace (inGroup m l) n e) (number-out (λ i. user (turnedPlace i)) (inGroup m l) n e)
 
   group-none : (n : ℕ) → ((k : ℕ) → ltb k n && inGroup m n k ≡ false) → groupBelow m n n ≡ group (row (m .set n)) 0 0
   unfolding groupBelow
-  group-none n e = ap₂ (λ (s u : ℕ). group (row (m .set n)) s u) (number-none (λ i. i) (inGroup m n) n e) (number-none user (inGroup m n) n e)
+  group-none n e = ap₂ (λ (s u : ℕ). group (row (m .set n)) s u) (number-none turnedPlace (inGroup m n) n e) (number-none (λ i. user (turnedPlace i)) (inGroup m n) n e)
 
   group-new : (n : ℕ) → ((k : ℕ) → ltb k n && inGroup m n k ≡ false) → inGroup m n n ≡ true → added n (group (row (m .set n)) 0 0) ≡ groupBelow m (n + 1) n
   group-new n e f = ap (added n) (sym (group-none n e)) ∙ group-in n n f

@@ -13,7 +13,9 @@ use Rattle.linkstate.specs.Meaning.{Meaning, row}
 use Rattle.linkstate.specs.Export.{Tlv, tlv, bytesOf, present, aslaValue, inGroup, leaders, groupValue}
 use Rattle.masks.proofs.Laws.{in-number, size-same, mask-same}
 use Rattle.kinds.proofs.Computing.{computing}
-use Rattle.asla_bytes.specs.Applications.{inNumbers}
+use Rattle.masks.specs.Sets.{turnedPlace}
+use Rattle.masks.proofs.Steps.{turned-back, turned-below}
+use Rattle.naming.specs.Names.{inBoth}
 use Rattle.set_groups.specs.Groups.{group, valueIn, groupTlv, groupBelow, groupsBelow}
 
 -- ---- an ASLA depends on the 128 applications and the eleven kinds only
@@ -47,9 +49,9 @@ unfolding valueIn row computing
 row-back f = refl
 
 -- The TLV of a group by any set of its values.
-pub tlv-is : (f : ℕ → List ℕ) (s u : ℕ) → groupTlv (group (row f) s u) ≡ bytesOf (tlv 1122 (aslaValue (inNumbers s u) f))
+pub tlv-is : (f : ℕ → List ℕ) (s u : ℕ) → groupTlv (group (row f) s u) ≡ bytesOf (tlv 1122 (aslaValue (inBoth s u) f))
 unfolding groupTlv group
-tlv-is f s u = ap (λ (v : List ℕ). bytesOf (tlv 1122 v)) (asla-row (inNumbers s u) (valueIn (row f)) f (row-back f))
+tlv-is f s u = ap (λ (v : List ℕ). bytesOf (tlv 1122 v)) (asla-row (inBoth s u) (valueIn (row f)) f (row-back f))
 
 -- ---- the groups of all
 
@@ -65,28 +67,31 @@ each-ext {B = B} f g (x ∷ xs) h = ap₂ (λ (l k : List B). l ++ k) (h x) (eac
 
 module _ (p : ℕ → Bool) where
   abbrev standards : ℕ
-  standards = asNumber (λ i. ltb i 128 && p i)
+  standards = asNumber (λ i. ltb (turnedPlace i) 128 && p (turnedPlace i))
 
   abbrev users : ℕ
-  users = asNumber (λ i. ltb (user i) 128 && p (user i))
+  users = asNumber (λ i. ltb (user (turnedPlace i)) 128 && p (user (turnedPlace i)))
 
-  members-are : (n : ℕ) → n < 128 → inNumbers standards users n ≡ p n
-  unfolding inNumbers user
+  members-are : (n : ℕ) → n < 128 → inBoth standards users n ≡ p n
+  unfolding inBoth user
   members-are n h = go (ltb n 64) refl
     where
-      go : (b : Bool) → ltb n 64 ≡ b → cond b (inNumber standards n) (inNumber users (n - 64)) ≡ p n
-      go true e = in-number (λ i. ltb i 128 && p i) n (ltb-true n 64 e) ∙ rw (lt-ltb n 128 h)
+      go : (b : Bool) → ltb n 64 ≡ b → cond b (inNumber standards (turnedPlace n)) (inNumber users (turnedPlace (n - 64))) ≡ p n
+      go true e =
+          let l = ltb-true n 64 e in
+          in-number (λ i. ltb (turnedPlace i) 128 && p (turnedPlace i)) (turnedPlace n) (turned-below n l) ∙ ap (λ (i : ℕ). ltb i 128 && p i) (turned-back n) ∙ rw (lt-ltb n 128 h)
       go false e =
           let x = ltb-false n 64 e in
           let z : 64 + (n - 64) ≡ n = omega arith in
-          in-number (λ i. ltb (64 + i) 128 && p (64 + i)) (n - 64) (omega arith) ∙ ap (λ (i : ℕ). ltb i 128 && p i) z ∙ rw (lt-ltb n 128 h)
+          in-number (λ i. ltb (64 + turnedPlace i) 128 && p (64 + turnedPlace i)) (turnedPlace (n - 64)) (turned-below (n - 64) (omega arith))
+          ∙ ap (λ (i : ℕ). ltb (64 + i) 128 && p (64 + i)) (turned-back (n - 64)) ∙ ap (λ (i : ℕ). ltb i 128 && p i) z ∙ rw (lt-ltb n 128 h)
 
 module _ (m : Meaning) where
   one-tlv : (l : ℕ) → groupTlv (groupBelow m 128 l) ≡ bytesOf (tlv 1122 (groupValue m l))
   unfolding groupBelow groupValue
   one-tlv l =
       tlv-is (m .set l) (standards (inGroup m l)) (users (inGroup m l))
-      ∙ ap (λ (v : List ℕ). bytesOf (tlv 1122 v)) (asla-same (inNumbers (standards (inGroup m l)) (users (inGroup m l))) (inGroup m l) (m .set l) (members-are (inGroup m l)))
+      ∙ ap (λ (v : List ℕ). bytesOf (tlv 1122 v)) (asla-same (inBoth (standards (inGroup m l)) (users (inGroup m l))) (inGroup m l) (m .set l) (members-are (inGroup m l)))
 
   pub groups-are : each groupTlv (groupsBelow m 128) ≡ each bytesOf (map (tlv 1122) (map (groupValue m) (leaders m)))
   unfolding groupsBelow leaders others

@@ -10,9 +10,10 @@ use Rattle.linkstate.specs.Kinds.{applicationCodes}
 use Rattle.linkstate.specs.Meaning.{Meaning, row}
 use Rattle.linkstate.specs.Export.{tlv, bytesOf, aslaValue, inGroup}
 use Rattle.kinds.specs.Rules.{rowIn}
-use Rattle.asla_bytes.specs.Applications.{inNumbers}
+use Rattle.masks.specs.Sets.{turnedPlace}
+use Rattle.naming.specs.Names.{inBoth}
 
--- The values of the set that its members share, kinds ascending, and its members as two numbers, of standard and of user applications.
+-- The values of the set that its members share, kinds ascending, and its members as two masks that are sent, of standard and of user applications.
 pub record Group : Type 0 where
   pub values : List (List ℕ)
   pub standard : ℕ
@@ -23,7 +24,7 @@ group vs s u = record { values = vs; standard = s; users = u }
 
 -- A group with a member more.
 unfoldable pub added : ℕ → Group → Group
-added n g = group (g .values) (asNumber (λ k. inNumber (g .standard) k || eqb k n)) (asNumber (λ k. inNumber (g .users) k || eqb (user k) n))
+added n g = group (g .values) (asNumber (λ k. inNumber (g .standard) k || eqb (turnedPlace k) n)) (asNumber (λ k. inNumber (g .users) k || eqb (user (turnedPlace k)) n))
 
 -- L3. Application n, whose set has these values, joins the first group with the same values, or makes one of its own behind the others.
 unfoldable pub join : ℕ → List (List ℕ) → List Group → List Group
@@ -36,11 +37,12 @@ valueIn vs c = getD vs (rowIn applicationCodes c) []
 
 -- L3. The ASLA TLV of a group.
 unfoldable pub groupTlv : Group → List ℕ
-groupTlv g = bytesOf (tlv 1122 (aslaValue (inNumbers (g .standard) (g .users)) (valueIn (g .values))))
+groupTlv g = bytesOf (tlv 1122 (aslaValue (inBoth (g .standard) (g .users)) (valueIn (g .values))))
 
 -- L3, L7. The group that l leads, of its members below k, and the groups of all leaders below k.
 unfoldable pub groupBelow : Meaning → ℕ → ℕ → Group
-groupBelow m k l = group (row (m .set l)) (asNumber (λ i. ltb i k && inGroup m l i)) (asNumber (λ i. ltb (user i) k && inGroup m l (user i)))
+groupBelow m k l =
+    group (row (m .set l)) (asNumber (λ i. ltb (turnedPlace i) k && inGroup m l (turnedPlace i))) (asNumber (λ i. ltb (user (turnedPlace i)) k && inGroup m l (user (turnedPlace i))))
 
 unfoldable pub groupsBelow : Meaning → ℕ → List Group
 groupsBelow m k = map (groupBelow m k) (keep (λ a. inGroup m a a) (numbers 1 (k - 1)))

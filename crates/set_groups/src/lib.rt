@@ -1,147 +1,225 @@
-// The groups of applications with equal sets, in a table that applications join one by one (document 01, "BGP-LS bytes").
+// The groups of applications with equal sets, in a table that applications join one by one (document 01, "BGP-LS bytes"). Entries of one bucket are chained, and only they are compared.
 ghost use mathlib.Core.Path.{_≡_};
-ghost use mathlib.Core.Bool.{true, _||_};
-ghost use mathlib.Core.List.{[]};
-ghost use Prim.Native.Nat.{ℕ, _+_, _≤_, _<_};
+ghost use mathlib.Core.Bool.{_||_};
+ghost use Prim.Native.Nat.{_+_, _≤_, _<_};
 ghost use lib.Dec.{eqb};
-ghost use lib.ListN.{length, getD};
-ghost use Rattle.linkstate.specs.Lists.{sameRows};
+ghost use lib.ListN.{length, replicate};
 ghost use Rattle.linkstate.specs.Masks.{user, asNumber, inNumber};
-ghost use Rattle.linkstate.specs.Meaning.{row};
-ghost use Rattle.srlg.specs.Ascending.{ascending};
-ghost use Rattle.srlg_ranks.specs.Ranks.{picked, Within};
-ghost use Rattle.set_bytes.specs.Sets.{setOf, Fits};
-ghost use Rattle.set_marks.specs.Marks.{markOf};
-ghost use Rattle.set_groups.specs.Groups as Definitions;
-ghost use Rattle.set_groups.specs.Table.{Sound, tableGroups, withMember, NextMarked, Finds, Joined};
+ghost use Rattle.masks.specs.Sets.{IsNext, turnedPlace};
+ghost use Rattle.naming.specs.Names.{inBoth};
+ghost use Rattle.grids.specs.Slots.{slotMark, IsSet, Slots};
+ghost use Rattle.set_groups.specs.Table.{word, slotIn, classIn, nextIn, bucketOf, bucketIn, Same, Tells, Latest, Entries, Chained, Finds, Joined, left, Placed, Filled};
+ghost use Rattle.set_groups.specs.Members.{withMember, inTurned};
 
-// The standard applications of a set, and n if it is one.
+// The slot, the class and the next entry that the third number of an entry says.
+pub fn slot_in(x: u64) -> usize
+    ensures { λ r. ⌜ (r ≡ slotIn x) × (r < 256) ⌝ }
+{
+    (x % 256) as usize
+}
+
+pub fn class_in(x: u64) -> usize
+    ensures { λ r. ⌜ (r ≡ classIn x) × (r < 256) ⌝ }
+{
+    (x / 256 % 256) as usize
+}
+
+fn next_in(x: u64) -> usize
+    ensures { λ r. ⌜ r ≡ nextIn x ⌝ }
+{
+    (x / 65536) as usize
+}
+
+// The bucket of a mark and a class.
+fn bucket_of(mark: u32, class: usize) -> usize
+    requires { ⌜ class < 256 ⌝ }
+    ensures { λ r. ⌜ (r ≡ bucketOf mark class) × (r < 128) ⌝ }
+{
+    ((mark ^ (mark / 65536) ^ (class as u32)) % 128) as usize
+}
+
+// A byte, to reckon with.
+fn wide(x: u8) -> usize
+    ensures { λ r. ⌜ (r ≡ x) × (r < 256) ⌝ }
+{
+    x as usize
+}
+
+// Whether the third number of an entry says the set of a slot and a class. Marks that differ rule it out.
+fn same_set(run: &[u8], sets: &[[u32; 12]], x: u64, s: usize, c: usize) -> bool
+    requires { ⌜ Slots (now run) (now sets) × IsSet (now sets) (slotIn x) × IsSet (now sets) s ⌝ }
+    ensures { λ r. ⌜ Tells (Same (now (run .entry)) (now (sets .entry)) x s c) r ⌝ }
+{
+    let t = slot_in(x);
+    if class_in(x) != c {
+        return false;
+    }
+    if sets[t][10] != sets[s][10] {
+        return false;
+    }
+    if grids::same_cells(sets, t, s) {
+        return true;
+    }
+    let g = grids::grid_of(sets, t);
+    let h = grids::grid_of(sets, s);
+    grids::same_grids(run, &g, &h)
+}
+
+// The entry with the set of a slot and a class, from the last of its bucket on; 0 where there is none.
+fn find(
+    run: &[u8],
+    sets: &[[u32; 12]],
+    groups: &[[u64; 3]],
+    count: usize,
+    first: usize,
+    s: usize,
+    c: usize,
+) -> usize
+    requires { ⌜ Slots (now run) (now sets) × IsSet (now sets) s × Entries (now run) (now sets) (word (now groups)) count × (count ≤ length (now groups)) × Latest (bucketIn (now sets) (word (now groups))) (bucketOf (slotMark (now sets) s) c) count first ⌝ }
+    ensures { λ r. ⌜ Finds (now (run .entry)) (now (sets .entry)) (word (now (groups .entry))) count s c r ⌝ }
+{
+    let mut i = first;
+    while i != 0 {
+        let x = groups[i][2];
+        if same_set(run, sets, x, s, c) {
+            return i;
+        }
+        i = next_in(x);
+    }
+    0
+}
+
+// The standard mask of a group with application n, if it is a standard one.
 fn with_standard(m: u64, n: usize) -> u64
-    ensures { λ r. ⌜ r ≡ asNumber (λ k. inNumber m k || eqb k n) ⌝ }
+    requires { ⌜ n < 128 ⌝ }
+    ensures { λ r. ⌜ r ≡ asNumber (λ k. inNumber m k || eqb (turnedPlace k) n) ⌝ }
 {
     if n < 64 {
-        return m | (1 << n);
+        return m | (1 << masks::turned_place(n));
     }
     m
 }
 
-// The user applications of a set, and n if it is one.
+// The user mask of a group with application n, if it is a user one.
 fn with_user(m: u64, n: usize) -> u64
     requires { ⌜ n < 128 ⌝ }
-    ensures { λ r. ⌜ r ≡ asNumber (λ k. inNumber m k || eqb (user k) n) ⌝ }
+    ensures { λ r. ⌜ r ≡ asNumber (λ k. inNumber m k || eqb (user (turnedPlace k)) n) ⌝ }
 {
     if n < 64 {
         return m;
     }
-    m | (1 << (n - 64))
+    m | (1 << masks::turned_place(n - 64))
 }
 
-// A head with a member more.
-fn with_member(h: [u64; 4], n: usize) -> [u64; 4]
+// An entry with a member more.
+fn with_member(h: [u64; 3], n: usize) -> [u64; 3]
     requires { ⌜ n < 128 ⌝ }
     ensures { λ r. ⌜ r ≡ withMember h n ⌝ }
 {
     let standard = with_standard(h[0], n);
     let user = with_user(h[1], n);
-    let r = [standard, user, h[2], h[3]];
+    let r = [standard, user, h[2]];
     r
 }
 
-// Whether entry i has the set of a grid and bits.
-fn same_entry(
-    a: &[u8],
-    values: &[u32],
-    g: &[[usize; 2]; 10],
-    w: [u64; 12],
-    grids: &[[[usize; 2]; 10]],
-    bits: &[[u64; 12]],
-    i: usize,
-) -> bool
-    requires { ⌜ (ascending (now values) ≡ true) × (length (now values) ≤ 768) × Fits (now a) (now g) × Within (now values) w × (i < length (now grids)) × (i < length (now bits)) × Fits (now a) (getD (now grids) i []) × Within (now values) (getD (now bits) i []) ⌝ }
-    ensures { λ r. ⌜ r ≡ sameRows (row (setOf (now (a .entry)) (getD (now (grids .entry)) i []) (picked (now (values .entry)) (getD (now (bits .entry)) i [])))) (row (setOf (now (a .entry)) (now (g .entry)) (picked (now (values .entry)) w))) ⌝ }
-{
-    let h = &grids[i];
-    let x = bits[i];
-    set_equal::same_sets(a, h, g, x, w)
-}
-
-// The first entry from a place on that has a mark, or the number of entries. Two entries a turn.
-fn next_marked(heads: &[[u64; 4]], mark: u64, from: usize, count: usize) -> usize
-    requires { ⌜ (from ≤ count) × (count ≤ length (now heads)) ⌝ }
-    ensures { λ r. ⌜ NextMarked (now (heads .entry)) mark from count r ⌝ }
-{
-    let mut i = from;
-    while i + 1 < count {
-        if heads[i][3] == mark {
-            return i;
-        }
-        if heads[i + 1][3] == mark {
-            return i + 1;
-        }
-        i = i + 2;
-    }
-    if i < count {
-        if heads[i][3] == mark {
-            return i;
-        }
-    }
-    count
-}
-
-// The first entry with the set of a grid and bits, which has the mark; or the number of entries.
-fn find(
-    a: &[u8],
-    values: &[u32],
-    g: &[[usize; 2]; 10],
-    w: [u64; 12],
-    mark: u64,
+// Application n joins with the set of a slot and a class; how many entries there are then.
+fn join(
+    run: &[u8],
+    sets: &[[u32; 12]],
+    groups: &mut [[u64; 3]],
+    buckets: &mut [u8; 128],
     count: usize,
-    grids: &[[[usize; 2]; 10]],
-    bits: &[[u64; 12]],
-    heads: &[[u64; 4]],
-) -> usize
-    requires { ⌜ (ascending (now values) ≡ true) × (length (now values) ≤ 768) × Fits (now a) (now g) × Within (now values) w × (mark ≡ markOf (now a) (now values) (now g) w) × Sound (now a) (now values) count (now grids) (now bits) (now heads) ⌝ }
-    ensures { λ r. ⌜ Finds (now (a .entry)) (now (values .entry)) (row (setOf (now (a .entry)) (now (g .entry)) (picked (now (values .entry)) w))) count (now (grids .entry)) (now (bits .entry)) r ⌝ }
-{
-    let mut i = next_marked(heads, mark, 0, count);
-    while i < count {
-        if same_entry(a, values, g, w, grids, bits, i) {
-            return i;
-        }
-        i = next_marked(heads, mark, i + 1, count);
-    }
-    count
-}
-
-// Application n joins, with the set of a grid and bits; how many entries there are then.
-pub fn join(
-    a: &[u8],
-    values: &[u32],
     n: usize,
-    g: &[[usize; 2]; 10],
-    w: [u64; 12],
-    count: usize,
-    grids: &mut [[[usize; 2]; 10]],
-    bits: &mut [[u64; 12]],
-    heads: &mut [[u64; 4]],
+    s: usize,
+    c: usize,
 ) -> usize
-    requires { ⌜ (ascending (now values) ≡ true) × (length (now values) ≤ 768) × (n < 128) × Fits (now a) (now g) × Within (now values) w × (length (picked (now values) w) ≤ 512) × Sound (now a) (now values) count (now grids) (now bits) (now heads) × (count < length (now grids)) × (count < length (now bits)) × (count < length (now heads)) ⌝ }
-    ensures { λ r. ⌜ Joined (now (a .entry)) (now (values .entry)) n (row (setOf (now (a .entry)) (now (g .entry)) (picked (now (values .entry)) w))) count (now (grids .entry)) (now (bits .entry)) (now (heads .entry)) r (now (grids .exit)) (now (bits .exit)) (now (heads .exit)) ⌝ }
+    requires { ⌜ Slots (now run) (now sets) × IsSet (now sets) s × (s < 256) × (c < 256) × (n < 128) × Chained (now run) (now sets) (word (now groups)) (now buckets) count × (count < 128) × (count < length (now groups)) ⌝ }
+    ensures { λ r. ⌜ Joined (now (run .entry)) (now (sets .entry)) n s c (now (groups .entry)) count r (now (groups .exit)) (now (buckets .exit)) ⌝ }
 {
-    let mark = set_marks::mark_of(a, values, g, w);
-    let i = find(a, values, g, w, mark, count, grids, bits, heads);
-    if i < count {
-        let h = heads[i];
+    let b = bucket_of(sets[s][10], c);
+    let first = wide(buckets[b]);
+    let i = find(run, sets, groups, count, first, s, c);
+    if i != 0 {
+        let h = groups[i];
         let joined = with_member(h, n);
-        heads[i] = joined;
+        groups[i] = joined;
         return count;
     }
-    let srlgs = srlg_ranks::count_bits(w, values.len()) as u64;
-    let h = [0, 0, srlgs, mark];
+    let x = (s as u64) + 256 * (c as u64) + 65536 * (first as u64);
+    let h = [0, 0, x];
     let joined = with_member(h, n);
-    let rows = *g;
-    grids[count] = rows;
-    bits[count] = w;
-    heads[count] = joined;
+    groups[count] = joined;
+    buckets[b] = count as u8;
     count + 1
+}
+
+// The first application of two sets, standard and user, from `from` on, or 128.
+fn next_named(standard: u64, user: u64, from: usize) -> usize
+    requires { ⌜ from ≤ 128 ⌝ }
+    ensures { λ r. ⌜ IsNext 128 (inTurned standard user) from r ⌝ }
+{
+    if from < 64 {
+        let n = masks::next_bit(standard, from as u32);
+        if n < 64 {
+            return n as usize;
+        }
+        return 64 + masks::next_bit(user, 0) as usize;
+    }
+    64 + masks::next_bit(user, (from - 64) as u32) as usize
+}
+
+// All named applications but RSVP-TE join, ascending; how many entries there are then.
+fn join_all(
+    run: &[u8],
+    sets: &[[u32; 12]],
+    own: &[[u8; 2]; 128],
+    standard: u64,
+    user: u64,
+    groups: &mut [[u64; 3]],
+    buckets: &mut [u8; 128],
+) -> usize
+    requires { ⌜ Slots (now run) (now sets) × Placed (now sets) (now own) (inTurned standard user) × (1 + left (inTurned standard user) 1 ≤ length (now groups)) × (now buckets ≡ replicate 128 0) ⌝ }
+    ensures { λ r. ⌜ Filled (now (run .entry)) (now (sets .entry)) (now (own .entry)) (inTurned standard user) (now (groups .exit)) r ⌝ }
+{
+    let mut count = 1;
+    let mut n = next_named(standard, user, 1);
+    while n < 128 {
+        let j = masks::turned_place(n);
+        count = join(
+            run,
+            sets,
+            groups,
+            buckets,
+            count,
+            n,
+            wide(own[j][0]),
+            wide(own[j][1]),
+        );
+        n = next_named(standard, user, n + 1);
+    }
+    count
+}
+
+// The groups of the applications of two masks that are sent, RSVP-TE apart; how many entries the table has then, from 1 on.
+pub fn fill_groups(
+    run: &[u8],
+    sets: &[[u32; 12]],
+    own: &[[u8; 2]; 128],
+    standard: u64,
+    user: u64,
+    groups: &mut [[u64; 3]],
+) -> usize
+    requires { ⌜ Slots (now run) (now sets) × Placed (now sets) (now own) (inBoth standard user) × (1 + left (inBoth standard user) 1 ≤ length (now groups)) ⌝ }
+    ensures { λ r. ⌜ Filled (now (run .entry)) (now (sets .entry)) (now (own .entry)) (inBoth standard user) (now (groups .exit)) r ⌝ }
+{
+    let mut buckets = [0u8; 128];
+    join_all(
+        run,
+        sets,
+        own,
+        masks::turned(standard),
+        masks::turned(user),
+        groups,
+        &mut buckets,
+    )
 }

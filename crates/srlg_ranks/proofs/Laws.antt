@@ -135,22 +135,25 @@ unfolding picked
 picked-same values x y h =
     keep-same (inWords x) (inWords y) 0 0 values (λ j a. let e : 0 + j ≡ j = omega arith in rw e (h j a))
 
--- Bits that say which numbers of the list are members of xs stand for the different numbers of xs.
-pub picked-is : (values bits xs : List ℕ) → ascending values ≡ true → Among xs values → Says values bits xs → picked values bits ≡ distinct xs
-unfolding picked
-picked-is values bits xs a among so =
-    ascending-same (picked values bits) (distinct xs) (keep-ascending (inWords bits) 0 values a) (ascending-distinct xs) (λ n. go n (member n values) refl ∙ sym (member-distinct n xs))
+-- A test that says which numbers of the list are members of xs keeps the different numbers of xs; so do bits.
+pub keep-is : (p : ℕ → Bool) (values xs : List ℕ) → ascending values ≡ true → Among xs values → ((i : ℕ) → i < length values → p i ≡ member (getD values i 0) xs) → keepFrom p 0 values ≡ distinct xs
+keep-is p values xs a among so =
+    ascending-same (keepFrom p 0 values) (distinct xs) (keep-ascending p 0 values a) (ascending-distinct xs) (λ n. go n (member n values) refl ∙ sym (member-distinct n xs))
   where
     outside : (n : ℕ) → member n values ≡ false → (t : Bool) → member n xs ≡ t → false ≡ t
     outside n e true f = sym e ∙ among n f
     outside n e false f = refl
 
-    go : (n : ℕ) (t : Bool) → member n values ≡ t → member n (keepFrom (inWords bits) 0 values) ≡ member n xs
+    go : (n : ℕ) (t : Bool) → member n values ≡ t → member n (keepFrom p 0 values) ≡ member n xs
     go n true e =
         let (i, h, f) = member-place n values e in
         let g : 0 + i ≡ i = omega arith in
-        rw f at (keep-member (inWords bits) 0 values i a h ∙ ap (inWords bits) g ∙ so i h)
-    go n false e = keep-sub n (inWords bits) 0 values e ∙ outside n e (member n xs) refl
+        rw f at (keep-member p 0 values i a h ∙ ap p g ∙ so i h)
+    go n false e = keep-sub n p 0 values e ∙ outside n e (member n xs) refl
+
+pub picked-is : (values bits xs : List ℕ) → ascending values ≡ true → Among xs values → Says values bits xs → picked values bits ≡ distinct xs
+unfolding picked
+picked-is values bits xs a among so = keep-is (inWords bits) values xs a among so
 
 pub picked-distinct : (values bits xs ys : List ℕ) → values ≡ distinct ys → Among xs ys → Says values bits xs → picked values bits ≡ distinct xs
 picked-distinct values bits xs ys e among so =

@@ -2,4 +2,4 @@
 pub mod Members
 pub mod Laws
 pub mod Bits
-mod Steps
+pub mod Steps

@@ -76,7 +76,7 @@ pub fn join_bits(x: [u64; 12], y: [u64; 12]) -> [u64; 12]
 }
 
 // How many bits a word has.
-fn word_count(x: u64) -> usize
+pub fn word_count(x: u64) -> usize
     ensures { λ r. ⌜ (r ≤ 64) × ((l : List ℕ) → Inside l x → r ≡ length (keepFrom (inNumber x) 0 (take 64 l))) ⌝ }
 {
     u64::count_ones(x) as usize
@@ -127,7 +127,7 @@ pub fn write_picked(values: &[u32], bits: &[u64; 12], out: &mut [u8], at: usize)
 }
 
 // The bits in which two words differ.
-fn differing(x: u64, y: u64) -> u64
+pub fn differing(x: u64, y: u64) -> u64
     ensures { λ r. ⌜ (r ≡ 0 → x ≡ y) × (((j : ℕ) → j < 64 → inNumber x j ≡ inNumber y j) → r ≡ 0) ⌝ }
 {
     x ^ y

@@ -1,7 +1,10 @@
--- `asla_bytes::write_masks` meets its contract: two masks, one after the other. Assumes nothing.
-use Rattle.asla_bytes.proofs.Laws.{put-masks}
+-- `asla_bytes::write_masks` meets its contract: one mask, then the other. Assumes nothing.
 use denote.Ref.{now}
 use native.Mathlib.Omega.{arith}
+use Rattle.linkstate.specs.Masks.{mask}
+use Rattle.masks.specs.Sets.{inSent}
+use Rattle.tlv_bytes.proofs.Laws.{behind-write}
+use Rattle.asla_bytes.proofs.Laws.{mask-wrote, length-masks}
 use borrow.Author.Needs.{needs}
 use Rattle.asla_bytes.proofs.write_masks.Statement.{statement}
 use Rattle.asla_bytes.proofs.write_masks.Tie as tie
@@ -9,34 +12,20 @@ use Rattle.asla_bytes.proofs.write_masks.Tie as tie
 write-mask-requires : tie.Need-write-mask-requires
 write-mask-requires c κs = search needs
 
-add-write-mask : tie.Need-add-write-mask
-add-write-mask c = search needs
-
 write-mask-requires-2 : tie.Need-write-mask-requires-2
 write-mask-requires-2 c κs = search needs
-
-add-result : tie.Need-add-result
-add-result c = search needs
-
-add-result-2 : tie.Need-add-result-2
-add-result-2 c = search needs
 
 same-length : tie.Need-same-length
 same-length c = search needs
 
 returns : tie.Need-returns
-returns c = let p = c .before .before .before .before .before .before in
-    let a = p .before .before .before .args in
-    (omega arith, put-masks (a .standard) (a .user) (now (a .out)) (a .at) _ _ _ (p .write-mask .ensures .1) (c .before .before .write-mask2 .ensures .1) (p .write-mask .ensures .0) (omega arith))
+returns c =
+    let x = c .before .before .before .before .before .before in
+    let s = x .before .before .before in
+    let a = s .args in
+    let one = x .write-mask in
+    behind-write (now (a .out)) (a .at) (mask (inSent (a .standard))) (mask (inSent (a .user))) (omega (arith, length-masks (a .standard) (a .user), s .pre)) (one .kept .1 .0) (mask-wrote (a .standard) (now (a .out)) (a .at) (one .ensures)) (mask-wrote (a .user) _ _ (c .before .before .write-mask2 .ensures))
 
 pub write-masks-spec : {M : Type 1} → statement M
 write-masks-spec =
-    tie.close
-    (tie.spec
-    write-mask-requires
-    add-write-mask
-    write-mask-requires-2
-    add-result
-    add-result-2
-    same-length
-    returns)
+    tie.close (tie.spec write-mask-requires write-mask-requires-2 same-length returns)

@@ -1,97 +1,95 @@
--- The invariant: what is left decides.
-use mathlib.Core.Path.{_≡_, refl, sym, _∙_}
+-- The invariant: what is left decides, and with whom was met names whom the run names.
+use mathlib.Core.Path.{_≡_, sym, _∙_}
 use Prim.Native.Nat.{_≤_, _+_, _-_}
 use native.Mathlib.Omega.{arith}
-use borrow.Author.Needs.{needs}
 use lib.ListN.{length}
-use denote.Ref.{now}
-use Rattle.linkstate.specs.Elements.{elements, faults}
+use borrow.Author.Needs.{needs}
 use Rattle.linkstate.specs.Replies.{runB}
-use Rattle.linkstate.proofs.WalkLaws.{left}
-use Rattle.isis.specs.RunB.{checkB}
-use Rattle.isis_check_a.specs.declared.Frame.the-variants.{Whole}
-use Rattle.isis_check_a.specs.Frames.{frameAt}
-use Rattle.isis_check_a.proofs.Laws.{frame-says, part-length, turn-end, turn-cut, turn-told-passed, turn-told-refused}
+use Rattle.naming.proofs.Laws.{checks-as}
+use Rattle.isis.specs.RunB.{checkB, srlgAdvertisements, sideB}
+use Rattle.isis_check_a.proofs.Naming.{Walked, walked-start, walked-cut, walked-end, walked-over, walked-on, walked-refused}
+use Rattle.isis_check_b.proofs.SrlgLaws.{tlv-checks, tlv-other, other-nobody}
 use Rattle.isis_check_b.proofs.check_b.Statement.{statement}
 use Rattle.isis_check_b.proofs.check_b.Tie as tie
 
 abbrev Inv-loop : tie.InvT-loop
-Inv-loop b at₀ at = (at ≤ length b) × (faults runB checkB (left 1 0 b at) ≡ faults runB checkB (elements 1 0 b))
+Inv-loop b names₀ at₀ names at = (at ≤ length b) × Walked runB checkB srlgAdvertisements b at names
 
 abbrev μ-loop : tie.MeasureT-loop
-μ-loop b at₀ at = length b - at
+μ-loop b names₀ at₀ names at = length b - at
+
+nobody-requires : tie.Need-nobody-requires Inv-loop μ-loop
+nobody-requires c κs = search needs
 
 loop-holds : tie.Need-loop-holds Inv-loop μ-loop
-loop-holds c = (omega arith, refl)
+loop-holds c = (omega arith, walked-start runB checkB srlgAdvertisements _ _ (c .nobody .ensures))
 
-frame-at-requires : tie.Need-frame-at-requires Inv-loop μ-loop
-frame-at-requires c κs = search needs
+add-loop : tie.Need-add-loop Inv-loop μ-loop
+add-loop c = search needs
 
-enum-told : tie.Need-enum-told Inv-loop μ-loop
-enum-told c = search needs
+add-n : tie.Need-add-n Inv-loop μ-loop
+add-n c = search needs
+
+shared-slice-read-n : tie.Need-shared-slice-read-n Inv-loop μ-loop
+shared-slice-read-n c = omega arith
+
+cast-n : tie.Need-cast-n Inv-loop μ-loop
+cast-n c = omega (arith, c .shared-slice-known2 .given (c .before .before .loop .at + 1))
+
+add-next : tie.Need-add-next Inv-loop μ-loop
+add-next c = search needs
+
+add-next-2 : tie.Need-add-next-2 Inv-loop μ-loop
+add-next-2 c = omega (arith, c .shared-slice-known2 .given (c .before .before .loop .at + 1))
+
+refuse-requires : tie.Need-refuse-requires Inv-loop μ-loop
+refuse-requires c κs = search needs
 
 returns : tie.Need-returns Inv-loop μ-loop
-returns c = let l = c .before .before .before in
-    turn-end runB checkB 0 _ _ (sym (c .before .before .frame-at .ensures) ∙ c .enum-told .given .1) ∙ l .loop .inv .1
+unfolding sideB
+returns c = λ d. let l = c .before .before .before .before in checks-as (walked-cut runB checkB srlgAdvertisements _ (l .loop .at) _ (l .loop .inv .1) (omega arith) (omega arith)) (c .refuse .ensures .0 _)
 
-enum-told-2 : tie.Need-enum-told-2 Inv-loop μ-loop
-enum-told-2 c = search needs
+shared-slice-read-if2 : tie.Need-shared-slice-read-if2 Inv-loop μ-loop
+shared-slice-read-if2 c = omega arith
 
-refused-requires : tie.Need-refused-requires Inv-loop μ-loop
-refused-requires c κs = search needs
-
-returns-2 : tie.Need-returns-2 Inv-loop μ-loop
-returns-2 c = let l = c .before .before .before .before in
-    c .refused .ensures ∙ turn-cut runB checkB 0 _ (l .loop .at) _ (omega arith) (sym (c .before .before .before .frame-at .ensures) ∙ c .before .enum-told2 .given .1) ∙ l .loop .inv .1
-
-enum-known-n : tie.Need-enum-known-n Inv-loop μ-loop
-enum-known-n c = search needs
-
--- the element is whole
-whole : (c : tie.After-known-told Inv-loop μ-loop) → let l = c .before .before .before .before in
-    (frameAt (now (l .before .before .args .b)) (l .loop .at) ≡ Whole (c .before .n .given .0 .0)) × (l .loop .at + 2 + c .before .n .given .0 .0 ≤ length (now (l .before .before .args .b)))
-whole c = let e = sym (c .before .before .before .frame-at .ensures) ∙ c .before .n .given .1 in (e, frame-says _ _ _ e .1)
-
-add-value : tie.Need-add-value Inv-loop μ-loop
-add-value c = omega (arith, whole c .1)
-
-add-end : tie.Need-add-end Inv-loop μ-loop
-add-end c = omega (arith, whole c .1)
-
-shared-slice-read-check-element : tie.Need-shared-slice-read-check-element Inv-loop μ-loop
-shared-slice-read-check-element c = omega (arith, whole (c .before) .1)
-
-sub-check-element : tie.Need-sub-check-element Inv-loop μ-loop
-sub-check-element c = search needs
-
-part-check-element-start : tie.Need-part-check-element-start Inv-loop μ-loop
-part-check-element-start c = search needs
-
-part-check-element-end : tie.Need-part-check-element-end Inv-loop μ-loop
-part-check-element-end c = omega (arith, whole (c .before) .1)
-
-check-element-requires : tie.Need-check-element-requires Inv-loop μ-loop
-check-element-requires c κs = let l = c .before .before .before .before .before .before in
-    let w = whole (c .before .before) in omega (arith, w .1, part-length (now (l .before .before .args .b)) (l .loop .at + 2) (c .before .before .before .n .given .0 .0) (w .1))
+check-tlv-requires : tie.Need-check-tlv-requires Inv-loop μ-loop
+check-tlv-requires c κs = (omega arith, omega arith, c .before .before .before .before .before .before .before .before .pre)
 
 enum-known-r : tie.Need-enum-known-r Inv-loop μ-loop
 enum-known-r c = search needs
 
-returns-3 : tie.Need-returns-3 Inv-loop μ-loop
-returns-3 c = let l = c .before .before .before .before .before .before .before .before .before .before in
-    turn-told-refused runB checkB 0 _ (l .loop .at) _ (omega arith) _ (whole (c .before .before .before .before .before .before) .0) _ (c .before .before .before .check-element .ensures) _ (c .before .r .given .1)
-    ∙ l .loop .inv .1
+returns-2 : tie.Need-returns-2 Inv-loop μ-loop
+unfolding sideB
+returns-2 c = λ d. let l = c .before .before .before .before .before .before .before .before .before in
+    walked-refused runB checkB srlgAdvertisements _ (l .loop .at) _ (l .loop .inv .1) (omega arith) _ (tlv-checks _ _ _ _ _ (omega arith) (c .before .before .before .check-tlv .ensures)) _ (c .before .r .given .1)
 
-enum-told-3 : tie.Need-enum-told-3 Inv-loop μ-loop
-enum-told-3 c = search needs
+enum-known-all : tie.Need-enum-known-all Inv-loop μ-loop
+enum-known-all c = search needs
 
 loop-less : tie.Need-loop-less Inv-loop μ-loop
-loop-less c = omega (arith, whole (c .before .before .before .before .before) .1)
+loop-less c = omega arith
 
 loop-again : tie.Need-loop-again Inv-loop μ-loop
 loop-again c = let l = c .before .before .before .before .before .before .before .before .before in
-    let w = whole (c .before .before .before .before .before) in
-    (w .1, turn-told-passed runB checkB 0 _ (l .loop .at) _ (omega arith) _ (w .0) _ (c .before .before .check-element .ensures) (c .enum-told3 .given .1) ∙ l .loop .inv .1)
+    (omega arith, walked-on runB checkB srlgAdvertisements _ (l .loop .at) _ (l .loop .inv .1) (omega arith) _ (tlv-checks _ _ _ _ _ (omega arith) (c .before .before .before .check-tlv .ensures)) _ (c .before .all .given .1))
+
+loop-less-2 : tie.Need-loop-less-2 Inv-loop μ-loop
+loop-less-2 c = omega arith
+
+loop-again-2 : tie.Need-loop-again-2 Inv-loop μ-loop
+loop-again-2 c = let l = c .before .before .before .before .before in
+    (omega arith, walked-over runB checkB srlgAdvertisements _ (l .loop .at) _ (l .loop .inv .1) (omega arith) (tlv-other _ _ _ (λ e. omega (arith, e))) (other-nobody _ _ _ (λ e. omega (arith, e))))
+
+refuse-requires-2 : tie.Need-refuse-requires-2 Inv-loop μ-loop
+refuse-requires-2 c κs = search needs
+
+returns-3 : tie.Need-returns-3 Inv-loop μ-loop
+unfolding sideB
+returns-3 c = λ d. let l = c .before .before .before in checks-as (walked-cut runB checkB srlgAdvertisements _ (l .loop .at) _ (l .loop .inv .1) (omega arith) (omega arith)) (c .refuse2 .ensures .0 _)
+
+returns-4 : tie.Need-returns-4 Inv-loop μ-loop
+unfolding sideB
+returns-4 c = λ d. let l = c .before .before in walked-end runB checkB srlgAdvertisements _ (l .loop .at) _ (l .loop .inv .1) (omega arith)
 
 pub check-b-spec : {M : Type 1} → statement M
 check-b-spec =
@@ -99,23 +97,25 @@ check-b-spec =
     (tie.spec
     Inv-loop
     μ-loop
+    nobody-requires
     loop-holds
-    frame-at-requires
-    enum-told
+    add-loop
+    add-n
+    shared-slice-read-n
+    cast-n
+    add-next
+    add-next-2
+    refuse-requires
     returns
-    enum-told-2
-    refused-requires
-    returns-2
-    enum-known-n
-    add-value
-    add-end
-    shared-slice-read-check-element
-    sub-check-element
-    part-check-element-start
-    part-check-element-end
-    check-element-requires
+    shared-slice-read-if2
+    check-tlv-requires
     enum-known-r
-    returns-3
-    enum-told-3
+    returns-2
+    enum-known-all
     loop-less
-    loop-again)
+    loop-again
+    loop-less-2
+    loop-again-2
+    refuse-requires-2
+    returns-3
+    returns-4)

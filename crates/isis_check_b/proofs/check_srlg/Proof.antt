@@ -1,37 +1,20 @@
--- Each way out is one of the definition's checks, in its order; v is what follows the neighbour bytes.
-use mathlib.Core.Bool.{false}
-use mathlib.Core.Path.{_≡_, sym, ap, _∙_}
-use Prim.Native.Nat.{ℕ, _+_, _<_}
+-- Each way out is one of the definition's checks, in its order.
+use mathlib.Core.Path.{sym, _∙_}
+use Prim.Native.Nat.{_+_}
 use native.Mathlib.Omega.{arith}
+use Rattle.isis_check_b.proofs.SrlgLaws.{ignored-srlg, past-srlg, masks-end-in, cut-srlg, within-srlg, parts-srlg}
 use borrow.Author.Needs.{needs}
-use lib.ListN.{length}
-use denote.Ref.{now}
-use Rattle.isis.specs.MaskHeader.{maskTooLong, headerLength}
-use Rattle.isis_check_a.proofs.Laws.{masks-say}
-use Rattle.isis_check_b.proofs.SrlgLaws.{behind, behind-length, behind-is, length-byte, srlg-short, srlg-ignored, srlg-no-list, srlg-past, srlg-parts}
 use Rattle.isis_check_b.proofs.check_srlg.Statement.{statement}
 use Rattle.isis_check_b.proofs.check_srlg.Tie as tie
 
-refused-requires : tie.Need-refused-requires
-refused-requires c κs = search needs
-
-returns : tie.Need-returns
-returns c = c .refused .ensures ∙ srlg-short _ _ _ (omega arith)
-
-sub-v : tie.Need-sub-v
-sub-v c = search needs
-
-part-v-start : tie.Need-part-v-start
-part-v-start c = search needs
-
-part-v-end : tie.Need-part-v-end
-part-v-end c = search needs
-
-read-header-requires : tie.Need-read-header-requires
-read-header-requires c κs = omega (arith, behind-length (now (c .before .before .before .args .value)))
+add-head : tie.Need-add-head
+add-head c = search needs
 
 sub-masks-within : tie.Need-sub-masks-within
-sub-masks-within c = omega (arith, behind-length (now (c .before .before .before .before .args .value)))
+sub-masks-within c = search needs
+
+sub-masks-within-2 : tie.Need-sub-masks-within-2
+sub-masks-within-2 c = search needs
 
 masks-within-requires : tie.Need-masks-within-requires
 masks-within-requires c κs = search needs
@@ -39,102 +22,77 @@ masks-within-requires c κs = search needs
 enum-told : tie.Need-enum-told
 enum-told c = search needs
 
-returns-2 : tie.Need-returns-2
-returns-2 c = let m = c .before .before in
-    srlg-ignored _ _ _ (omega arith) (masks-say _ _ _ (m .before .read-header .ensures .0) _ (sym (m .masks-within .ensures) ∙ c .enum-told .given .1)) ∙ behind-is _ _ (omega arith)
+returns : tie.Need-returns
+returns c = ignored-srlg _ _ _ (c .before .before .before .before .pre .1) (c .before .before .before .before .pre .0) _ (c .before .before .before .before .pre .3) (sym (c .before .before .masks-within .ensures) ∙ c .enum-told .given .1)
 
 enum-told-2 : tie.Need-enum-told-2
 enum-told-2 c = search needs
 
-refused-requires-2 : tie.Need-refused-requires-2
-refused-requires-2 c κs = search needs
+refuse-at-requires : tie.Need-refuse-at-requires
+refuse-at-requires c κs = search needs
 
-returns-3 : tie.Need-returns-3
-returns-3 c = let m = c .before .before .before in
-    let s = masks-say _ _ _ (m .before .read-header .ensures .0) _ (sym (m .masks-within .ensures) ∙ c .before .enum-told2 .given .1) in
-    c .refused2 .ensures ∙ srlg-no-list _ _ _ (omega arith) (s .0) (omega (arith, s .1)) ∙ behind-is _ _ (omega arith)
+returns-2 : tie.Need-returns-2
+returns-2 c = past-srlg _ _ _ (c .before .before .before .before .before .pre .1) (c .before .before .before .before .before .pre .0) _ (c .before .before .before .before .before .pre .3) (sym (c .before .before .before .masks-within .ensures) ∙ c .before .enum-told2 .given .1) _ (c .refuse-at .ensures)
 
-enum-known-length-byte : tie.Need-enum-known-length-byte
-enum-known-length-byte c = search needs
-
--- where the length byte of the identifier list stands
-framed : (c : tie.After-known-told) → let v = behind (now (c .before .before .before .before .before .before .before .before .args .value)) in
-    (maskTooLong v ≡ false) × (c .before .length-byte .given .0 .0 ≡ headerLength v) × (c .before .length-byte .given .0 .0 < length v)
-framed c = let m = c .before .before .before in
-    let s = masks-say _ _ _ (m .before .read-header .ensures .0) _ (sym (m .masks-within .ensures) ∙ c .before .length-byte .given .1) in
-    (s .0, s .1, omega (arith, s .2, behind-length (now (m .before .before .before .before .before .args .value))))
+enum-known-masks : tie.Need-enum-known-masks
+enum-known-masks c = search needs
 
 add-list : tie.Need-add-list
-add-list c = omega (arith, framed c .2)
+add-list c = omega (arith, masks-end-in _ _ _ (c .before .before .before .before .before .pre .1) (c .before .before .before .before .before .pre .0) _ (c .before .before .before .before .before .pre .3) _ (sym (c .before .before .before .masks-within .ensures) ∙ c .before .masks .given .1))
 
-shared-slice-read-n : tie.Need-shared-slice-read-n
-shared-slice-read-n c = omega (arith, framed (c .before) .2)
+add-list-2 : tie.Need-add-list-2
+add-list-2 c = omega (arith, masks-end-in _ _ _ (c .before .before .before .before .before .pre .1) (c .before .before .before .before .before .pre .0) _ (c .before .before .before .before .before .pre .3) _ (sym (c .before .before .before .masks-within .ensures) ∙ c .before .masks .given .1))
 
-cast-n : tie.Need-cast-n
-cast-n c = omega (arith, c .shared-slice-known2 .given (c .before .before .length-byte .given .0 .0))
+add-values : tie.Need-add-values
+add-values c = omega (arith, masks-end-in _ _ _ (c .before .before .before .before .before .pre .1) (c .before .before .before .before .before .pre .0) _ (c .before .before .before .before .before .pre .3) _ (sym (c .before .before .before .masks-within .ensures) ∙ c .before .masks .given .1))
 
-sub-if2 : tie.Need-sub-if2
-sub-if2 c = omega (arith, framed (c .before) .2)
+shared-slice-read-values : tie.Need-shared-slice-read-values
+shared-slice-read-values c = omega (arith, masks-end-in _ _ _ (c .before .before .before .before .before .before .pre .1) (c .before .before .before .before .before .before .pre .0) _ (c .before .before .before .before .before .before .pre .3) _ (sym (c .before .before .before .before .masks-within .ensures) ∙ c .before .before .masks .given .1))
 
-refused-requires-3 : tie.Need-refused-requires-3
-refused-requires-3 c κs = search needs
+cast-values : tie.Need-cast-values
+cast-values c = omega (arith, c .shared-slice-known2 .given (c .before .before .before .before .before .before .args .at + 9 + c .before .before .masks .given .0 .0))
 
-returns-4 : tie.Need-returns-4
-returns-4 c = let k = c .before .before .before in
-    let f = framed k in
-    c .refused3 .ensures
-    ∙ srlg-past _ _ _ (omega arith) (f .0) (omega (arith, f .1, f .2)) (omega (arith, f .1, length-byte (behind (now (k .before .before .before .before .before .before .before .before .args .value))) _ (f .1)))
-    ∙ behind-is _ _ (omega arith)
+add-values-2 : tie.Need-add-values-2
+add-values-2 c =
+    omega (arith, masks-end-in _ _ _ (c .before .before .before .before .before .before .pre .1) (c .before .before .before .before .before .before .pre .0) _ (c .before .before .before .before .before .before .pre .3) _ (sym (c .before .before .before .before .masks-within .ensures) ∙ c .before .before .masks .given .1), c .shared-slice-known2 .given (c .before .before .before .before .before .before .args .at + 9 + c .before .before .masks .given .0 .0))
 
-add-check-parts : tie.Need-add-check-parts
-add-check-parts c = omega (arith, framed (c .before .before) .2)
+refuse-at-requires-2 : tie.Need-refuse-at-requires-2
+refuse-at-requires-2 c κs = search needs
+
+returns-3 : tie.Need-returns-3
+returns-3 c = cut-srlg _ _ _ (c .before .before .before .before .before .before .before .before .pre .1) (c .before .before .before .before .before .before .before .before .pre .0) _ (c .before .before .before .before .before .before .before .before .pre .3) _ (sym (c .before .before .before .before .before .before .masks-within .ensures) ∙ c .before .before .before .before .masks .given .1) (omega arith) _ (c .refuse-at2 .ensures)
 
 check-parts-requires : tie.Need-check-parts-requires
-check-parts-requires c κs = let k = c .before .before in
-    let f = framed k in
-    let value = now (k .before .before .before .before .before .before .before .before .args .value) in
-    let at = k .before .length-byte .given .0 .0 in (
-      record {
-        header = k .before .before .before .before .read-header .ensures .0;
-        list = ap (λ (n : ℕ). n + 1) (f .1);
-        values = ap (λ (n : ℕ). at + 1 + n) (length-byte (behind value) _ (f .1));
-        fits = omega (arith, f .2);
-        small = omega (arith, c .before .shared-slice-known2 .given at);
-      },
-      omega (arith, behind-length value),
-    )
+check-parts-requires c κs = (
+  within-srlg _ _ _ (c .before .before .before .before .before .before .before .pre .1) (c .before .before .before .before .before .before .before .pre .0) _ (c .before .before .before .before .before .before .before .pre .3) _ (sym (c .before .before .before .before .before .masks-within .ensures) ∙ c .before .before .before .masks .given .1) (omega arith)
+      (omega (arith, c .before .shared-slice-known2 .given (c .before .before .before .before .before .before .before .args .at + 9 + c .before .before .before .masks .given .0 .0))),
+  c .before .before .before .before .before .before .before .pre .2,
+)
 
-returns-5 : tie.Need-returns-5
-returns-5 c = let k = c .before .before .before in
-    let f = framed k in
-    c .check-parts .ensures
-    ∙ srlg-parts _ _ _ (omega arith) (f .0) (omega (arith, f .1, f .2)) (omega (arith, f .1, f .2, length-byte (behind (now (k .before .before .before .before .before .before .before .before .args .value))) _ (f .1)))
-    ∙ behind-is _ _ (omega arith)
+returns-4 : tie.Need-returns-4
+returns-4 c = parts-srlg _ _ _ (c .before .before .before .before .before .before .before .before .pre .1) (c .before .before .before .before .before .before .before .before .pre .0) _ (c .before .before .before .before .before .before .before .before .pre .3) _ (sym (c .before .before .before .before .before .before .masks-within .ensures) ∙ c .before .before .before .before .masks .given .1) (omega arith) _ (c .check-parts .ensures)
 
 pub check-srlg-spec : {M : Type 1} → statement M
 check-srlg-spec =
     tie.close
     (tie.spec
-    refused-requires
-    returns
-    sub-v
-    part-v-start
-    part-v-end
-    read-header-requires
+    add-head
     sub-masks-within
+    sub-masks-within-2
     masks-within-requires
     enum-told
-    returns-2
+    returns
     enum-told-2
-    refused-requires-2
-    returns-3
-    enum-known-length-byte
+    refuse-at-requires
+    returns-2
+    enum-known-masks
     add-list
-    shared-slice-read-n
-    cast-n
-    sub-if2
-    refused-requires-3
-    returns-4
-    add-check-parts
+    add-list-2
+    add-values
+    shared-slice-read-values
+    cast-values
+    add-values-2
+    refuse-at-requires-2
+    returns-3
     check-parts-requires
-    returns-5)
+    returns-4)

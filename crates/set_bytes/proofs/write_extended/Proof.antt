@@ -1,98 +1,60 @@
 -- `set_bytes::write_extended` meets its contract: what is written so far are the TLVs of the kinds passed. Assumes nothing.
-use Rattle.set_bytes.proofs.Laws.{tlvs-none, no-write, same-write, next-none, next-room, next-some}
-use Rattle.set_bytes.specs.Sets.{inTlvs, setOf, extendedCodes}
-use Rattle.linkstate.specs.Lists.{put}
-use denote.Ref.{now}
+use Prim.Native.Nat.{_-_, _≤_}
+use mathlib.Core.Path.{_≡_, refl, _∙_}
 use lib.ListN.{length, take}
-use mathlib.Core.List.{[]}
-use mathlib.Core.Path.{_≡_, refl, sym, _∙_, ap}
-use Prim.Native.Nat.{ℕ, _+_, _-_, _≤_}
+use denote.Ref.{now}
 use native.Mathlib.Omega.{arith}
+use Rattle.tlv_bytes.specs.Tlvs.{inTlvs, Wrote}
+use Rattle.grids.specs.Grids.{gridValue}
+use Rattle.set_bytes.specs.Sets.{extendedCodes}
+use Rattle.set_bytes.proofs.Laws.{extended-code, extended-start, extended-room, extended-next, extended-end}
 use borrow.Author.Needs.{needs}
 use Rattle.set_bytes.proofs.write_extended.Statement.{statement}
 use Rattle.set_bytes.proofs.write_extended.Tie as tie
 
 abbrev Inv-loop : tie.InvT-loop
-Inv-loop a g out₀ at next₀ k₀ out next k = (k ≤ 7) × (length out ≡ length out₀) × ((next ≡ at + length (inTlvs (setOf a g []) (take k extendedCodes))) × (out ≡ put out₀ at (inTlvs (setOf a g []) (take k extendedCodes))))
+Inv-loop run g out₀ at next₀ c₀ out next c = (1114 ≤ c) × (c ≤ 1121) × (length out ≡ length out₀) × Wrote out₀ at (inTlvs (gridValue run g) (take (c - 1114) extendedCodes)) next out
 
 abbrev μ-loop : tie.MeasureT-loop
-μ-loop a g out₀ at next₀ k₀ out next k = 7 - k
+μ-loop run g out₀ at next₀ c₀ out next c = 1121 - c
 
 loop-holds : tie.Need-loop-holds Inv-loop μ-loop
-loop-holds c = let a = c .before .before .args in
-    (omega arith, refl, no-write (now (a .out)) (a .at) (tlvs-none (setOf (now (a .a)) (now (a .g)) [])))
+loop-holds c = let s = c .before .before in let a = s .args in (omega arith, omega arith, refl, extended-start (gridValue (now (a .run)) (now (a .g))) (now (a .out)) (a .at) (s .pre .1) 1114 refl)
 
-add-read-row : tie.Need-add-read-row Inv-loop μ-loop
-add-read-row c = search needs
+write-kind-requires : tie.Need-write-kind-requires Inv-loop μ-loop
+write-kind-requires c κs =
+    let s = c .before .before .before .before .before in
+    let a = s .args in
+    let l = c .before .before .loop in
+    (s .pre .0, extended-code (l .c) (l .inv .0) (omega arith), extended-room (gridValue (now (a .run)) (now (a .g))) (now (a .out)) (a .at) (s .pre .1) (l .c) (l .inv .0) (omega arith) (l .inv .2) (l .inv .3))
 
-mul-read-row : tie.Need-mul-read-row Inv-loop μ-loop
-mul-read-row c = search needs
-
-element-copy-out-read-row : tie.Need-element-copy-out-read-row Inv-loop μ-loop
-element-copy-out-read-row c = search needs
-
-read-row-requires : tie.Need-read-row-requires Inv-loop μ-loop
-read-row-requires c κs = search needs
-
-enum-known-place : tie.Need-enum-known-place Inv-loop μ-loop
-enum-known-place c = search needs
-
-enum-told : tie.Need-enum-told Inv-loop μ-loop
-enum-told c = search needs
-
-add-k : tie.Need-add-k Inv-loop μ-loop
-add-k c = search needs
+add-c : tie.Need-add-c Inv-loop μ-loop
+add-c c = search needs
 
 loop-less : tie.Need-loop-less Inv-loop μ-loop
 loop-less c = search needs
 
 loop-again : tie.Need-loop-again Inv-loop μ-loop
-loop-again c = let l = c .before .before .before .before .before in
-    let s = l .before .before .before in
-    let a = s .args in (
-      omega arith,
-      l .loop .inv .1,
-      next-none (now (a .a)) (now (a .g)) (l .loop .k) (omega arith) (s .pre .0 (2 + l .loop .k)) (now (a .out)) (a .at) (s .pre .1) (l .loop .inv .1) (l .loop .inv .2) (sym (c .before .before .read-row .ensures) ∙ c .enum-told .given .1),
-    )
-
-cast-write-row : tie.Need-cast-write-row Inv-loop μ-loop
-cast-write-row c = search needs
-
-add-write-row : tie.Need-add-write-row Inv-loop μ-loop
-add-write-row c = search needs
-
-write-row-requires : tie.Need-write-row-requires Inv-loop μ-loop
-write-row-requires c κs = let r = c .before .before .before .before in
-    let l = r .before .before .before in
-    let s = l .before .before .before in
+loop-again c =
+    let s = c .before .before .before .before .before .before .before .before in
     let a = s .args in
-    next-room (now (a .a)) (now (a .g)) (l .loop .k) (omega arith) (s .pre .0 (2 + l .loop .k)) (now (a .out)) (a .at) (s .pre .1) (l .loop .inv .1) (l .loop .inv .2) _ _ (sym (r .read-row .ensures) ∙ c .before .before .place .given .1)
-
-add-k-2 : tie.Need-add-k-2 Inv-loop μ-loop
-add-k-2 c = search needs
-
-loop-less-2 : tie.Need-loop-less-2 Inv-loop μ-loop
-loop-less-2 c = search needs
-
-loop-again-2 : tie.Need-loop-again-2 Inv-loop μ-loop
-loop-again-2 c = let w = c .before .before .write-row in
-    let r = c .before .before .before .before .before .before .before in
-    let l = r .before .before .before in
-    let s = l .before .before .before in
-    let a = s .args in (
+    let l = c .before .before .before .before .before .loop in
+    let w = c .before .before .write-kind in (
       omega arith,
-      w .kept .1 .1 .1 .1 .0 ∙ l .loop .inv .1,
-      next-some (now (a .a)) (now (a .g)) (l .loop .k) (omega arith) (s .pre .0 (2 + l .loop .k)) (now (a .out)) (a .at) (s .pre .1) (l .loop .inv .1) (l .loop .inv .2) _ _ (sym (r .read-row .ensures) ∙ c .before .before .before .before .before .place .given .1) (w .ensures),
+      omega arith,
+      w .kept .1 .1 .1 .0 ∙ l .inv .2,
+      extended-next (gridValue (now (a .run)) (now (a .g))) (now (a .out)) (a .at) (s .pre .1) (l .c) (l .inv .0) (omega arith) (l .inv .2) (l .inv .3) (w .ensures),
     )
 
 same-length : tie.Need-same-length Inv-loop μ-loop
-same-length c = c .before .loop .inv .1
+same-length c = c .before .loop .inv .2
 
 returns : tie.Need-returns Inv-loop μ-loop
-returns c = let l = c .before .loop in
-    let a = c .before .before .before .before .args in
-    let all : l .k ≡ 7 = omega arith in
-    same-write (ap (λ (k : ℕ). inTlvs (setOf (now (a .a)) (now (a .g)) []) (take k extendedCodes)) all) (now (a .out)) (a .at) (l .inv .2)
+returns c =
+    let s = c .before .before .before .before in
+    let a = s .args in
+    let l = c .before .loop in
+    extended-end (gridValue (now (a .run)) (now (a .g))) (now (a .out)) (a .at) (s .pre .1) (l .c) (omega arith) (l .inv .1) (l .inv .3)
 
 pub write-extended-spec : {M : Type 1} → statement M
 write-extended-spec =
@@ -101,20 +63,9 @@ write-extended-spec =
     Inv-loop
     μ-loop
     loop-holds
-    add-read-row
-    mul-read-row
-    element-copy-out-read-row
-    read-row-requires
-    enum-known-place
-    enum-told
-    add-k
+    write-kind-requires
+    add-c
     loop-less
     loop-again
-    cast-write-row
-    add-write-row
-    write-row-requires
-    add-k-2
-    loop-less-2
-    loop-again-2
     same-length
     returns)

@@ -1,9 +1,9 @@
--- `set_groups::with_member` meets its contract.
-use Rattle.set_groups.specs.Table.{withMember}
-use lib.ListN.{getD}
+-- `set_groups::with_member` meets its contract. Assumes nothing.
 use Prim.Native.Nat.{ℕ}
-use mathlib.Core.List.{[], _∷_}
 use mathlib.Core.Path.{ap₂}
+use mathlib.Core.List.{[], _∷_}
+use lib.ListN.{getD}
+use Rattle.set_groups.specs.Members.{withMember}
 use borrow.Author.Needs.{needs}
 use Rattle.set_groups.proofs.with_member.Statement.{statement}
 use Rattle.set_groups.proofs.with_member.Tie as tie
@@ -23,13 +23,9 @@ with-user-requires c κs = search needs
 array-read-t9 : tie.Need-array-read-t9
 array-read-t9 c = search needs
 
-array-read-t16 : tie.Need-array-read-t16
-array-read-t16 c = search needs
-
 returns : tie.Need-returns
 unfolding withMember
-returns c = let a = c .before .before .args in
-    ap₂ (λ (s u : ℕ). s ∷ u ∷ getD (a .t1) 2 0 ∷ getD (a .t1) 3 0 ∷ []) (c .before .with-standard .ensures) (c .with-user .ensures)
+returns c = ap₂ (λ (s u : ℕ). s ∷ u ∷ getD (c .before .before .args .t1) 2 0 ∷ []) (c .before .with-standard .ensures) (c .with-user .ensures)
 
 pub with-member-spec : {M : Type 1} → statement M
 with-member-spec =
@@ -40,5 +36,4 @@ with-member-spec =
     array-read-with-user
     with-user-requires
     array-read-t9
-    array-read-t16
     returns)

@@ -1,0 +1,5 @@
+-- Laws that the crates above share.
+pub mod Codes
+pub mod Cells
+pub mod Heard
+pub mod Lists

@@ -1,0 +1,126 @@
+// The walk of an accepted run A: each value goes to the slots of those that get it, in the table of the link's sets (document 01, "Who gets what").
+ghost use mathlib.Core.List.{List, [], _∷_};
+ghost use Prim.Native.Nat.{ℕ, _≤_};
+ghost use lib.ListN.{length};
+ghost use Rattle.linkstate.specs.Lists.{each};
+ghost use Rattle.linkstate.specs.Elements.{elements};
+ghost use Rattle.isis.specs.RunA.{attributesOf};
+ghost use Rattle.set_table.specs.Tables.{Table, Within};
+ghost use Rattle.isis_index.specs.Index.{owning, Right, Listed, attributeAt, Took, TookFor, Ready, fromLegacy, heardByAll, heard};
+use kinds::Kind;
+
+// A legacy attribute, by its type.
+fn enter_legacy(a: &[u8], sets: &mut [[u32; 12]], t: u8, place: usize, n: usize)
+    requires { ⌜ Table (now a) (now sets) × (3 ≤ length (now sets)) × Right (now a) t place n ⌝ }
+    ensures { λ _. ⌜ ((v : List ℕ) → Took (now (a .entry)) (now (sets .entry)) (now (sets .exit)) fromLegacy (attributeAt t place n v ∷ [])) ⌝ }
+{
+    let rule = kinds::classify_type(t);
+    let kind = rule.kind;
+    match kind {
+        Kind::Link(k) => set_table::enter_link(sets, k, place, n),
+        Kind::Application(k) => set_table::enter_one(a, sets, 1, k, place, n),
+        Kind::Srlg => (),
+        Kind::Asla => (),
+        Kind::Unknown => (),
+    }
+}
+
+// An attribute of a general advertisement, by its type.
+fn enter_general(a: &[u8], sets: &mut [[u32; 12]], t: u8, place: usize, n: usize)
+    requires { ⌜ Table (now a) (now sets) × (3 ≤ length (now sets)) × Right (now a) t place n ⌝ }
+    ensures { λ _. ⌜ ((v : List ℕ) → Took (now (a .entry)) (now (sets .entry)) (now (sets .exit)) heardByAll (attributeAt t place n v ∷ [])) ⌝ }
+{
+    let rule = kinds::classify_type(t);
+    let kind = rule.kind;
+    match kind {
+        Kind::Link(k) => {
+            if k == 0 {
+                set_table::enter_link(sets, 3, place, n);
+            }
+        }
+        Kind::Application(k) => set_table::enter_one(a, sets, 0, k, place, n),
+        Kind::Srlg => (),
+        Kind::Asla => (),
+        Kind::Unknown => (),
+    }
+}
+
+// An attribute of an advertisement with two masks as sent, by its type.
+fn enter_for(
+    a: &[u8],
+    sets: &mut [[u32; 12]],
+    own: &[[u8; 2]; 128],
+    have: &mut [[u64; 2]; 10],
+    t: u8,
+    place: usize,
+    n: usize,
+    standard: u64,
+    user: u64,
+)
+    requires { ⌜ Ready (now a) (now own) (now sets) (now have) × Right (now a) t place n × Within standard user (owning (now own)) ⌝ }
+    ensures { λ _. ⌜ ((v : List ℕ) → TookFor (now (a .entry)) (now (own .entry)) (now (sets .entry)) (now (have .entry)) (now (sets .exit)) (now (have .exit)) (heard standard user) (attributeAt t place n v ∷ [])) ⌝ }
+{
+    let rule = kinds::classify_type(t);
+    let kind = rule.kind;
+    match kind {
+        Kind::Link(k) => {
+            if k == 0 {
+                return set_table::enter_link(sets, 3, place, n);
+            }
+            if (standard == 128) & (user == 0) {
+                set_table::enter_link(sets, 3 + k, place, n);
+            }
+        }
+        Kind::Application(k) => {
+            set_table::enter_named(a, sets, own, have, k, place, n, standard, user)
+        }
+        Kind::Srlg => (),
+        Kind::Asla => (),
+        Kind::Unknown => (),
+    }
+}
+
+// The list of a general advertisement, whose first byte is at an offset of run A.
+fn general_list(a: &[u8], list: &[u8], base: usize, sets: &mut [[u32; 12]])
+    requires { ⌜ Table (now a) (now sets) × (3 ≤ length (now sets)) × Listed (now a) (now list) base ⌝ }
+    ensures { λ _. ⌜ Took (now (a .entry)) (now (sets .entry)) (now (sets .exit)) heardByAll (each attributesOf (elements 1 base (now (list .entry)))) ⌝ }
+{
+    let mut at = 0;
+    while at < list.len() {
+        let n = list[at + 1] as usize;
+        enter_general(a, sets, list[at], base + at + 2, n);
+        at = at + 2 + n;
+    }
+}
+
+// The list of an advertisement with two masks as sent.
+fn named_list(
+    a: &[u8],
+    list: &[u8],
+    base: usize,
+    sets: &mut [[u32; 12]],
+    own: &[[u8; 2]; 128],
+    have: &mut [[u64; 2]; 10],
+    standard: u64,
+    user: u64,
+)
+    requires { ⌜ Ready (now a) (now own) (now sets) (now have) × Listed (now a) (now list) base × Within standard user (owning (now own)) ⌝ }
+    ensures { λ _. ⌜ TookFor (now (a .entry)) (now (own .entry)) (now (sets .entry)) (now (have .entry)) (now (sets .exit)) (now (have .exit)) (heard standard user) (each attributesOf (elements 1 base (now (list .entry)))) ⌝ }
+{
+    let mut at = 0;
+    while at < list.len() {
+        let n = list[at + 1] as usize;
+        enter_for(
+            a,
+            sets,
+            own,
+            have,
+            list[at],
+            base + at + 2,
+            n,
+            standard,
+            user,
+        );
+        at = at + 2 + n;
+    }
+}

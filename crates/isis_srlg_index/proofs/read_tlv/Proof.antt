@@ -1,0 +1,95 @@
+-- `isis_srlg_index::read_tlv` meets its contract: another type, with L, or not live, and it has no number. Assumes nothing.
+use Prim.Native.Nat.{_+_, _≤_}
+use mathlib.Core.Path.{_≡_, refl, sym, _∙_}
+use mathlib.Core.Bool.{true, false}
+use lib.ListN.{length}
+use denote.Ref.{now}
+use native.Mathlib.Omega.{arith}
+use borrow.Author.Tests.{not-true, not-false}
+use Rattle.isis.specs.RunB.{afterNeighbour, identifierBytes}
+use Rattle.isis.specs.MaskHeader.{headerLength, maskTooLong}
+use Rattle.isis_check_a.proofs.Laws.{header-l}
+use Rattle.isis_check_b.proofs.SrlgLaws.{behind}
+use Rattle.isis_tlvs_238.specs.Selected.{Listed}
+use Rattle.isis_tlvs_238.proofs.Tlvs.{other-words, after-is, behind-listed, live-within}
+use Rattle.isis_srlg_index.proofs.Said.{says-nothing, dead-words, unread-words, says-live}
+use borrow.Author.Needs.{needs}
+use Rattle.isis_srlg_index.proofs.read_tlv.Statement.{statement}
+use Rattle.isis_srlg_index.proofs.read_tlv.Tie as tie
+
+no-tlv-requires : tie.Need-no-tlv-requires
+no-tlv-requires c κs = search needs
+
+returns : tie.Need-returns
+returns c = λ at. says-nothing _ _ _ (other-words at _ _ (λ e. omega arith)) (c .no-tlv .ensures)
+
+-- a 238 that passed its checks, and where it is live its masks and identifiers lie within it
+whole : (c : tie.Else1) → (9 ≤ length (now (c .before .before .args .value))) × Listed (afterNeighbour (now (c .before .before .args .value)))
+whole c = c .before .before .pre (omega arith)
+
+short : (c : tie.Else3) → maskTooLong (behind (now (c .before .before .before .before .before .before .before .args .value))) ≡ false
+short c = live-within 0 _ (sym (c .before .live-srlg .ensures 0) ∙ not-false _ (c .if3 .left))
+
+within : (c : tie.Else3) → let v = behind (now (c .before .before .before .before .before .before .before .args .value)) in headerLength v + 1 + identifierBytes v ≤ length v
+within c = behind-listed _ (whole (c .before .before .before .before .before)) .listed (short c)
+
+sub-v : tie.Need-sub-v
+sub-v c = omega (arith, whole c .0)
+
+part-v-start : tie.Need-part-v-start
+part-v-start c = omega (arith, whole c .0)
+
+part-v-end : tie.Need-part-v-end
+part-v-end c = search needs
+
+read-header-requires : tie.Need-read-header-requires
+read-header-requires c κs = behind-listed _ (whole (c .before)) .fixed
+
+no-tlv-requires-2 : tie.Need-no-tlv-requires-2
+no-tlv-requires-2 c κs = search needs
+
+returns-2 : tie.Need-returns-2
+returns-2 c = 
+    let v = c .before .before .before .before in
+    λ at. says-nothing _ _ _ (unread-words at _ _ _ (omega arith) (after-is _ (whole v .0)) (sym (header-l _ _ (c .before .before .read-header .ensures .0)) ∙ c .before .if2 .taken)) (c .no-tlv2 .ensures)
+
+live-srlg-requires : tie.Need-live-srlg-requires
+live-srlg-requires c κs = search needs
+
+no-tlv-requires-3 : tie.Need-no-tlv-requires-3
+no-tlv-requires-3 c κs = search needs
+
+returns-3 : tie.Need-returns-3
+returns-3 c = 
+    let v = c .before .before .before .before .before .before in
+    λ at. says-nothing _ _ _ (dead-words at _ _ _ _ (omega arith) (after-is _ (whole v .0)) (c .before .before .live-srlg .ensures at) (not-true _ (c .before .if3 .taken))) (c .no-tlv3 .ensures)
+
+live-tlv-requires : tie.Need-live-tlv-requires
+live-tlv-requires c κs = 
+    let h = c .before .before .before .read-header .ensures in
+    (record { header = h .0; short = short c; inside = omega (arith, within c) }, h .1, h .2, within c)
+
+returns-4 : tie.Need-returns-4
+returns-4 c = 
+    let e = c .before in
+    let v = e .before .before .before .before .before in
+    let h = e .before .before .before .read-header .ensures .0 in
+    λ at. says-live at _ _ _ (omega arith) (after-is _ (whole v .0)) _ (e .before .live-srlg .ensures at) (not-false _ (e .if3 .left)) (sym (header-l _ _ h) ∙ e .before .before .if2 .left) _ (within e) (omega (arith, whole v .0)) (c .live-tlv .ensures)
+
+pub read-tlv-spec : {M : Type 1} → statement M
+read-tlv-spec =
+    tie.close
+    (tie.spec
+    no-tlv-requires
+    returns
+    sub-v
+    part-v-start
+    part-v-end
+    read-header-requires
+    no-tlv-requires-2
+    returns-2
+    live-srlg-requires
+    no-tlv-requires-3
+    returns-3
+    live-tlv-requires
+    returns-4)

@@ -1,0 +1,57 @@
+-- What one TLV of run B says of SRLGs, and the keys and sources that it adds.
+use mathlib.Core.Path.{_≡_}
+use mathlib.Core.Bool.{Bool, true, false, cond, _&&_}
+use lib.Dec.{eqb}
+use mathlib.Core.List.{List, [], map}
+use Prim.Native.Nat.{ℕ, _+_, _≤_, _<_}
+use lib.ListN.{length, getD, set, drop}
+use Rattle.linkstate.specs.Lists.{put}
+use Rattle.linkstate.specs.Bytes.{words}
+use Rattle.linkstate.specs.Elements.{Element}
+use Rattle.linkstate.specs.Sides.{names}
+use Rattle.isis.specs.MaskHeader.{sabmLength, udabmLength, headerLength, advertisement}
+use Rattle.isis.specs.RunB.{identifierBytes}
+use Rattle.naming.specs.Names.{inBoth}
+use Rattle.naming.specs.declared.Names.{Names}
+use Rattle.srlg_sources.specs.declared.Keys.{Keys}
+use Rattle.srlg_sources.specs.Sources.{Small, keyOf, sourceRow}
+use Rattle.srlg_blocks.specs.Blocks.{namedBy}
+use Rattle.isis_tlvs_238.specs.declared.Which.the-variants.{Naming, General}
+use Rattle.isis_tlvs_238.specs.Selected.{wordsIn}
+use Rattle.isis_srlg_index.specs.declared.Tlv.{Tlv}
+
+-- The least length of a TLV's value that is for some application and has a number: neighbour, mask lengths, a mask byte, the identifiers' length byte, the number.
+abbrev pub leastValue : ℕ
+leastValue = 15
+
+-- What is read of a TLV that has no number for anybody.
+abbrev pub noTlv : ℕ → Tlv
+noTlv n = record { general = false; standard = 0; user = 0; start = n }
+
+-- What is read of a live TLV 238 without L, by what follows its neighbour bytes.
+pub record Lives (v : List ℕ) (r : Tlv) : Type 0 where
+  pub named : (n : ℕ) → inBoth (r .standard) (r .user) n ≡ names n (advertisement v [])
+  pub general : r .general ≡ (eqb (sabmLength v) 0 && eqb (udabmLength v) 0)
+  pub start : r .start ≡ 7 + (headerLength v + 1 + identifierBytes v)
+
+-- What is read of a TLV with this value: its SRLG numbers are for those that its masks name, or are general ones, where it has no mask.
+pub record Says (e : Element) (value : List ℕ) (r : Tlv) : Type 0 where
+  pub naming : (n : ℕ) → wordsIn (Naming n) e ≡ cond (inBoth (r .standard) (r .user) n) (words (drop (r .start) value)) []
+  pub generals : wordsIn General e ≡ cond (r .general) (words (drop (r .start) value)) []
+  pub apart : r .general ≡ true → (n : ℕ) → inBoth (r .standard) (r .user) n ≡ false
+  pub within : r .start ≤ length value
+  pub head : r .start + 4 ≤ length value → r .general ≡ false → leastValue ≤ length value
+
+-- The keys and rows after a TLV: as they were, with general numbers more, or with a source more.
+pub data Adds (e : Element) (keys : List ℕ) (rows : List (List ℕ)) (k : Keys) (r : Keys) (keys′ : List ℕ) (rows′ : List (List ℕ)) : Type 0 where
+  nothing : ((n : ℕ) → wordsIn (Naming n) e ≡ []) → wordsIn General e ≡ [] → r ≡ k → keys′ ≡ keys → rows′ ≡ rows → Adds e keys rows k r keys′ rows′
+  generals : ((n : ℕ) → wordsIn (Naming n) e ≡ []) → Small (wordsIn General e) → r .count ≡ k .count + length (wordsIn General e) → r .sources ≡ k .sources
+      → keys′ ≡ put keys (k .count) (map (keyOf 1) (wordsIn General e)) → rows′ ≡ rows → Adds e keys rows k r keys′ rows′
+  source : (s u : ℕ) (ws : List ℕ) → 0 < length ws → Small ws → ((n : ℕ) → wordsIn (Naming n) e ≡ cond (inBoth s u n) ws []) → wordsIn General e ≡ []
+      → r .count ≡ k .count + length ws → r .sources ≡ k .sources + 1 → keys′ ≡ put keys (k .count) (map (keyOf (k .sources)) ws) → rows′ ≡ set rows (k .sources) (sourceRow s u)
+      → Adds e keys rows k r keys′ rows′
+
+-- Run C need not be read: nobody is named with L, and some source has a number for RSVP-TE.
+pub record Unused (who : Names) (rows : List (List ℕ)) (sources : ℕ) : Type 0 where
+  pub nobody : (n : ℕ) → inBoth (who .lstandard) (who .luser) n ≡ false
+  pub source : (j : ℕ) × (1 < j) × (j < sources) × (namedBy rows j 7 ≡ true)

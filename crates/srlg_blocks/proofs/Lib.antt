@@ -1,0 +1,3 @@
+pub mod Sizes
+mod Splits
+mod Refines

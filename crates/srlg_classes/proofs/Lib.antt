@@ -1,0 +1,5 @@
+mod Gives
+mod Assigns
+mod Numbers
+mod Siding
+pub mod Carrying

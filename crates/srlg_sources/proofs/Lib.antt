@@ -1,0 +1,4 @@
+pub mod Marks
+pub mod Joins
+pub mod Keying
+mod Rankings

@@ -1,0 +1,55 @@
+-- `srlg_sources::mark` meets its contract. Assumes nothing.
+use denote.Ref.{now}
+use Rattle.srlg_sources.proofs.Marks.{marked-is}
+use borrow.Author.Needs.{needs}
+use Rattle.srlg_sources.proofs.mark.Statement.{statement}
+use Rattle.srlg_sources.proofs.mark.Tie as tie
+
+mul-rows : tie.Need-mul-rows
+mul-rows c = search needs
+
+mul-rows-2 : tie.Need-mul-rows-2
+mul-rows-2 c = search needs
+
+index-1-rows : tie.Need-index-1-rows
+index-1-rows c = search needs
+
+index-2-rows : tie.Need-index-2-rows
+index-2-rows c = search needs
+
+shl-rows : tie.Need-shl-rows
+shl-rows c = search needs
+
+mul-rows-3 : tie.Need-mul-rows-3
+mul-rows-3 c = search needs
+
+mul-rows-4 : tie.Need-mul-rows-4
+mul-rows-4 c = search needs
+
+index-1-rows-2 : tie.Need-index-1-rows-2
+index-1-rows-2 c = search needs
+
+index-2-rows-2 : tie.Need-index-2-rows-2
+index-2-rows-2 c = search needs
+
+same-length : tie.Need-same-length
+same-length c = search needs
+
+returns : tie.Need-returns
+returns c = let s = c .before in marked-is (now (s .args .rows)) (s .args .source) (s .args .p) (s .pre .0) (s .pre .1)
+
+pub mark-spec : {M : Type 1} → statement M
+mark-spec =
+    tie.close
+    (tie.spec
+    mul-rows
+    mul-rows-2
+    index-1-rows
+    index-2-rows
+    shl-rows
+    mul-rows-3
+    mul-rows-4
+    index-1-rows-2
+    index-2-rows-2
+    same-length
+    returns)
