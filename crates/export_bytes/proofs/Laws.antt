@@ -172,57 +172,68 @@ module _ (f : ℕ → List ℕ) (from : ℕ) where
         each-one v = same-write (each-next i low) d at (behind-write d at (each f (numbers from (i - from))) (f i) room-here kept w v)
 
 -- An entry that was read.
-module _ (sets classes groups : List (List ℕ)) (ok : Entered sets classes groups) (i : ℕ) (h : i < length groups) (e : Asla) (is : e ≡ aslaOf (getD groups i [])) where
+module _ {sets classes groups : List (List ℕ)} (ok : Entered sets classes groups) (i : ℕ) (h : i < length groups) (e : Asla) (is : e ≡ aslaOf (getD groups i [])) where
   pub of-slot : IsSet sets (e .slot)
   of-slot = rw is (ok .slot i h)
 
   pub of-class : e .class < length classes
   of-class = rw is (ok .class i h)
 
-pub writable : (run : List ℕ) (sets : List (List ℕ)) (values : List ℕ) (rows classes : List (List ℕ)) (places d : List ℕ) (at s c : ℕ) → Tables run sets values rows classes → IsSet sets s → c < length classes
-    → length classes ≤ length places → Standing (numbersIn values rows classes) places d at → (g : List (List ℕ)) → g ≡ slotGrid sets s → Writable run g values rows classes places c d at
-writable run sets values rows classes places d at s c ok ofS ofC placed stand g is =
-    rw is (record { fits = ok .slots .fits s (ofS .inside); known = ok .known; inside = ofC; placed = omega arith; standing = stand })
+-- ---- places up to which tables are written
+
+module _ {run : List ℕ} {sets : List (List ℕ)} {values : List ℕ} {rows classes : List (List ℕ)} {places d : List ℕ} {at : ℕ} (was : Open run sets values rows classes places d at) where
+  abbrev known : ℕ → List ℕ
+  known = numbersIn values rows classes
+
+  -- A place behind it.
+  pub open-on : {places′ o : List ℕ} {r : ℕ} → length places′ ≡ length places → Standing known places′ o r → Open run sets values rows classes places′ o r
+  open-on still stand = record { tables = was .tables; placed = omega (arith, was .placed); standing = stand }
+
+  -- The set of a slot and a class can be written there.
+  pub writable : (s c : ℕ) → IsSet sets s → c < length classes → (g : List (List ℕ)) → g ≡ slotGrid sets s → Writable run g values rows classes places c d at
+  writable s c ofS ofC g is =
+      rw is (record { fits = was .tables .slots .fits s (ofS .inside); known = was .tables .known; inside = ofC; placed = omega (arith, was .placed); standing = was .standing })
 
 -- The TLV of an entry, as the code writes it.
-module _ (run : List ℕ) (sets : List (List ℕ)) (values : List ℕ) (rows classes groups : List (List ℕ)) {places d : List ℕ} {at : ℕ} (open : Open run sets values rows classes places d at) (entered : Entered sets classes groups)
-    (i : ℕ) (h : i < length groups) (room : at + length (entryTlv run sets (numbersIn values rows classes) groups i) ≤ length d) (e : Asla) (is : e ≡ aslaOf (getD groups i [])) where
-  abbrev numbers : ℕ → List ℕ
-  numbers = numbersIn values rows classes
+module _ {run : List ℕ} {sets : List (List ℕ)} {values : List ℕ} {rows classes groups : List (List ℕ)} {places d : List ℕ} {at : ℕ} (was : Open run sets values rows classes places d at)
+    (entered : Entered sets classes groups) (i : ℕ) (h : i < length groups) (room : at + length (entryTlv run sets (numbersIn values rows classes) groups i) ≤ length d)
+    (e : Asla) (is : e ≡ aslaOf (getD groups i [])) where
+  abbrev listed : ℕ → List ℕ
+  listed = numbersIn values rows classes
 
   ofS : IsSet sets (e .slot)
-  ofS = of-slot sets classes groups entered i h e is
+  ofS = of-slot entered i h e is
 
   ofC : e .class < length classes
-  ofC = of-class sets classes groups entered i h e is
+  ofC = of-class entered i h e is
 
   pub size-asks : (e .slot < length sets) × (e .class < length classes) × (countIn classes (e .class) ≤ mostNumbers)
-  size-asks = (ofS .inside, ofC, count-few run sets values rows classes (open .tables) (e .class) ofC)
+  size-asks = (ofS .inside, ofC, count-few run sets values rows classes (was .tables) (e .class) ofC)
 
-  tlv-is : aslaTlv run sets numbers e ≡ entryTlv run sets numbers groups i
-  tlv-is = ap (aslaTlv run sets numbers) is
+  tlv-is : aslaTlv run sets listed e ≡ entryTlv run sets listed groups i
+  tlv-is = ap (aslaTlv run sets listed) is
 
-  room-is : at + length (aslaTlv run sets numbers e) ≤ length d
+  room-is : at + length (aslaTlv run sets listed e) ≤ length d
   room-is = same-room tlv-is d at room
 
   module _ (size : ℕ) (es : size ≡ setSize sets classes (e .slot) (e .class)) where
     pub front-asks : (size < 65000) × (at + frontSize (e .standard) (e .user) ≤ length d)
-    front-asks = front-room run sets values rows classes (open .tables) e ofS ofC room-is (open .standing) size es
+    front-asks = front-room run sets values rows classes (was .tables) e ofS ofC room-is (was .standing) size es
 
     module _ {r : ℕ} {o : List ℕ} (kept : length o ≡ length d) (w : Wrote d at (aslaFront (e .standard) (e .user) size) r o) (g : List (List ℕ)) (eg : g ≡ slotGrid sets (e .slot)) where
       abbrev tlvs : List (List ℕ) → List ℕ
-      tlvs x = inTlvs (setOf run x (numbers (e .class))) applicationCodes
+      tlvs x = inTlvs (setOf run x (listed (e .class))) applicationCodes
 
       same-set : tlvs g ≡ tlvs (slotGrid sets (e .slot))
       same-set = ap tlvs eg
 
-      pub set-asks : Writable run g values rows classes places (e .class) o r × (r + length (tlvs g) ≤ length o)
-      set-asks = (
-        writable run sets values rows classes places o r (e .slot) (e .class) (open .tables) ofS ofC (open .placed) (set-stands run sets values rows classes (open .tables) e ofS ofC room-is (open .standing) size es kept w) g eg,
-        same-room same-set o r (set-room run sets values rows classes (open .tables) e ofS ofC room-is (open .standing) size es kept w),
-      )
+      behind : Open run sets values rows classes places o r
+      behind = open-on was refl (set-stands run sets values rows classes (was .tables) e ofS ofC room-is (was .standing) size es kept w)
 
-      pub entry-written : {t : ℕ} {places′ x : List ℕ} → Written numbers o r (tlvs g) t places′ x → Written numbers d at (entryTlv run sets numbers groups i) t places′ x
-      entry-written {t} {places′} {x} v =
-          let y = asla-written run sets values rows classes (open .tables) e ofS ofC room-is (open .standing) size es kept w {t} {places′} {x} (same-write same-set o r (v .0), v .1) in
+      pub set-asks : Writable run g values rows classes places (e .class) o r × (r + length (tlvs g) ≤ length o)
+      set-asks = (writable behind (e .slot) (e .class) ofS ofC g eg, same-room same-set o r (set-room run sets values rows classes (was .tables) e ofS ofC room-is (was .standing) size es kept w))
+
+      pub entry-written : {t : ℕ} {places′ x : List ℕ} → Written listed o r (tlvs g) t places′ x → Written listed d at (entryTlv run sets listed groups i) t places′ x
+      entry-written v =
+          let y = asla-written run sets values rows classes (was .tables) e ofS ofC room-is (was .standing) size es kept w (same-write same-set o r (v .0), v .1) in
           (same-write tlv-is d at (y .0), y .1)
