@@ -171,6 +171,9 @@ module _ (f : ℕ → List ℕ) (from : ℕ) where
         pub each-one : {t : ℕ} {x : List ℕ} → Wrote o r (f i) t x → Wrote d at (each f (numbers from (i + 1 - from))) t x
         each-one v = same-write (each-next i low) d at (behind-write d at (each f (numbers from (i - from))) (f i) room-here kept w v)
 
+    pub each-end : (i : ℕ) → i ≡ last → {o : List ℕ} {r : ℕ} → Wrote d at (each f (numbers from (i - from))) r o → Wrote d at (each f (numbers from (last - from))) r o
+    each-end i e w = same-write (ap (λ (k : ℕ). each f (numbers from (k - from))) e) d at w
+
 -- An entry that was read.
 module _ {sets classes groups : List (List ℕ)} (ok : Entered sets classes groups) (i : ℕ) (h : i < length groups) (e : Asla) (is : e ≡ aslaOf (getD groups i [])) where
   pub of-slot : IsSet sets (e .slot)
@@ -237,3 +240,39 @@ module _ {run : List ℕ} {sets : List (List ℕ)} {values : List ℕ} {rows cla
       entry-written v =
           let y = asla-written run sets values rows classes (was .tables) e ofS ofC room-is (was .standing) size es kept w (same-write same-set o r (v .0), v .1) in
           (same-write tlv-is d at (y .0), y .1)
+
+-- Entries in turn, as the code writes them: the TLVs of those before i stand there.
+pub record Passed (run : List ℕ) (sets : List (List ℕ)) (values : List ℕ) (rows classes groups : List (List ℕ)) (first : ℕ) (places d : List ℕ) (at i : ℕ) (places′ o : List ℕ) (r : ℕ) : Type 0 where
+  pub low : first ≤ i
+  pub high : i ≤ length groups
+  pub still : length places′ ≡ length places
+  pub kept : length o ≡ length d
+  pub written : Written (numbersIn values rows classes) d at (aslaTlvs run sets (numbersIn values rows classes) groups first (i - first)) r places′ o
+
+module _ {run : List ℕ} {sets : List (List ℕ)} {values : List ℕ} {rows classes groups : List (List ℕ)} {places d : List ℕ} {at : ℕ} (was : Open run sets values rows classes places d at)
+    (entered : Entered sets classes groups) {first : ℕ} (few : first ≤ 1) (room : at + length (aslaTlvs run sets (numbersIn values rows classes) groups first (length groups - first)) ≤ length d) where
+  abbrev tlvOf : ℕ → List ℕ
+  tlvOf = entryTlv run sets (numbersIn values rows classes) groups
+
+  abbrev To : ℕ → List ℕ → List ℕ → ℕ → Type 0
+  To = Passed run sets values rows classes groups first places d at
+
+  pub aslas-start : To first places d at
+  aslas-start = record { low = omega arith; high = omega (arith, entered .some); still = refl; kept = refl; written = (each-start tlvOf first d at (length groups) room, was .standing) }
+
+  module _ {i : ℕ} {places′ o : List ℕ} {r : ℕ} (so : To i places′ o r) where
+    module _ (h : i < length groups) where
+      pub asla-asks : Open run sets values rows classes places′ o r × Entered sets classes groups × (i < length groups) × (r + length (tlvOf i) ≤ length o)
+      asla-asks = (open-on was (so .still) (so .written .1), entered, h, each-room tlvOf first d at (length groups) room i (so .low) h (so .kept) (so .written .0))
+
+      pub aslas-next : {places″ x : List ℕ} {t : ℕ} → length places″ ≡ length places′ → length x ≡ length o → Written (numbersIn values rows classes) o r (tlvOf i) t places″ x → To (i + 1) places″ x t
+      aslas-next e k v = record {
+        low = omega (arith, so .low);
+        high = omega arith;
+        still = e ∙ so .still;
+        kept = k ∙ so .kept;
+        written = (each-one tlvOf first d at (length groups) room i (so .low) h (so .kept) (so .written .0) (v .0), v .1);
+      }
+
+    pub aslas-end : length groups ≤ i → Written (numbersIn values rows classes) d at (aslaTlvs run sets (numbersIn values rows classes) groups first (length groups - first)) r places′ o
+    aslas-end h = (each-end tlvOf first d at (length groups) room i (omega (arith, so .high)) (so .written .0), so .written .1)
