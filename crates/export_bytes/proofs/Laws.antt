@@ -1,12 +1,13 @@
 -- Laws of an export's bytes: an entry's TLV, entries in turn, what stands at the top, and the size of the whole. Assumes nothing.
 use Prim.Native.Nat.{ℕ, zero, suc, _+_, _-_, _*_, _≤_, _<_}
-use mathlib.Core.Path.{_≡_, refl, sym, _∙_, ap, ap₂}
+use mathlib.Core.Path.{_≡_, refl, sym, _∙_, ap, ap₂, subst}
 use mathlib.Core.Bool.{Bool, true, false}
 use mathlib.Core.List.{List, [], _∷_, _++_, append-nil, append-assoc}
 use native.Mathlib.Nat.{add-zero}
 use native.Mathlib.Numerals.{add-one}
 use native.Mathlib.Omega.{arith}
-use borrow.Author.Tests.{lt-ltb, le-ltb}
+use borrow.Author.Tests.{lt-ltb, le-ltb, ltb-true, ltb-false}
+use lib.Dec.{ltb}
 use lib.ListN.{length, getD, length-append}
 use Rattle.linkstate.specs.Lists.{numbers, each, put}
 use Rattle.linkstate.specs.Kinds.{linkCodes, applicationCodes}
@@ -18,14 +19,15 @@ use Rattle.naming.specs.Names.{inBoth}
 use Rattle.kinds.specs.Rules.{gridCodes}
 use Rattle.kinds.proofs.Computing.{computing}
 use Rattle.tlv_bytes.specs.Tlvs.{inTlvs, valueAt, Wrote}
-use Rattle.tlv_bytes.proofs.Laws.{tlvs-small, length-value, front-most, same-room, same-write, no-write, behind-room, behind-write, Three, length-three, first-room, second-room, third-room}
+use Rattle.tlv_bytes.proofs.Laws.{tlvs-small, length-value, front-most, same-room, same-write, no-write, behind-room, behind-write, Three, length-three, first-room, second-room, third-room, three-write}
 use Rattle.srlg_sources.specs.Classes.{mostNumbers}
 use Rattle.srlg_bytes.specs.Standing.{srlgTlv, srlgSize, countIn, numbersIn, Classes, Standing, Written}
 use Rattle.srlg_bytes.proofs.Laws.{length-srlgs, class-few, standing-on, size-bound}
 use Rattle.grids.specs.Grids.{gridValue, setOf, bandwidthOf, RowFits, Fits}
 use Rattle.grids.specs.Slots.{slotGrid, slotSize, linkRows, cell, cellRow, IsSet, Slots}
-use Rattle.set_bytes.specs.Sets.{lowCodes, highCodes, middleCodes, Writable}
-use Rattle.set_bytes.proofs.Laws.{set-length, low-is, high-is, top-length, bandwidths-are, link-at, link-kind, kind-size, maximum-code}
+use Rattle.grids.proofs.Laws.{slot-row}
+use Rattle.set_bytes.specs.Sets.{lowCodes, highCodes, middleCodes, Among, Writable}
+use Rattle.set_bytes.proofs.Laws.{set-length, low-is, high-is, top-length, bandwidths-are, link-at, link-kind, kind-size, first-code, last-code, second-stands}
 use Rattle.asla_bytes.specs.Fronts.{frontSize, aslaFront}
 use Rattle.asla_bytes.proofs.Laws.{length-front, asla-is}
 use Rattle.set_groups.specs.Table.{word, slotIn, classIn}
@@ -276,3 +278,58 @@ module _ {run : List ℕ} {sets : List (List ℕ)} {values : List ℕ} {rows cla
 
     pub aslas-end : length groups ≤ i → Written (numbersIn values rows classes) d at (aslaTlvs run sets (numbersIn values rows classes) groups first (length groups - first)) r places′ o
     aslas-end h = (each-end tlvOf first d at (length groups) room i (omega (arith, so .high)) (so .written .0), so .written .1)
+
+-- ---- what stands at the top
+
+link-beyond : (sets : List (List ℕ)) (j : ℕ) → getD (linkRows sets) (suc (suc (suc j))) [] ≡ []
+unfolding linkRows numbers
+link-beyond sets j = refl
+
+-- The rows of the link's bandwidths fit the run.
+pub link-rows : {run : List ℕ} {sets : List (List ℕ)} {values : List ℕ} {rows classes : List (List ℕ)} → Tables run sets values rows classes → Fits run (linkRows sets)
+link-rows {run} {sets} ok k = go (ltb k 3) refl
+  where
+    go : (b : Bool) → ltb k 3 ≡ b → RowFits run (getD (linkRows sets) k [])
+    go true e =
+        let h = ltb-true k 3 e in
+        subst (RowFits run) (slot-row sets 2 k (omega arith) ∙ sym (link-at run sets k h)) (ok .slots .fits 2 (ok .link) k)
+    go false e =
+        let h = ltb-false k 3 e in
+        let z : suc (suc (suc (k - 3))) ≡ k = omega arith in
+        subst (RowFits run) (sym (link-beyond sets (k - 3)) ∙ ap (λ (j : ℕ). getD (linkRows sets) j []) z) (record { within = omega arith; short = omega arith })
+
+module _ {run : List ℕ} {sets : List (List ℕ)} {values : List ℕ} {rows classes : List (List ℕ)} {places d : List ℕ} (was : Open run sets values rows classes places d 0)
+    {s c : ℕ} (ofS : IsSet sets s) (ofC : c < length classes) (g : List (List ℕ)) (eg : g ≡ slotGrid sets s) where
+  abbrev listedIn : ℕ → List ℕ
+  listedIn = numbersIn values rows classes
+
+  abbrev lowTlvs : List ℕ
+  lowTlvs = inTlvs (topSet run sets listedIn s c) lowCodes
+
+  pub fits-top : Fits run g
+  fits-top = rw eg (was .tables .slots .fits s (ofS .inside))
+
+  -- The first kind is written, then the bandwidths, then the kinds up to 1120.
+  module _ (room : length lowTlvs ≤ length d) where
+    three : Three lowTlvs (inTlvs (gridValue run g) (1088 ∷ [])) (inTlvs (bandwidthOf run (linkRows sets)) linkCodes) (inTlvs (setOf run g (listedIn c)) middleCodes)
+    three = rw eg (low-is run (slotGrid sets s) (listedIn c) (linkRows sets))
+
+    from-front : 0 + length lowTlvs ≤ length d
+    from-front = omega arith
+
+    pub first-asks : Fits run g × Among gridCodes 1088 × (0 + length (inTlvs (gridValue run g) (1088 ∷ [])) ≤ length d)
+    first-asks = (fits-top, first-code, first-room d 0 three from-front)
+
+    module _ {o : List ℕ} {r : ℕ} (kept : length o ≡ length d) (w : Wrote d 0 (inTlvs (gridValue run g) (1088 ∷ [])) r o) where
+      pub bandwidths-asks : Fits run (linkRows sets) × (2 < length sets) × (r + length (inTlvs (bandwidthOf run (linkRows sets)) linkCodes) ≤ length o)
+      bandwidths-asks = (link-rows (was .tables), was .tables .link, second-room d 0 three from-front kept w)
+
+      module _ {p : List ℕ} {q : ℕ} (still : length p ≡ length o) (v : Wrote o r (inTlvs (bandwidthOf run (linkRows sets)) linkCodes) q p) where
+        behind-both : Open run sets values rows classes places p q
+        behind-both = open-on was refl (standing-on listedIn (second-stands listedIn d 0 three from-front (was .standing) kept w) (inTlvs (bandwidthOf run (linkRows sets)) linkCodes) v (bandwidths-asks .2))
+
+        pub middle-asks : Writable run g values rows classes places c p q × (q + length (inTlvs (setOf run g (listedIn c)) middleCodes) ≤ length p)
+        middle-asks = (writable behind-both s c ofS ofC g eg, third-room d 0 three from-front kept w still v)
+
+        pub low-written : {t : ℕ} {places′ e : List ℕ} → Written listedIn p q (inTlvs (setOf run g (listedIn c)) middleCodes) t places′ e → Written listedIn d 0 lowTlvs t places′ e
+        low-written u = (three-write d 0 three from-front kept w still v (u .0), u .1)
