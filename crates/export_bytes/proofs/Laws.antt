@@ -333,3 +333,41 @@ module _ {run : List ℕ} {sets : List (List ℕ)} {values : List ℕ} {rows cla
 
         pub low-written : {t : ℕ} {places′ e : List ℕ} → Written listedIn p q (inTlvs (setOf run g (listedIn c)) middleCodes) t places′ e → Written listedIn d 0 lowTlvs t places′ e
         low-written u = (three-write d 0 three from-front kept w still v (u .0), u .1)
+
+-- ---- the whole: what comes before the ASLA TLVs, these, and the last kind
+
+module _ {run : List ℕ} {sets : List (List ℕ)} {values : List ℕ} {rows classes groups : List (List ℕ)} {places d : List ℕ} (was : Open run sets values rows classes places d 0)
+    (entered : Entered sets classes groups) {first : ℕ} (few : first ≤ 1) {s c : ℕ} (ofS : IsSet sets s) (ofC : c < length classes)
+    (room : length (wholeBytes run sets (numbersIn values rows classes) groups first s c) ≤ length d) (g : List (List ℕ)) (eg : g ≡ slotGrid sets s) where
+  abbrev srlgsIn : ℕ → List ℕ
+  srlgsIn = numbersIn values rows classes
+
+  abbrev whole : List ℕ
+  whole = wholeBytes run sets srlgsIn groups first s c
+
+  abbrev lows : List ℕ
+  lows = inTlvs (topSet run sets srlgsIn s c) lowCodes
+
+  abbrev aslas : List ℕ
+  aslas = aslaTlvs run sets srlgsIn groups first (length groups - first)
+
+  parts : Three whole lows aslas (inTlvs (gridValue run g) (1173 ∷ []))
+  unfolding wholeBytes
+  parts = rw eg (record { are = ap (λ (v : List ℕ). lows ++ aslas ++ v) (high-is run (slotGrid sets s) (srlgsIn c) (linkRows sets)) })
+
+  whole-room : 0 + length whole ≤ length d
+  whole-room = omega arith
+
+  pub low-asks : Open run sets values rows classes places d 0 × IsSet sets s × (c < length classes) × (g ≡ slotGrid sets s) × (length lows ≤ length d)
+  low-asks = (was, ofS, ofC, eg, omega (arith, first-room d 0 parts whole-room))
+
+  module _ {places′ o : List ℕ} {r : ℕ} (stay : length places′ ≡ length places) (kept : length o ≡ length d) (w : Written srlgsIn d 0 lows r places′ o) where
+    pub aslas-asks : Open run sets values rows classes places′ o r × Entered sets classes groups × (first ≤ 1) × (r + length aslas ≤ length o)
+    aslas-asks = (open-on was stay (w .1), entered, few, second-room d 0 parts whole-room kept (w .0))
+
+    module _ {places″ p : List ℕ} {q : ℕ} (still : length p ≡ length o) (v : Written srlgsIn o r aslas q places″ p) where
+      pub last-asks : Fits run g × Among gridCodes 1173 × (q + length (inTlvs (gridValue run g) (1173 ∷ [])) ≤ length p)
+      last-asks = (fits-top was ofS ofC g eg, last-code, third-room d 0 parts whole-room kept (w .0) still (v .0))
+
+      pub whole-written : {t : ℕ} {e : List ℕ} → Wrote p q (inTlvs (gridValue run g) (1173 ∷ [])) t e → (t ≡ length whole) × (e ≡ put d 0 whole)
+      whole-written u = let z = three-write d 0 parts whole-room kept (w .0) still (v .0) u in (omega (arith, z .0), z .1)
