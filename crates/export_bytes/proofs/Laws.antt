@@ -138,21 +138,24 @@ module _ (f : ℕ → List ℕ) (from : ℕ) where
   numbers-last zero k = rw (add-zero k)
   numbers-last (suc n) k = let e : k + suc n ≡ suc k + n = omega arith in rw (e, sym (numbers-last n (suc k)))
 
-  each-next : (i : ℕ) → from ≤ i → each f (numbers from (i - from)) ++ f i ≡ each f (numbers from (i + 1 - from))
+  pub each-last : (n : ℕ) → each f (numbers from (suc n)) ≡ each f (numbers from n) ++ f (from + n)
   unfolding each
+  each-last n =
+      ap (each f) (numbers-last n from) ∙ each-append f (numbers from n) ((from + n) ∷ []) ∙ ap (λ (v : List ℕ). each f (numbers from n) ++ v) (append-nil (f (from + n)))
+
+  each-next : (i : ℕ) → from ≤ i → each f (numbers from (i - from)) ++ f i ≡ each f (numbers from (i + 1 - from))
   each-next i h =
       let a : i + 1 - from ≡ suc (i - from) = omega arith in
       let b : from + (i - from) ≡ i = omega arith in
-      sym (ap (λ (k : ℕ). each f (numbers from k)) a ∙ ap (each f) (numbers-last (i - from) from) ∙ each-append f (numbers from (i - from)) ((from + (i - from)) ∷ [])
-      ∙ ap (λ (k : ℕ). each f (numbers from (i - from)) ++ (f k ++ [])) b ∙ ap (λ (v : List ℕ). each f (numbers from (i - from)) ++ v) (append-nil (f i)))
+      sym (ap (λ (k : ℕ). each f (numbers from k)) a ∙ each-last (i - from) ∙ ap (λ (k : ℕ). each f (numbers from (i - from)) ++ f k) b)
 
   -- Part of the entries are no longer than all.
   each-most : (n k : ℕ) → length (each f (numbers from n)) ≤ length (each f (numbers from (n + k)))
   each-most n zero = let e : n + 0 ≡ n = omega arith in omega (arith, ap (λ (j : ℕ). length (each f (numbers from j))) e)
   each-most n (suc k) =
       let e : n + suc k ≡ suc (n + k) = omega arith in
-      let g = ap (λ (j : ℕ). each f (numbers from j)) e ∙ ap (each f) (numbers-last (n + k) from) ∙ each-append f (numbers from (n + k)) ((from + (n + k)) ∷ []) in
-      omega (arith, each-most n k, ap length g, length-append (each f (numbers from (n + k))) (each f ((from + (n + k)) ∷ [])))
+      let g = ap (λ (j : ℕ). each f (numbers from j)) e ∙ each-last (n + k) in
+      omega (arith, each-most n k, ap length g, length-append (each f (numbers from (n + k))) (f (from + (n + k))))
 
   -- They are written from a place of a buffer on.
   module _ (d : List ℕ) (at last : ℕ) (room : at + length (each f (numbers from (last - from))) ≤ length d) where
@@ -185,6 +188,11 @@ module _ {sets classes groups : List (List ℕ)} (ok : Entered sets classes grou
   of-class = rw is (ok .class i h)
 
 -- ---- places up to which tables are written
+
+-- The front of a buffer, where no class has a place.
+pub open-front : {run : List ℕ} {sets : List (List ℕ)} {values : List ℕ} {rows classes : List (List ℕ)} {places : List ℕ} → Tables run sets values rows classes → length classes ≤ length places
+    → ((c : ℕ) → getD places c 0 ≡ 0) → (d : List ℕ) → Open run sets values rows classes places d 0
+open-front ok placed none d = record { tables = ok; placed = placed; standing = record { stands = λ c some. absurd (some (none c)) } }
 
 module _ {run : List ℕ} {sets : List (List ℕ)} {values : List ℕ} {rows classes : List (List ℕ)} {places d : List ℕ} {at : ℕ} (was : Open run sets values rows classes places d at) where
   abbrev known : ℕ → List ℕ
