@@ -1,7 +1,7 @@
 -- The bytes that are written from the tables of a meaning are its export, and what is then answered. Assumes nothing.
-use mathlib.Core.Path.{_≡_, refl, sym, _∙_, ap, ap₂}
+use mathlib.Core.Path.{_≡_, sym, _∙_, ap, ap₂}
 use mathlib.Core.Bool.{Bool, true, false, cond}
-use mathlib.Core.List.{List, [], _∷_, _++_, map, append-nil, append-assoc}
+use mathlib.Core.List.{List, [], _++_, map, append-nil}
 use Prim.Native.Nat.{ℕ, suc, _-_, _≤_, _<_}
 use native.Mathlib.Omega.{arith}
 use borrow.Author.Tests.{lt-ltb, le-ltb}
@@ -11,7 +11,7 @@ use Rattle.linkstate.specs.Lists.{all, each, numbers, empty, put}
 use Rattle.linkstate.specs.Kinds.{codes, applicationCodes}
 use Rattle.linkstate.specs.Meaning.{Meaning, row}
 use Rattle.linkstate.specs.Replies as R
-use Rattle.linkstate.specs.Replies.{accepted, runA, refusalAt, fault, faultOfCall, refusedIf, _then_, unless}
+use Rattle.linkstate.specs.Replies.{runA, refusalAt, fault, faultOfCall, refusedIf, _then_, unless}
 use Rattle.linkstate.specs.Questions.{write}
 use Rattle.linkstate.specs.Export.{tlv, bytesOf, present, topValue, aslaValue, generalValues, leaders, groupValue, aslaValues, tlvs, export}
 use Rattle.linkstate.proofs.ListLaws.{each-append, map-append}
@@ -75,7 +75,7 @@ module _ {m : Meaning} {run : List ℕ} {sets : List (List ℕ)} {values : List 
   general-empty : eqb generalSize 0 ≡ all empty (row (m .general))
   unfolding row
   general-empty =
-      ap (λ (k : ℕ). eqb k 0) (set-size run sets values rows classes ok _ _ (entered .slot 0 (entered .some)) (entered .class 0 (entered .some)))
+      ap (λ (k : ℕ). eqb k 0) (set-size ok _ _ (entered .slot 0 (entered .some)) (entered .class 0 (entered .some)))
       ∙ empty-is generalSet applicationCodes ∙ ap (all empty) (d .general)
 
   general-tlv : entryTlv run sets srlgs groups 0 ≡ bytesOf (tlv 1122 (aslaValue (λ n. false) (m .general)))

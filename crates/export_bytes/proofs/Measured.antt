@@ -1,6 +1,6 @@
 -- What is measured is the length of the bytes that are written. Assumes nothing.
 use Prim.Native.Nat.{ℕ, zero, suc, _+_, _-_, _≤_, _<_}
-use mathlib.Core.Path.{_≡_, refl, sym, _∙_, ap}
+use mathlib.Core.Path.{_≡_, refl, ap}
 use mathlib.Core.List.{List, [], _∷_, _++_}
 use native.Mathlib.Omega.{arith}
 use lib.ListN.{length, getD, length-append}
@@ -14,9 +14,10 @@ use Rattle.grids.specs.Grids.{bandwidthOf}
 use Rattle.grids.specs.Slots.{slotGrid, linkRows, cell, cellRow, IsSet}
 use Rattle.set_bytes.specs.Sets.{lowCodes, highCodes}
 use Rattle.set_bytes.proofs.Laws.{three-codes, link-kind, link-fits, kind-size, bandwidths-are, top-length}
-use Rattle.export_sizes.specs.Sizes.{aslaOf, setSize, rowSize, linkSize, sumFrom, entrySize, wholeSize, Measurable}
+use Rattle.export_sizes.specs.Sizes.{aslaOf, rowSize, linkSize, sumFrom, entrySize, wholeSize, Measurable}
 use Rattle.export_bytes.specs.Whole.{entryTlv, aslaTlvs, topSet, wholeBytes, Tables, Entered}
-use Rattle.export_bytes.proofs.Laws.{set-size, count-few, asla-length, each-last, link-rows}
+use Rattle.export_bytes.proofs.Laws.{set-size, count-few, asla-length, each-last}
+use Rattle.export_bytes.proofs.Parts.{link-rows}
 
 link-codes : (1089 ≡ getD linkCodes 0 0) × (1090 ≡ getD linkCodes 1 0) × (1091 ≡ getD linkCodes 2 0)
 unfolding computing
@@ -32,7 +33,7 @@ module _ {run : List ℕ} {sets : List (List ℕ)} {values : List ℕ} {rows cla
   pub measurable : Measurable sets classes groups
   measurable = record {
     link = ok .link;
-    few = count-few run sets values rows classes ok;
+    few = count-few ok;
     some = entered .some;
     most = entered .most;
     slot = λ i h. entered .slot i h .inside;
@@ -56,7 +57,7 @@ module _ {run : List ℕ} {sets : List (List ℕ)} {values : List ℕ} {rows cla
   aslas-length from (suc n) h =
       let f = entryTlv run sets srlgs groups in
       let l : from + n < length groups = omega arith in
-      let one = asla-length run sets values rows classes ok (aslaOf (getD groups (from + n) [])) (entered .slot (from + n) l) (entered .class (from + n) l) in
+      let one = asla-length ok (aslaOf (getD groups (from + n) [])) (entered .slot (from + n) l) (entered .class (from + n) l) in
       omega (arith, aslas-length from n (omega arith), one, ap length (each-last f from n), length-append (each f (numbers from n)) (f (from + n)))
 
   -- The whole, with RSVP-TE's set by slot and class.
@@ -68,5 +69,5 @@ module _ {run : List ℕ} {sets : List (List ℕ)} {values : List ℕ} {rows cla
         let aslas = aslaTlvs run sets srlgs groups first (length groups - first) in
         let high = inTlvs (topSet run sets srlgs s c) highCodes in
         let some = entered .some in
-        omega (arith, link-length, set-size run sets values rows classes ok s c ofS ofC, aslas-length first (length groups - first) (omega arith),
+        omega (arith, link-length, set-size ok s c ofS ofC, aslas-length first (length groups - first) (omega arith),
         top-length run (slotGrid sets s) (srlgs c) (linkRows sets), length-append (low ++ aslas) high, length-append low aslas)

@@ -12,14 +12,14 @@ set-size-requires c κs =
     let s = c .before .before .before .before .before in
     let a = s .args in
     let p = s .pre in
-    size-asks (p .0) (p .1) (a .i) (p .2) (p .3) _ (c .read-asla .ensures)
+    size-asks (p .0 .tables) (p .0) (p .1) (a .i) (p .2) (p .3) _ (c .read-asla .ensures)
 
 write-front-requires : tie.Need-write-front-requires
 write-front-requires c κs =
     let s = c .before .before .before .before .before .before .before in
     let a = s .args in
     let p = s .pre in
-    front-asks (p .0) (p .1) (a .i) (p .2) (p .3) _ (c .before .before .read-asla .ensures) _ (c .before .set-size .ensures .0)
+    front-asks (p .0 .tables) (p .0) (p .1) (a .i) (p .2) (p .3) _ (c .before .before .read-asla .ensures) _ (c .before .set-size .ensures .0)
 
 grid-of-requires : tie.Need-grid-of-requires
 grid-of-requires c κs =
@@ -27,7 +27,7 @@ grid-of-requires c κs =
     let s = x .before .before .before .before .before .before .before .before in
     let a = s .args in
     let p = s .pre in
-    size-asks (p .0) (p .1) (a .i) (p .2) (p .3) _ (x .before .before .before .read-asla .ensures) .0
+    size-asks (p .0 .tables) (p .0) (p .1) (a .i) (p .2) (p .3) _ (x .before .before .before .read-asla .ensures) .0
 
 write-set-requires : tie.Need-write-set-requires
 write-set-requires c κs =
@@ -36,7 +36,7 @@ write-set-requires c κs =
     let a = s .args in
     let p = s .pre in
     let f = x .write-front in
-    set-asks (p .0) (p .1) (a .i) (p .2) (p .3) _ (x .before .before .before .read-asla .ensures) _ (x .before .before .set-size .ensures .0) (f .kept .1 .1 .1 .0) (f .ensures) _ (c .before .before .before .grid-of .ensures)
+    set-asks (p .0 .tables) (p .0) (p .1) (a .i) (p .2) (p .3) _ (x .before .before .before .read-asla .ensures) _ (x .before .before .set-size .ensures .0) (f .kept .1 .1 .1 .0) (f .ensures) _ (c .before .before .before .grid-of .ensures)
 
 same-length : tie.Need-same-length
 same-length c = search needs
@@ -52,7 +52,7 @@ returns c =
     let a = s .args in
     let p = s .pre in
     let f = x .write-front in
-    entry-written (p .0) (p .1) (a .i) (p .2) (p .3) _ (x .before .before .before .read-asla .ensures) _ (x .before .before .set-size .ensures .0) (f .kept .1 .1 .1 .0) (f .ensures) _ (y .before .before .before .before .grid-of .ensures) (y .write-set .ensures)
+    entry-written (p .0 .tables) (p .0) (p .1) (a .i) (p .2) (p .3) _ (x .before .before .before .read-asla .ensures) _ (x .before .before .set-size .ensures .0) (f .kept .1 .1 .1 .0) (f .ensures) _ (y .before .before .before .before .grid-of .ensures) (y .write-set .ensures)
 
 pub write-asla-spec : {M : Type 1} → statement M
 write-asla-spec =

@@ -14,13 +14,13 @@ abbrev μ-loop : tie.MeasureT-loop
 μ-loop run sets values rows classes places₀ groups first out₀ at next₀ i₀ i-end places out next i = length groups - i
 
 loop-holds : tie.Need-loop-holds Inv-loop μ-loop
-loop-holds c = let p = c .before .before .before .before .pre in aslas-start (p .0) (p .1) (p .2) (p .3)
+loop-holds c = let p = c .before .before .before .before .pre in aslas-start (p .0 .tables) (p .0) (p .1) (p .2) (p .3)
 
 write-asla-requires : tie.Need-write-asla-requires Inv-loop μ-loop
 write-asla-requires c κs =
     let x = c .before .before .before in
     let p = x .before .before .before .before .before .pre in
-    asla-asks (p .0) (p .1) (p .2) (p .3) (x .loop .inv) (omega arith)
+    asla-asks (p .0 .tables) (p .0) (p .1) (p .2) (p .3) (x .loop .inv) (omega arith)
 
 add-i : tie.Need-add-i Inv-loop μ-loop
 add-i c = search needs
@@ -34,7 +34,7 @@ loop-again c =
     let x = y .before .before .before .before in
     let p = x .before .before .before .before .before .pre in
     let w = y .write-asla in
-    aslas-next (p .0) (p .1) (p .2) (p .3) (x .loop .inv) (omega arith) (w .kept .1 .1 .1 .1 .1 .0) (w .kept .1 .1 .1 .1 .1 .1 .1 .1 .0) (w .ensures)
+    aslas-next (p .0 .tables) (p .0) (p .1) (p .2) (p .3) (x .loop .inv) (omega arith) (w .kept .1 .1 .1 .1 .1 .0) (w .kept .1 .1 .1 .1 .1 .1 .1 .1 .0) (w .ensures)
 
 same-length : tie.Need-same-length Inv-loop μ-loop
 same-length c = c .before .loop .inv .still
@@ -43,7 +43,7 @@ same-length-2 : tie.Need-same-length-2 Inv-loop μ-loop
 same-length-2 c = c .before .loop .inv .kept
 
 returns : tie.Need-returns Inv-loop μ-loop
-returns c = let x = c .before in let p = x .before .before .before .before .before .pre in aslas-end (p .0) (p .1) (p .2) (p .3) (x .loop .inv) (omega arith)
+returns c = let x = c .before in let p = x .before .before .before .before .before .pre in aslas-end (p .0 .tables) (p .0) (p .1) (p .2) (p .3) (x .loop .inv) (omega arith)
 
 pub write-aslas-spec : {M : Type 1} → statement M
 write-aslas-spec =
