@@ -82,7 +82,8 @@ module _ {m : Meaning} {run : List ℕ} {sets : List (List ℕ)} {values : List 
   unfolding aslaTlv
   general-tlv =
       let p = inBoth (getD (getD groups 0 []) 0 0) (getD (getD groups 0 []) 1 0) in
-      ap (λ (v : List ℕ). bytesOf (tlv 1122 v)) (asla-row p generalSet (m .general) (d .general) ∙ asla-same p (λ n. false) (m .general) (λ n h. nobody _ _ n (d .nobody .0) (d .nobody .1)))
+      ap (λ (v : List ℕ). bytesOf (tlv 1122 v)) (asla-row p generalSet (m .general) (d .general)
+      ∙ asla-same p (λ n. false) (m .general) (λ n h. nobody _ _ n (d .nobody .0) (d .nobody .1)))
 
   -- The entries behind it are the groups.
   named-are : aslaTlvs run sets srlgs groups 1 (length groups - 1) ≡ named
@@ -90,7 +91,8 @@ module _ {m : Meaning} {run : List ℕ} {sets : List (List ℕ)} {values : List 
   named-are =
       let ks = numbers 1 (length groups - 1) in
       let of : ℕ → Group = λ i. entryGroup run sets srlgs (getD groups i []) in
-      sym (each-map groupTlv of ks ∙ each-ext (λ i. groupTlv (of i)) (entryTlv run sets srlgs groups) ks (λ i. tlv-is (slotSet run sets srlgs (slotIn (word groups i)) (classIn (word groups i))) _ _))
+      sym (each-map groupTlv of ks ∙ each-ext (λ i. groupTlv (of i)) (entryTlv run sets srlgs groups) ks
+      (λ i. tlv-is (slotSet run sets srlgs (slotIn (word groups i)) (classIn (word groups i))) _ _))
       ∙ ap (each groupTlv) (d .members) ∙ groups-are m
 
   aslas-are : (first : ℕ) → first ≡ firstEntry sets classes groups → aslaTlvs run sets srlgs groups first (length groups - first) ≡ generals ++ named
@@ -101,7 +103,8 @@ module _ {m : Meaning} {run : List ℕ} {sets : List (List ℕ)} {values : List 
       go true e z = rw (z, sym e) named-are
       go false e z =
           let n : length groups - 0 ≡ suc (length groups - 1) = omega (arith, entered .some) in
-          rw (z, sym e, n) (ap₂ (λ (x y : List ℕ). x ++ y) (general-tlv ∙ sym (append-nil (bytesOf (tlv 1122 (aslaValue (λ k. false) (m .general)))))) named-are)
+          rw (z, sym e, n) (ap₂ (λ (x y : List ℕ). x ++ y) (general-tlv ∙ sym (append-nil (bytesOf (tlv 1122 (aslaValue (λ k. false) (m .general))))))
+          named-are)
 
 -- ---- the export
 
@@ -116,9 +119,11 @@ export-parts m =
     each-append bytesOf (low ++ map (tlv 1122) (gs ++ ls)) (present highCodes (topValue m))
     ∙ ap (λ (l : List ℕ). l ++ inTlvs (topValue m) highCodes)
     (each-append bytesOf low (map (tlv 1122) (gs ++ ls))
-    ∙ ap (λ (l : List ℕ). inTlvs (topValue m) lowCodes ++ l) (ap (each bytesOf) (map-append (tlv 1122) gs ls) ∙ each-append bytesOf (map (tlv 1122) gs) (map (tlv 1122) ls)))
+    ∙ ap (λ (l : List ℕ). inTlvs (topValue m) lowCodes ++ l) (ap (each bytesOf) (map-append (tlv 1122) gs ls)
+    ∙ each-append bytesOf (map (tlv 1122) gs) (map (tlv 1122) ls)))
 
-pub whole-export : {m : Meaning} {run : List ℕ} {sets : List (List ℕ)} {values : List ℕ} {rows classes groups : List (List ℕ)} → Tables run sets values rows classes → Entered sets classes groups
+pub whole-export : {m : Meaning} {run : List ℕ} {sets : List (List ℕ)} {values : List ℕ} {rows classes groups : List (List ℕ)}
+    → Tables run sets values rows classes → Entered sets classes groups
     → {s c : ℕ} → Describes m run sets (numbersIn values rows classes) groups s c → (first : ℕ) → first ≡ firstEntry sets classes groups
     → wholeBytes run sets (numbersIn values rows classes) groups first s c ≡ export m
 unfolding wholeBytes
@@ -135,11 +140,14 @@ module _ {result whole : List ℕ} (is : whole ≡ result) (buffer : List ℕ) (
   unfolding answered
   measured e = rw (e, size, is)
 
-  pub too-short : measuring ≡ false → (x : Refusal) → toldRefusal x ≡ refusalAt 5 runA 0 → length buffer < n → toldExported (Refused x) buffer ≡ answered measuring result buffer
+  pub too-short : measuring ≡ false → (x : Refusal) → toldRefusal x ≡ refusalAt 5 runA 0 → length buffer < n
+      → toldExported (Refused x) buffer ≡ answered measuring result buffer
   unfolding answered write unless _then_ refusedIf faultOfCall fault
   too-short e x f h =
-      rw (e, lt-ltb (length buffer) (length result) (omega (arith, ap length is))) (ap (λ (y : R.Refusal). record { reply = R.exportRefused y; buffer = buffer }) f)
+      rw (e, lt-ltb (length buffer) (length result) (omega (arith, ap length is)))
+      (ap (λ (y : R.Refusal). record { reply = R.exportRefused y; buffer = buffer }) f)
 
-  pub written : measuring ≡ false → n ≤ length buffer → {k : ℕ} {after : List ℕ} → k ≡ length whole → after ≡ put buffer 0 whole → toldExported (Bytes k) after ≡ answered measuring result buffer
+  pub written : measuring ≡ false → n ≤ length buffer → {k : ℕ} {after : List ℕ} → k ≡ length whole → after ≡ put buffer 0 whole
+      → toldExported (Bytes k) after ≡ answered measuring result buffer
   unfolding answered write unless _then_ refusedIf
   written e h f g = rw (e, le-ltb (length buffer) (length result) (omega (arith, ap length is)), f, g, is)

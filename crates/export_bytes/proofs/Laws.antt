@@ -48,7 +48,8 @@ module _ (f : ℕ → List ℕ) (from : ℕ) where
   pub each-last : (n : ℕ) → each f (numbers from (suc n)) ≡ each f (numbers from n) ++ f (from + n)
   unfolding each
   each-last n =
-      ap (each f) (numbers-last n from) ∙ each-append f (numbers from n) ((from + n) ∷ []) ∙ ap (λ (v : List ℕ). each f (numbers from n) ++ v) (append-nil (f (from + n)))
+      ap (each f) (numbers-last n from) ∙ each-append f (numbers from n) ((from + n) ∷ [])
+      ∙ ap (λ (v : List ℕ). each f (numbers from n) ++ v) (append-nil (f (from + n)))
 
   each-next : (i : ℕ) → from ≤ i → each f (numbers from (i - from)) ++ f i ≡ each f (numbers from (i + 1 - from))
   each-next i h =
@@ -83,7 +84,8 @@ module _ (f : ℕ → List ℕ) (from : ℕ) where
         pub each-one : {t : ℕ} {x : List ℕ} → Wrote o r (f i) t x → Wrote d at (each f (numbers from (i + 1 - from))) t x
         each-one v = same-write (each-next i low) d at (behind-write d at (each f (numbers from (i - from))) (f i) room-here kept w v)
 
-    pub each-end : (i : ℕ) → i ≡ last → {o : List ℕ} {r : ℕ} → Wrote d at (each f (numbers from (i - from))) r o → Wrote d at (each f (numbers from (last - from))) r o
+    pub each-end : (i : ℕ) → i ≡ last → {o : List ℕ} {r : ℕ} → Wrote d at (each f (numbers from (i - from))) r o
+        → Wrote d at (each f (numbers from (last - from))) r o
     each-end i e w = same-write (ap (λ (k : ℕ). each f (numbers from (k - from))) e) d at w
 
 -- ---- entries
@@ -165,11 +167,13 @@ module _ {run : List ℕ} {sets : List (List ℕ)} {values : List ℕ} {rows cla
     -- The set of a slot and a class can be written there.
     pub writable : (s c : ℕ) → IsSet sets s → c < length classes → (g : List (List ℕ)) → g ≡ slotGrid sets s → Writable run g values rows classes places c d at
     writable s c ofS ofC g is =
-        rw is (record { fits = ok .slots .fits s (ofS .inside); known = ok .known; inside = ofC; placed = omega (arith, was .placed); standing = was .standing })
+        let placed = was .placed in
+        rw is (record { fits = ok .slots .fits s (ofS .inside); known = ok .known; inside = ofC; placed = omega arith; standing = was .standing })
 
   -- ---- an entry that was read: its front is written, then its set
 
-  module _ {groups : List (List ℕ)} {places d : List ℕ} {at : ℕ} (was : Opens places d at) (entered : Entered sets classes groups) (i : ℕ) (h : i < length groups)
+  module _ {groups : List (List ℕ)} {places d : List ℕ} {at : ℕ} (was : Opens places d at) (entered : Entered sets classes groups) (i : ℕ)
+      (h : i < length groups)
       (room : at + length (entryTlv run sets srlgs groups i) ≤ length d) (e : Asla) (is : e ≡ aslaOf (getD groups i [])) where
     ofS : IsSet sets (e .slot)
     ofS = rw is (entered .slot i h)
@@ -207,8 +211,10 @@ module _ {run : List ℕ} {sets : List (List ℕ)} {values : List ℕ} {rows cla
         pub set-asks : Writable run g values rows classes places (e .class) o r × (r + length (setTlvs g (e .class)) ≤ length o)
         set-asks = (writable behind (e .slot) (e .class) ofS ofC g eg, same-room same-set o r (behind-room d at (front e) (inner e) both-room kept front-wrote))
 
-        pub entry-written : {t : ℕ} {places′ x : List ℕ} → Written srlgs o r (setTlvs g (e .class)) t places′ x → Written srlgs d at (entryTlv run sets srlgs groups i) t places′ x
-        entry-written v = (same-write entry-parts d at (behind-write d at (front e) (inner e) both-room kept front-wrote (same-write same-set o r (v .0))), v .1)
+        pub entry-written : {t : ℕ} {places′ x : List ℕ} → Written srlgs o r (setTlvs g (e .class)) t places′ x
+            → Written srlgs d at (entryTlv run sets srlgs groups i) t places′ x
+        entry-written v =
+            (same-write entry-parts d at (behind-write d at (front e) (inner e) both-room kept front-wrote (same-write same-set o r (v .0))), v .1)
 
   -- ---- entries in turn
 
@@ -222,14 +228,17 @@ module _ {run : List ℕ} {sets : List (List ℕ)} {values : List ℕ} {rows cla
 
     pub aslas-start : To first places d at
     aslas-start =
-        record { low = omega arith; high = omega (arith, entered .some); still = refl; kept = refl; written = (each-start tlvOf first d at (length groups) room, was .standing) }
+        let some = entered .some in
+        record { low = omega arith; high = omega arith; still = refl; kept = refl; written = (each-start tlvOf first d at (length groups) room, was .standing) }
 
     module _ {i : ℕ} {places′ o : List ℕ} {r : ℕ} (so : To i places′ o r) where
       module _ (h : i < length groups) where
         pub asla-asks : Opens places′ o r × Entered sets classes groups × (i < length groups) × (r + length (tlvOf i) ≤ length o)
-        asla-asks = (open-on was (so .still) (so .written .1), entered, h, each-room tlvOf first d at (length groups) room i (so .low) h (so .kept) (so .written .0))
+        asla-asks =
+            (open-on was (so .still) (so .written .1), entered, h, each-room tlvOf first d at (length groups) room i (so .low) h (so .kept) (so .written .0))
 
-        pub aslas-next : {places″ x : List ℕ} {t : ℕ} → length places″ ≡ length places′ → length x ≡ length o → Written srlgs o r (tlvOf i) t places″ x → To (i + 1) places″ x t
+        pub aslas-next : {places″ x : List ℕ} {t : ℕ} → length places″ ≡ length places′ → length x ≡ length o → Written srlgs o r (tlvOf i) t places″ x
+            → To (i + 1) places″ x t
         aslas-next e k v = record {
           low = omega (arith, so .low);
           high = omega arith;

@@ -23,7 +23,8 @@ link-codes : (1089 ≡ getD linkCodes 0 0) × (1090 ≡ getD linkCodes 1 0) × (
 unfolding computing
 link-codes = (refl, refl, refl)
 
-module _ {run : List ℕ} {sets : List (List ℕ)} {values : List ℕ} {rows classes groups : List (List ℕ)} (ok : Tables run sets values rows classes) (entered : Entered sets classes groups) where
+module _ {run : List ℕ} {sets : List (List ℕ)} {values : List ℕ} {rows classes groups : List (List ℕ)} (ok : Tables run sets values rows classes)
+    (entered : Entered sets classes groups) where
   abbrev srlgs : ℕ → List ℕ
   srlgs = numbersIn values rows classes
 
@@ -44,12 +45,16 @@ module _ {run : List ℕ} {sets : List (List ℕ)} {values : List ℕ} {rows cla
   unfolding rowSize
   row-length k c h e =
       let l : k < length linkCodes = omega (arith, three-codes) in
-      kind-size run (cellRow (cell sets 2 k)) bandwidths c (link-kind run sets c k l e (cellRow (cell sets 2 k)) refl) (link-fits run sets k l (link-rows ok) (cellRow (cell sets 2 k)) refl)
+      kind-size run (cellRow (cell sets 2 k)) bandwidths c (link-kind run sets c k l e (cellRow (cell sets 2 k)) refl)
+      (link-fits run sets k l (link-rows ok) (cellRow (cell sets 2 k)) refl)
 
   link-length : linkSize sets 3 ≡ length (inTlvs bandwidths linkCodes)
   unfolding linkSize
   link-length =
-      omega (arith, length-three (bandwidths-are run (linkRows sets)), row-length 0 1089 (omega arith) (link-codes .0), row-length 1 1090 (omega arith) (link-codes .1), row-length 2 1091 (omega arith) (link-codes .2))
+      let a = row-length 0 1089 (omega arith) (link-codes .0) in
+      let b = row-length 1 1090 (omega arith) (link-codes .1) in
+      let c = row-length 2 1091 (omega arith) (link-codes .2) in
+      omega (arith, length-three (bandwidths-are run (linkRows sets)))
 
   aslas-length : (from n : ℕ) → from + n ≤ length groups → sumFrom (entrySize sets classes groups) from n ≡ length (aslaTlvs run sets srlgs groups from n)
   unfolding sumFrom each numbers
@@ -69,5 +74,12 @@ module _ {run : List ℕ} {sets : List (List ℕ)} {values : List ℕ} {rows cla
         let aslas = aslaTlvs run sets srlgs groups first (length groups - first) in
         let high = inTlvs (topSet run sets srlgs s c) highCodes in
         let some = entered .some in
-        omega (arith, link-length, set-size ok s c ofS ofC, aslas-length first (length groups - first) (omega arith),
-        top-length run (slotGrid sets s) (srlgs c) (linkRows sets), length-append (low ++ aslas) high, length-append low aslas)
+        omega (
+          arith,
+          link-length,
+          set-size ok s c ofS ofC,
+          aslas-length first (length groups - first) (omega arith),
+          top-length run (slotGrid sets s) (srlgs c) (linkRows sets),
+          length-append (low ++ aslas) high,
+          length-append low aslas,
+        )

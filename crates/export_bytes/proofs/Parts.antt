@@ -45,12 +45,15 @@ module _ {run : List ℕ} {sets : List (List ℕ)} {values : List ℕ} {rows cla
   link-rows k = go (ltb k 3) refl
     where
       go : (b : Bool) → ltb k 3 ≡ b → RowFits run (getD (linkRows sets) k [])
-      go true e = subst (RowFits run) (slot-row sets 2 k (omega (arith, ltb-true k 3 e)) ∙ sym (link-at run sets k (ltb-true k 3 e))) (ok .slots .fits 2 (ok .link) k)
+      go true e =
+          subst (RowFits run) (slot-row sets 2 k (omega (arith, ltb-true k 3 e)) ∙ sym (link-at run sets k (ltb-true k 3 e))) (ok .slots .fits 2 (ok .link) k)
       go false e =
           let z : suc (suc (suc (k - 3))) ≡ k = omega (arith, ltb-false k 3 e) in
-          subst (RowFits run) (sym (link-beyond sets (k - 3)) ∙ ap (λ (j : ℕ). getD (linkRows sets) j []) z) (record { within = omega arith; short = omega arith })
+          subst (RowFits run) (sym (link-beyond sets (k - 3)) ∙ ap (λ (j : ℕ). getD (linkRows sets) j []) z)
+          (record { within = omega arith; short = omega arith })
 
-  module _ {places d : List ℕ} (was : Opens places d 0) {s c : ℕ} (ofS : IsSet sets s) (ofC : c < length classes) (g : List (List ℕ)) (eg : g ≡ slotGrid sets s) where
+  module _ {places d : List ℕ} (was : Opens places d 0) {s c : ℕ} (ofS : IsSet sets s) (ofC : c < length classes) (g : List (List ℕ))
+      (eg : g ≡ slotGrid sets s) where
     abbrev low : List ℕ
     low = inTlvs (topSet run sets srlgs s c) lowCodes
 
@@ -88,7 +91,8 @@ module _ {run : List ℕ} {sets : List (List ℕ)} {values : List ℕ} {rows cla
 
     -- ---- these are written, then the ASLA TLVs, then the last kind
 
-    module _ {groups : List (List ℕ)} (entered : Entered sets classes groups) {first : ℕ} (few : first ≤ 1) (room : length (wholeBytes run sets srlgs groups first s c) ≤ length d) where
+    module _ {groups : List (List ℕ)} (entered : Entered sets classes groups) {first : ℕ} (few : first ≤ 1)
+        (room : length (wholeBytes run sets srlgs groups first s c) ≤ length d) where
       abbrev whole : List ℕ
       whole = wholeBytes run sets srlgs groups first s c
 

@@ -35,7 +35,8 @@ returns-2 c m d =
     let p = s .pre in
     let few = f .first-entry .ensures in
     let size = whole-length (p .0) (p .1) (few .1) (p .2) (p .3) (c .before .before .before .measure .ensures) in
-    too-short (whole-export (p .0) (p .1) d _ (few .0)) (now (a .out)) (a .measuring) _ size (c .before .before .if1 .left) (c .refuse-call .result) (c .refuse-call .ensures) (omega arith)
+    too-short (whole-export (p .0) (p .1) d _ (few .0)) (now (a .out)) (a .measuring) _ size (c .before .before .if1 .left) (c .refuse-call .result)
+    (c .refuse-call .ensures) (omega arith)
 
 write-whole-requires : tie.Need-write-whole-requires
 write-whole-requires c κs =
@@ -63,7 +64,8 @@ returns-3 c m d =
     let few = f .first-entry .ensures in
     let size = whole-length (p .0) (p .1) (few .1) (p .2) (p .3) (x .before .before .before .before .before .measure .ensures) in
     let w = x .write-whole .ensures in
-    written (whole-export (p .0) (p .1) d _ (few .0)) (now (a .out)) (a .measuring) _ size (x .before .before .before .before .if1 .left) (omega arith) (w .0) (w .1)
+    written (whole-export (p .0) (p .1) d _ (few .0)) (now (a .out)) (a .measuring) _ size (x .before .before .before .before .if1 .left) (omega arith) (w .0)
+    (w .1)
 
 pub export-sets-spec : {M : Type 1} → statement M
 export-sets-spec =

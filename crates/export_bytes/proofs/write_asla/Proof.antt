@@ -36,7 +36,8 @@ write-set-requires c κs =
     let a = s .args in
     let p = s .pre in
     let f = x .write-front in
-    set-asks (p .0 .tables) (p .0) (p .1) (a .i) (p .2) (p .3) _ (x .before .before .before .read-asla .ensures) _ (x .before .before .set-size .ensures .0) (f .kept .1 .1 .1 .0) (f .ensures) _ (c .before .before .before .grid-of .ensures)
+    set-asks (p .0 .tables) (p .0) (p .1) (a .i) (p .2) (p .3) _ (x .before .before .before .read-asla .ensures) _ (x .before .before .set-size .ensures .0)
+    (f .kept .1 .1 .1 .0) (f .ensures) _ (c .before .before .before .grid-of .ensures)
 
 same-length : tie.Need-same-length
 same-length c = search needs
@@ -52,7 +53,8 @@ returns c =
     let a = s .args in
     let p = s .pre in
     let f = x .write-front in
-    entry-written (p .0 .tables) (p .0) (p .1) (a .i) (p .2) (p .3) _ (x .before .before .before .read-asla .ensures) _ (x .before .before .set-size .ensures .0) (f .kept .1 .1 .1 .0) (f .ensures) _ (y .before .before .before .before .grid-of .ensures) (y .write-set .ensures)
+    entry-written (p .0 .tables) (p .0) (p .1) (a .i) (p .2) (p .3) _ (x .before .before .before .read-asla .ensures) _
+    (x .before .before .set-size .ensures .0) (f .kept .1 .1 .1 .0) (f .ensures) _ (y .before .before .before .before .grid-of .ensures) (y .write-set .ensures)
 
 pub write-asla-spec : {M : Type 1} → statement M
 write-asla-spec =

@@ -8,7 +8,8 @@ use Rattle.export_bytes.proofs.write_aslas.Statement.{statement}
 use Rattle.export_bytes.proofs.write_aslas.Tie as tie
 
 abbrev Inv-loop : tie.InvT-loop
-Inv-loop run sets values rows classes places₀ groups first out₀ at next₀ i₀ i-end places out next i = Passed run sets values rows classes groups first places₀ out₀ at i places out next
+Inv-loop run sets values rows classes places₀ groups first out₀ at next₀ i₀ i-end places out next i =
+    Passed run sets values rows classes groups first places₀ out₀ at i places out next
 
 abbrev μ-loop : tie.MeasureT-loop
 μ-loop run sets values rows classes places₀ groups first out₀ at next₀ i₀ i-end places out next i = length groups - i
@@ -34,7 +35,8 @@ loop-again c =
     let x = y .before .before .before .before in
     let p = x .before .before .before .before .before .pre in
     let w = y .write-asla in
-    aslas-next (p .0 .tables) (p .0) (p .1) (p .2) (p .3) (x .loop .inv) (omega arith) (w .kept .1 .1 .1 .1 .1 .0) (w .kept .1 .1 .1 .1 .1 .1 .1 .1 .0) (w .ensures)
+    aslas-next (p .0 .tables) (p .0) (p .1) (p .2) (p .3) (x .loop .inv) (omega arith) (w .kept .1 .1 .1 .1 .1 .0) (w .kept .1 .1 .1 .1 .1 .1 .1 .1 .0)
+    (w .ensures)
 
 same-length : tie.Need-same-length Inv-loop μ-loop
 same-length c = c .before .loop .inv .still
@@ -43,7 +45,8 @@ same-length-2 : tie.Need-same-length-2 Inv-loop μ-loop
 same-length-2 c = c .before .loop .inv .kept
 
 returns : tie.Need-returns Inv-loop μ-loop
-returns c = let x = c .before in let p = x .before .before .before .before .before .pre in aslas-end (p .0 .tables) (p .0) (p .1) (p .2) (p .3) (x .loop .inv) (omega arith)
+returns c =
+    let x = c .before in let p = x .before .before .before .before .before .pre in aslas-end (p .0 .tables) (p .0) (p .1) (p .2) (p .3) (x .loop .inv) (omega arith)
 
 pub write-aslas-spec : {M : Type 1} → statement M
 write-aslas-spec =

@@ -37,7 +37,8 @@ returns c =
     let p = x .before .before .before .before .before .before .pre in
     let one = x .write-kind in
     let two = y .write-bandwidths in
-    low-written (p .0 .tables) (p .0) (p .1) (p .2) _ (p .3) (p .4) (one .kept .1 .1 .1 .0) (one .ensures) (two .kept .1 .1 .0) (two .ensures) (z .write-middle .ensures)
+    low-written (p .0 .tables) (p .0) (p .1) (p .2) _ (p .3) (p .4) (one .kept .1 .1 .1 .0) (one .ensures) (two .kept .1 .1 .0) (two .ensures)
+    (z .write-middle .ensures)
 
 pub write-low-spec : {M : Type 1} → statement M
 write-low-spec =

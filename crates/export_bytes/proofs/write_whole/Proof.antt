@@ -19,7 +19,8 @@ write-aslas-requires c κs =
     let o = x .before .before .before .before in
     let p = o .before .before .before .before .before .pre in
     let one = x .write-low in
-    aslas-asks (p .0 .tables) (p .0) (p .3) (p .4) _ (o .grid-of .ensures) (p .1) (p .2) (p .5) (one .kept .1 .1 .1 .1 .1 .1 .0) (one .kept .1 .1 .1 .1 .1 .1 .1 .1 .0) (one .ensures)
+    aslas-asks (p .0 .tables) (p .0) (p .3) (p .4) _ (o .grid-of .ensures) (p .1) (p .2) (p .5) (one .kept .1 .1 .1 .1 .1 .1 .0)
+    (one .kept .1 .1 .1 .1 .1 .1 .1 .1 .0) (one .ensures)
 
 write-kind-requires : tie.Need-write-kind-requires
 write-kind-requires c κs =
@@ -29,7 +30,8 @@ write-kind-requires c κs =
     let p = o .before .before .before .before .before .pre in
     let one = x .write-low in
     let two = y .write-aslas in
-    last-asks (p .0 .tables) (p .0) (p .3) (p .4) _ (o .grid-of .ensures) (p .1) (p .2) (p .5) (one .kept .1 .1 .1 .1 .1 .1 .0) (one .kept .1 .1 .1 .1 .1 .1 .1 .1 .0) (one .ensures) (two .kept .1 .1 .1 .1 .1 .1 .1 .1 .0) (two .ensures)
+    last-asks (p .0 .tables) (p .0) (p .3) (p .4) _ (o .grid-of .ensures) (p .1) (p .2) (p .5) (one .kept .1 .1 .1 .1 .1 .1 .0)
+    (one .kept .1 .1 .1 .1 .1 .1 .1 .1 .0) (one .ensures) (two .kept .1 .1 .1 .1 .1 .1 .1 .1 .0) (two .ensures)
 
 same-length : tie.Need-same-length
 same-length c = search needs
@@ -46,7 +48,8 @@ returns c =
     let p = o .before .before .before .before .before .pre in
     let one = x .write-low in
     let two = y .write-aslas in
-    whole-written (p .0 .tables) (p .0) (p .3) (p .4) _ (o .grid-of .ensures) (p .1) (p .2) (p .5) (one .kept .1 .1 .1 .1 .1 .1 .0) (one .kept .1 .1 .1 .1 .1 .1 .1 .1 .0) (one .ensures) (two .kept .1 .1 .1 .1 .1 .1 .1 .1 .0) (two .ensures) (z .write-kind .ensures)
+    whole-written (p .0 .tables) (p .0) (p .3) (p .4) _ (o .grid-of .ensures) (p .1) (p .2) (p .5) (one .kept .1 .1 .1 .1 .1 .1 .0)
+    (one .kept .1 .1 .1 .1 .1 .1 .1 .1 .0) (one .ensures) (two .kept .1 .1 .1 .1 .1 .1 .1 .1 .0) (two .ensures) (z .write-kind .ensures)
 
 pub write-whole-spec : {M : Type 1} → statement M
 write-whole-spec =
