@@ -14,7 +14,7 @@ use Rattle.linkstate.specs.Export.{tlv, bytesOf, aslaValue}
 use Rattle.linkstate.proofs.MaskLaws.{length-mask}
 use Rattle.octets.proofs.Laws.{put-then}
 use Rattle.masks.specs.Sets.{inSent}
-use Rattle.masks.proofs.Laws.{size-same, size-le, mask-same}
+use Rattle.masks.proofs.Laws.{size-same, mask-same}
 use Rattle.tlv_bytes.specs.Tlvs.{inTlvs, Wrote}
 use Rattle.tlv_bytes.proofs.Laws.{tlvs-same, same-write, behind-room, behind-write}
 use Rattle.asla_bytes.specs.Fronts.{frontSize, aslaFront}
@@ -90,9 +90,6 @@ module _ (standard users : ℕ) where
 
       pub front-written : {r : ℕ} {o : List ℕ} → Wrote e (at + 8) masks r o → Wrote d at (aslaFront standard users size) r o
       front-written w = same-write front-is d at (behind-write d at head masks whole-room kept head-wrote w)
-
-  pub front-small : frontSize standard users ≤ 24
-  front-small = omega (arith, size-is, size-le (inSent standard), size-le (inSent users))
 
 -- ---- with the set, it is the TLV
 
