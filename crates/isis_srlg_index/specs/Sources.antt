@@ -1,20 +1,25 @@
 -- What one TLV of run B says of SRLGs, and the keys and sources that it adds.
 use mathlib.Core.Path.{_≡_}
-use mathlib.Core.Bool.{Bool, true, false, cond, _&&_}
+use mathlib.Core.Bool.{Bool, true, false, cond, _&&_, _||_}
 use lib.Dec.{eqb}
-use mathlib.Core.List.{List, [], map}
-use Prim.Native.Nat.{ℕ, _+_, _≤_, _<_}
+use mathlib.Core.List.{List, [], map, _++_}
+use Prim.Native.Nat.{ℕ, _+_, _*_, _≤_, _<_}
 use lib.ListN.{length, getD, set, drop}
-use Rattle.linkstate.specs.Lists.{put}
+use Rattle.linkstate.specs.Lists.{put, each, all, member}
 use Rattle.linkstate.specs.Bytes.{words}
-use Rattle.linkstate.specs.Elements.{Element}
+use Rattle.linkstate.specs.Elements.{Element, elements}
+use Rattle.linkstate.proofs.WalkLaws.{left}
+use Rattle.masks.specs.Sets.{turnedPlace}
+use Rattle.srlg_ranks.specs.Ranks.{inWords}
+use Rattle.srlg_sources.specs.Classes.{mostNumbers}
+use Rattle.srlg_classes.specs.Sided.{carried}
 use Rattle.linkstate.specs.Sides.{names}
 use Rattle.isis.specs.MaskHeader.{sabmLength, udabmLength, headerLength, advertisement}
 use Rattle.isis.specs.RunB.{identifierBytes}
 use Rattle.naming.specs.Names.{inBoth}
 use Rattle.naming.specs.declared.Names.{Names}
 use Rattle.srlg_sources.specs.declared.Keys.{Keys}
-use Rattle.srlg_sources.specs.Sources.{Small, keyOf, sourceRow}
+use Rattle.srlg_sources.specs.Sources.{Small, keyOf, inRows, numbersOf, sourceRow}
 use Rattle.srlg_blocks.specs.Blocks.{namedBy}
 use Rattle.isis_tlvs_238.specs.declared.Which.the-variants.{Naming, General}
 use Rattle.isis_tlvs_238.specs.Selected.{wordsIn}
@@ -50,6 +55,25 @@ pub data Adds (e : Element) (keys : List ℕ) (rows : List (List ℕ)) (k : Keys
   source : (s u : ℕ) (ws : List ℕ) → 0 < length ws → Small ws → ((n : ℕ) → wordsIn (Naming n) e ≡ cond (inBoth s u n) ws []) → wordsIn General e ≡ []
       → r .count ≡ k .count + length ws → r .sources ≡ k .sources + 1 → keys′ ≡ put keys (k .count) (map (keyOf (k .sources)) ws) → rows′ ≡ set rows (k .sources) (sourceRow s u)
       → Adds e keys rows k r keys′ rows′
+
+-- The keys and sources of the TLVs before an offset: with the numbers of what is left there, they are those of all.
+pub record Gathering (b : List ℕ) (at : ℕ) (keys₀ keys : List ℕ) (rows : List (List ℕ)) (k : Keys) : Type 0 where
+  pub written : List ℕ
+  pub count : k .count ≡ length written
+  pub list : keys ≡ put keys₀ 0 written
+  pub few : (2 ≤ k .sources) × (17 * k .sources ≤ 34 + at)
+  pub low : all (inRows (k .sources)) written ≡ true
+  pub wide : (j : ℕ) → j < k .sources → length (getD rows j []) ≡ 18
+  pub blank : (j i : ℕ) → j < k .sources → i < mostNumbers → inWords (getD rows j []) i ≡ false
+  pub none : numbersOf 0 written ≡ []
+  pub filled : (j : ℕ) → 1 < j → j < k .sources → (v : ℕ) × (member v (numbersOf j written) ≡ true)
+  pub general : numbersOf 1 written ++ each (wordsIn General) (left 1 0 b at) ≡ each (wordsIn General) (elements 1 0 b)
+  pub naming : (a v : ℕ) → a < 128
+      → carried rows (k .sources) written (turnedPlace a) v || member v (each (wordsIn (Naming a)) (left 1 0 b at)) ≡ member v (each (wordsIn (Naming a)) (elements 1 0 b))
+
+-- All of run B.
+abbrev pub Gathered : List ℕ → List ℕ → List ℕ → List (List ℕ) → Keys → Type 0
+Gathered b keys₀ keys rows k = Gathering b (length b) keys₀ keys rows k
 
 -- Run C need not be read: nobody is named with L, and some source has a number for RSVP-TE.
 pub record Unused (who : Names) (rows : List (List ℕ)) (sources : ℕ) : Type 0 where

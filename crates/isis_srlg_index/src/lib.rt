@@ -13,7 +13,7 @@ ghost use Rattle.isis.specs.MaskHeader.{headerLength};
 ghost use Rattle.isis.specs.RunB.{checkB, sideB, identifierBytes};
 ghost use Rattle.isis_check_a.specs.Headers.{MasksRead};
 ghost use Rattle.isis_tlvs_238.specs.Selected.{Whole};
-ghost use Rattle.isis_srlg_index.specs.Sources.{leastValue, noTlv, Lives, Says, Adds, Unused};
+ghost use Rattle.isis_srlg_index.specs.Sources.{leastValue, noTlv, Lives, Says, Adds, Gathered, Unused};
 use isis_check_a::Header;
 use naming::Names;
 use srlg_sources::Keys;
@@ -103,4 +103,66 @@ fn add_tlv(t: u8, value: &[u8], keys: &mut [u64], rows: &mut [[u64; 18]], k: Key
         rows,
         k,
     )
+}
+
+// The keys of run B's TLVs, in byte order at the front of the list, and a row for each source. Source 0 has none yet.
+fn gather_b(b: &[u8], keys: &mut [u64], rows: &mut [[u64; 18]]) -> Keys
+    requires { ⌜ (faults runB checkB (elements 1 0 (now b)) ≡ accepted) × (length (now b) ≤ 2048) × (length (now b) / 4 ≤ length (now keys)) × (2 + length (now b) / 17 ≤ length (now rows)) ⌝ }
+    ensures { λ r. ⌜ Gathered (now (b .entry)) (now (keys .entry)) (now (keys .exit)) (now (rows .exit)) r × (r .count ≤ length (now (b .entry)) / 4) ⌝ }
+{
+    let none = [0u64; 18];
+    rows[0] = none;
+    rows[1] = none;
+    let mut k = Keys {
+        count: 0,
+        sources: 2,
+    };
+    let mut at = 0;
+    while at < b.len() {
+        let value = at + 2;
+        let next = value + b[at + 1] as usize;
+        k = add_tlv(b[at], &b[value..next], keys, rows, k);
+        at = next;
+    }
+    k
+}
+
+// Whether the row of a source names RSVP-TE, which is bit 7 of a standard mask as sent.
+fn names_rsvp_te(rows: &[[u64; 18]], sources: usize) -> bool
+    requires { ⌜ sources ≤ length (now rows) ⌝ }
+    ensures { λ r. ⌜ (r ≡ true → (j : ℕ) × (1 < j) × (j < sources) × (namedBy (now (rows .entry)) j 7 ≡ true)) ⌝ }
+{
+    for j in 2..sources {
+        if masks::has(rows[j][16], 7) {
+            return true;
+        }
+    }
+    false
+}
+
+// Whether somebody can get a legacy number: one that is named with L, or RSVP-TE where no TLV has a number for it.
+fn legacy_used(names: Names, rows: &[[u64; 18]], sources: usize) -> bool
+    requires { ⌜ sources ≤ length (now rows) ⌝ }
+    ensures { λ r. ⌜ (r ≡ false → Unused names (now (rows .entry)) sources) ⌝ }
+{
+    if names.lstandard | names.luser != 0 {
+        return true;
+    }
+    !names_rsvp_te(rows, sources)
+}
+
+// The numbers of a link as keys, and a row for each source: 0 legacy, as far as somebody can get it, 1 general, and one for each TLV 238 that names somebody and has a number.
+pub fn gather(b: &[u8], c: &[u8], names: Names, keys: &mut [u64], rows: &mut [[u64; 18]]) -> Keys
+    requires { ⌜ (faults runB checkB (elements 1 0 (now b)) ≡ accepted) × (length (now b) ≤ 2048) × (length (now b) / 4 + length (now c) / 4 ≤ length (now keys)) × (2 + length (now b) / 17 ≤ length (now rows)) × Tells ((sideB (now b) (now c)) .live) names ⌝ }
+    ensures { λ r. ⌜ Carried (take (r .count) (now (keys .exit))) (now (rows .exit)) (r .sources) (sideB (now (b .entry)) (now (c .entry))) × (r .count ≤ length (now (b .entry)) / 4 + length (now (c .entry)) / 4) ⌝ }
+{
+    let k = gather_b(b, keys, rows);
+    if !legacy_used(names, rows, k.sources) {
+        return k;
+    }
+    let count = srlg_sources::add_words(c, 0, keys, k.count);
+    Keys {
+        count,
+        sources: k.sources,
+    }
 }
