@@ -1,2 +1,3 @@
+mod Identified
 mod Said
 mod Gathers

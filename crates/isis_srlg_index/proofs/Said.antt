@@ -1,6 +1,6 @@
 -- What one TLV of run B says of SRLGs. Assumes nothing.
 use mathlib.Core.Path.{_≡_, refl, sym, ap, ap₂, _∙_}
-use mathlib.Core.Bool.{Bool, true, false, cond, _&&_, false≢true}
+use mathlib.Core.Bool.{Bool, true, false, cond, _&&_, _||_, false≢true}
 use mathlib.Core.List.{List, [], _∷_, map}
 use Prim.Native.Nat.{ℕ, zero, suc, _+_, _-_, _/_, _≤_, _<_}
 use native.Mathlib.Omega.{arith}
@@ -15,7 +15,9 @@ use Rattle.linkstate.specs.Bytes.{words}
 use Rattle.linkstate.specs.Elements.{Element, element}
 use Rattle.linkstate.specs.Masks.{bit, inMasks}
 use Rattle.linkstate.specs.Sides.{names, general}
+use Rattle.masks.specs.Sets.{turnedPlace, inSent}
 use Rattle.masks.proofs.Laws.{bit-beyond}
+use Rattle.masks.proofs.Steps.{zero-none}
 use Rattle.srlg.proofs.Laws.{length-words}
 use Rattle.srlg_ranks.proofs.Bits.{or-none}
 use Rattle.srlg_sources.specs.declared.Keys.{Keys}
@@ -25,7 +27,7 @@ use Rattle.isis_check_a.specs.Headers.{headerOf}
 use Rattle.isis_check_a.proofs.Laws.{rest-is}
 use Rattle.naming.specs.Names.{inBoth}
 use Rattle.naming.proofs.Laws.{in-none}
-use Rattle.isis.specs.MaskHeader.{lFlag, sabmLength, udabmLength, headerLength, advertisement}
+use Rattle.isis.specs.MaskHeader.{lFlag, sabmLength, udabmLength, headerLength, maskTooLong, advertisement}
 use Rattle.isis.specs.RunB.{afterNeighbour, identifierBytes, srlgValues, liveSrlg}
 use Rattle.isis_tlvs_238.specs.declared.Which.{Which}
 use Rattle.isis_tlvs_238.specs.declared.Which.the-variants.{Naming, General}
@@ -88,15 +90,24 @@ module _ (v : List ℕ) (inside : headerLength v ≤ length v) where
       either true = refl
       either false = refl
 
+  -- whom the masks name, as two numbers with their bytes
+  pub sent-names : (s u a n : ℕ) → ((k : ℕ) → inSent s k ≡ inSent 0 k || bit (take a (drop 2 v)) k) → ((k : ℕ) → inSent u k ≡ inSent 0 k || bit (take n (drop (2 + a) v)) k)
+      → a ≡ sabmLength v → n ≡ udabmLength v → (k : ℕ) → inBoth s u k ≡ names k (advertisement v [])
+  unfolding inBoth names inMasks advertisement
+  sent-names s u a n p q e f k =
+      ap₂ (λ (x y : Bool). cond (ltb k 64) x y)
+      (p k ∙ ap₂ (λ (x : Bool) (i : ℕ). x || bit (take i (drop 2 v)) k) (zero-none (turnedPlace k)) e)
+      (q (k - 64) ∙ ap₂ (λ (x : Bool) (i : ℕ). x || bit (take i (drop (2 + a) v)) (k - 64)) (zero-none (turnedPlace (k - 64))) f ∙ ap (λ (i : ℕ). bit (take (udabmLength v) (drop (2 + i) v)) (k - 64)) e)
+
 module _ (at t : ℕ) (value v : List ℕ) (is : t ≡ 238) (e : v ≡ afterNeighbour value) (l : Bool) (f : l ≡ liveSrlg at v) (live : l ≡ true) (plain : lFlag v ≡ false) where
   selected : (w : Which) → wordsIn w (element at t value) ≡ cond (selects w (advertisement v [])) (words (srlgValues v)) []
   selected w =
       tlv.words-are at t value v is e w (liveSrlg at v && selects w (advertisement v [])) refl
       ∙ ap₂ (λ (x y : Bool). cond (x && selects w (advertisement v [])) (cond y [] (words (srlgValues v))) []) (sym f ∙ live) plain
 
-  pub says-live : (r : Tlv) → headerLength v + 1 + identifierBytes v ≤ length v → 7 ≤ length value → Lives v r → Says (element at t value) value r
+  pub says-live : (r : Tlv) → headerLength v + 1 + identifierBytes v ≤ length v → 10 ≤ identifierBytes v → 7 ≤ length value → Lives v r → Says (element at t value) value r
   unfolding selects srlgValues headerLength
-  says-live r inside seven so =
+  says-live r inside long seven so =
       let k = headerLength v + 1 + identifierBytes v in
       let size : length v ≡ length value - 7 = ap length (e ∙ after-drop value) ∙ length-drop 7 value in
       let w : words (drop (r .start) value) ≡ words (srlgValues v) =
@@ -165,6 +176,15 @@ module _ (e : Element) (value : List ℕ) (tlv : Tlv) (says : Says e value tlv) 
 
   pub part-few : length (take (length value - tlv .start) (drop (tlv .start) value)) / 4 ≤ length value / 4
   part-few = omega (arith, length-take (length value - tlv .start) (drop (tlv .start) value), length-drop (tlv .start) value)
+
+-- The masks of a header: their sizes, and where they end.
+pub header-sizes : (v : List ℕ) (h : Header) → h ≡ headerOf v → maskTooLong v ≡ false → (h .standard ≤ 8) × (h .user ≤ 8) × (2 + h .standard + h .user ≡ headerLength v)
+unfolding headerLength
+header-sizes v h e short =
+    let (s, u) = tlv.masks-short v short in
+    let a : h .standard ≡ sabmLength v = ap (λ (x : Header). x .standard) e in
+    let b : h .user ≡ udabmLength v = ap (λ (x : Header). x .user) e in
+    (omega arith, omega arith, omega arith)
 
 pub general-header : (v : List ℕ) (h : Header) → h ≡ headerOf v → (eqb (h .standard) 0 && eqb (h .user) 0) ≡ (eqb (sabmLength v) 0 && eqb (udabmLength v) 0)
 general-header v h e = ap (λ (x : Header). eqb (x .standard) 0 && eqb (x .user) 0) e

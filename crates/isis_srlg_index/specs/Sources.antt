@@ -15,7 +15,8 @@ use Rattle.srlg_sources.specs.Classes.{mostNumbers}
 use Rattle.srlg_classes.specs.Sided.{carried}
 use Rattle.linkstate.specs.Sides.{names}
 use Rattle.isis.specs.MaskHeader.{sabmLength, udabmLength, headerLength, advertisement}
-use Rattle.isis.specs.RunB.{identifierBytes}
+use Rattle.isis.specs.RunB.{identifierBytes, checkB}
+use Rattle.linkstate.specs.Replies.{accepted}
 use Rattle.naming.specs.Names.{inBoth}
 use Rattle.naming.specs.declared.Names.{Names}
 use Rattle.srlg_sources.specs.declared.Keys.{Keys}
@@ -25,9 +26,14 @@ use Rattle.isis_tlvs_238.specs.declared.Which.the-variants.{Naming, General}
 use Rattle.isis_tlvs_238.specs.Selected.{wordsIn}
 use Rattle.isis_srlg_index.specs.declared.Tlv.{Tlv}
 
--- The least length of a TLV's value that is for some application and has a number: neighbour, mask lengths, a mask byte, the identifiers' length byte, the number.
+-- The least length of a TLV's value that is for some application and has a number: neighbour 7, mask lengths 2, a mask byte, the identifiers' length byte,
+-- identifiers 10 (a 4 is the shortest that tells a link), the number 4.
 abbrev pub leastValue : ℕ
-leastValue = 15
+leastValue = 25
+
+-- A TLV that passed its checks, at some place of the run.
+abbrev pub Passed : ℕ → List ℕ → Type 0
+Passed t value = (at : ℕ) × (checkB at t value ≡ accepted)
 
 -- What is read of a TLV that has no number for anybody.
 abbrev pub noTlv : ℕ → Tlv
@@ -61,7 +67,7 @@ pub record Gathering (b : List ℕ) (at : ℕ) (keys₀ keys : List ℕ) (rows :
   pub written : List ℕ
   pub count : k .count ≡ length written
   pub list : keys ≡ put keys₀ 0 written
-  pub few : (2 ≤ k .sources) × (17 * k .sources ≤ 34 + at)
+  pub few : (2 ≤ k .sources) × (27 * k .sources ≤ 54 + at)
   pub low : all (inRows (k .sources)) written ≡ true
   pub wide : (j : ℕ) → j < k .sources → length (getD rows j []) ≡ 18
   pub blank : (j i : ℕ) → j < k .sources → i < mostNumbers → inWords (getD rows j []) i ≡ false

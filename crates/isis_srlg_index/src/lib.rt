@@ -9,11 +9,10 @@ ghost use Rattle.linkstate.specs.Elements.{element, elements, faults};
 ghost use Rattle.naming.specs.Names.{Tells};
 ghost use Rattle.srlg_blocks.specs.Blocks.{namedBy};
 ghost use Rattle.srlg_classes.specs.Sided.{Carried};
-ghost use Rattle.isis.specs.MaskHeader.{headerLength};
+ghost use Rattle.isis.specs.MaskHeader.{headerLength, maskTooLong};
 ghost use Rattle.isis.specs.RunB.{checkB, sideB, identifierBytes};
-ghost use Rattle.isis_check_a.specs.Headers.{MasksRead};
-ghost use Rattle.isis_tlvs_238.specs.Selected.{Whole};
-ghost use Rattle.isis_srlg_index.specs.Sources.{leastValue, noTlv, Lives, Says, Adds, Gathered, Unused};
+ghost use Rattle.isis_check_a.specs.Headers.{headerOf};
+ghost use Rattle.isis_srlg_index.specs.Sources.{leastValue, noTlv, Passed, Lives, Says, Adds, Gathered, Unused};
 use isis_check_a::Header;
 use naming::Names;
 use srlg_sources::Keys;
@@ -40,23 +39,25 @@ fn no_tlv(n: usize) -> Tlv
 
 // A live TLV 238 without L, by what follows its neighbour bytes and has the header h.
 fn live_tlv(v: &[u8], h: Header) -> Tlv
-    requires { ⌜ MasksRead (now v) h × (h .standard < 128) × (h .user < 128) × (headerLength (now v) + 1 + identifierBytes (now v) ≤ length (now v)) ⌝ }
+    requires { ⌜ (h ≡ headerOf (now v)) × (maskTooLong (now v) ≡ false) × (headerLength (now v) + 1 + identifierBytes (now v) ≤ length (now v)) × (length (now v) ≤ 2048) ⌝ }
     ensures { λ r. ⌜ Lives (now (v .entry)) r ⌝ }
 {
-    let names = isis_check_a::names_in(v, h);
-    let length_byte = isis_check_a::header_length(h);
+    let behind = 2 + h.standard;
+    let standard = masks::with_sent(0, v, 2, h.standard);
+    let user = masks::with_sent(0, v, behind, h.user);
+    let length_byte = behind + h.user;
     let identifiers = v[length_byte] as usize;
     Tlv {
         general: (h.standard == 0) & (h.user == 0),
-        standard: names.standard,
-        user: names.user,
+        standard,
+        user,
         start: 7 + length_byte + 1 + identifiers,
     }
 }
 
 // A TLV of run B. With L no number of it is read.
 fn read_tlv(t: u8, value: &[u8]) -> Tlv
-    requires { ⌜ Whole t (now value) ⌝ }
+    requires { ⌜ Passed t (now value) × (length (now value) ≤ 2048) ⌝ }
     ensures { λ r. ⌜ ((at : ℕ) → Says (element at t (now (value .entry))) (now (value .entry)) r) ⌝ }
 {
     if t != 238 {
@@ -76,9 +77,9 @@ fn read_tlv(t: u8, value: &[u8]) -> Tlv
 
 // The keys of one TLV of run B, behind those that are there.
 fn add_tlv(t: u8, value: &[u8], keys: &mut [u64], rows: &mut [[u64; 18]], k: Keys) -> Keys
-    requires { ⌜ Whole t (now value) × (2 ≤ k .sources) × (k .sources < 128) × (k .count + length (now value) / 4 ≤ length (now keys)) × (leastValue ≤ length (now value) → k .sources < length (now rows)) ⌝ }
+    requires { ⌜ Passed t (now value) × (length (now value) ≤ 2048) × (2 ≤ k .sources) × (k .sources < 128) × (k .count + length (now value) / 4 ≤ length (now keys)) × (leastValue ≤ length (now value) → k .sources < length (now rows)) ⌝ }
     ensures { λ r. ⌜ ((at : ℕ) → Adds (element at t (now (value .entry))) (now (keys .entry)) (now (rows .entry)) k r (now (keys .exit)) (now (rows .exit))) ⌝ }
-    ensures { λ r. ⌜ (r .count ≤ k .count + length (now (value .entry)) / 4) × (17 * r .sources ≤ 17 * k .sources + 2 + length (now (value .entry))) ⌝ }
+    ensures { λ r. ⌜ (r .count ≤ k .count + length (now (value .entry)) / 4) × (27 * r .sources ≤ 27 * k .sources + 2 + length (now (value .entry))) ⌝ }
 {
     let tlv = read_tlv(t, value);
     let start = tlv.start;
@@ -107,7 +108,7 @@ fn add_tlv(t: u8, value: &[u8], keys: &mut [u64], rows: &mut [[u64; 18]], k: Key
 
 // The keys of run B's TLVs, in byte order at the front of the list, and a row for each source. Source 0 has none yet.
 fn gather_b(b: &[u8], keys: &mut [u64], rows: &mut [[u64; 18]]) -> Keys
-    requires { ⌜ (faults runB checkB (elements 1 0 (now b)) ≡ accepted) × (length (now b) ≤ 2048) × (length (now b) / 4 ≤ length (now keys)) × (2 + length (now b) / 17 ≤ length (now rows)) ⌝ }
+    requires { ⌜ (faults runB checkB (elements 1 0 (now b)) ≡ accepted) × (length (now b) ≤ 2048) × (length (now b) / 4 ≤ length (now keys)) × (2 + length (now b) / 27 ≤ length (now rows)) ⌝ }
     ensures { λ r. ⌜ Gathered (now (b .entry)) (now (keys .entry)) (now (keys .exit)) (now (rows .exit)) r × (r .count ≤ length (now (b .entry)) / 4) ⌝ }
 {
     let none = [0u64; 18];
@@ -153,7 +154,7 @@ fn legacy_used(names: Names, rows: &[[u64; 18]], sources: usize) -> bool
 
 // The numbers of a link as keys, and a row for each source: 0 legacy, as far as somebody can get it, 1 general, and one for each TLV 238 that names somebody and has a number.
 pub fn gather(b: &[u8], c: &[u8], names: Names, keys: &mut [u64], rows: &mut [[u64; 18]]) -> Keys
-    requires { ⌜ (faults runB checkB (elements 1 0 (now b)) ≡ accepted) × (length (now b) ≤ 2048) × (length (now b) / 4 + length (now c) / 4 ≤ length (now keys)) × (2 + length (now b) / 17 ≤ length (now rows)) × Tells ((sideB (now b) (now c)) .live) names ⌝ }
+    requires { ⌜ (faults runB checkB (elements 1 0 (now b)) ≡ accepted) × (length (now b) ≤ 2048) × (length (now b) / 4 + length (now c) / 4 ≤ length (now keys)) × (2 + length (now b) / 27 ≤ length (now rows)) × Tells ((sideB (now b) (now c)) .live) names ⌝ }
     ensures { λ r. ⌜ Carried (take (r .count) (now (keys .exit))) (now (rows .exit)) (r .sources) (sideB (now (b .entry)) (now (c .entry))) × (r .count ≤ length (now (b .entry)) / 4 + length (now (c .entry)) / 4) ⌝ }
 {
     let k = gather_b(b, keys, rows);

@@ -33,7 +33,7 @@ part-add-words-end c = search needs
 add-words-requires : tie.Need-add-words-requires
 add-words-requires c κs = 
     let s = c .before .before .before .before .before .before .before in
-    (omega arith, omega (arith, s .pre .3, part-few _ (now (s .args .value)) _ (c .before .before .before .before .read-tlv .ensures 0) (now (s .args .keys)) (now (s .args .rows)) (s .args .k)))
+    (omega arith, omega (arith, s .pre .4, part-few _ (now (s .args .value)) _ (c .before .before .before .before .read-tlv .ensures 0) (now (s .args .keys)) (now (s .args .rows)) (s .args .k)))
 
 same-length : tie.Need-same-length
 same-length c = search needs
@@ -62,7 +62,7 @@ part-add-source-end : tie.Need-part-add-source-end
 part-add-source-end c = search needs
 
 -- a TLV that adds a source is long enough
-long : (c : tie.Else3) → 15 ≤ length (now (c .before .before .before .before .before .before .before .args .value))
+long : (c : tie.Else3) → 25 ≤ length (now (c .before .before .before .before .before .before .before .args .value))
 long c =
     let y = c .before .before .before .before .read-tlv .ensures 0 in
     y .head (omega (arith, y .within)) (c .before .before .if2 .left)
@@ -71,7 +71,7 @@ add-source-requires : tie.Need-add-source-requires
 add-source-requires c κs = 
     let e = c .before .before .before in
     let s = e .before .before .before .before .before .before .before in
-    (s .pre .2, s .pre .4 (long e), omega (arith, s .pre .3, part-few _ (now (s .args .value)) _ (e .before .before .before .before .read-tlv .ensures 0) (now (s .args .keys)) (now (s .args .rows)) (s .args .k)))
+    (s .pre .3, s .pre .5 (long e), omega (arith, s .pre .4, part-few _ (now (s .args .value)) _ (e .before .before .before .before .read-tlv .ensures 0) (now (s .args .keys)) (now (s .args .rows)) (s .args .k)))
 
 same-length-2 : tie.Need-same-length-2
 same-length-2 c = search needs
