@@ -6,11 +6,13 @@ use Prim.Native.Nat.{ℕ, zero, suc, _+_, _*_, _/_, _%_, _≤_, _<_}
 use native.Mathlib.Omega.{arith}
 use borrow.Author.Tests.{eq-eqb, ne-eqb, lt-ltb, le-ltb, ltb-true, ltb-false}
 use lib.Dec.{eqb, ltb}
+use lib.Bits.{bitOr}
 use lib.ListN.{length, getD, set, take, replicate, getD-replicate, length-set, length-append, length-replicate}
 use lib.Seq.{getD-set-same, getD-set-other}
 use Rattle.linkstate.specs.Lists.{put, each, all, any, keep, numbers, member}
 use Rattle.linkstate.specs.Replies.{accepted, runB}
 use Rattle.linkstate.specs.Bytes.{words}
+use Rattle.linkstate.specs.Masks.{inNumber}
 use Rattle.linkstate.specs.Attributes.{srlgs}
 use Rattle.linkstate.specs.Sides.{names, ofLive, generalSet}
 use Rattle.linkstate.specs.Elements.{elements, faults}
@@ -20,9 +22,10 @@ use Rattle.masks.specs.Sets.{turnedPlace}
 use Rattle.masks.proofs.Steps.{zero-none}
 use Rattle.naming.specs.declared.Names.{Names}
 use Rattle.naming.specs.Names.{inBoth, Tells}
-use Rattle.naming.proofs.Laws.{side-flagged}
+use Rattle.naming.proofs.Laws.{side-flagged, in-none}
 use Rattle.srlg.proofs.Laws.{Order, less, more, same, order}
 use Rattle.srlg_ranks.specs.Ranks.{inWords}
+use Rattle.srlg_ranks.proofs.Bits.{or-none}
 use Rattle.srlg_ranks.proofs.Members.{member-append, member-distinct}
 use Rattle.key_sort.specs.Keys.{group}
 use Rattle.srlg_sources.specs.declared.Keys.{Keys}
@@ -31,6 +34,7 @@ use Rattle.srlg_sources.proofs.Joins.{any-same, any-none, any-some, any-out}
 use Rattle.srlg_sources.proofs.Marks.{At, here, there, at-row, length-keys}
 use Rattle.srlg_sources.proofs.Keying.{numbers-append, numbers-own, numbers-beyond, all-append, all-more, rows-more, own-rows}
 use Rattle.srlg_blocks.specs.Blocks.{namedBy, naming}
+use Rattle.srlg_blocks.proofs.Sizes.{low-bit}
 use Rattle.srlg_classes.specs.Sided.{carried, Carried}
 use Rattle.srlg_classes.proofs.Siding.{both-words}
 use Rattle.isis.specs.RunB.{checkB, sideB, srlgAttribute}
@@ -164,7 +168,7 @@ module _ (b : List ℕ) (at : ℕ) (keys₀ keys : List ℕ) (rows : List (List 
   none-step : (w : Which) → wordsIn w (tlvAt b at) ≡ [] → each (wordsIn w) (left 1 0 b next) ≡ each (wordsIn w) (left 1 0 b at)
   none-step w e = sym (step w ∙ ap (λ (l : List ℕ). l ++ each (wordsIn w) (left 1 0 b next)) e)
 
-  pub gathering-next : (r : Keys) (keys′ : List ℕ) (rows′ : List (List ℕ)) → r .count ≤ length keys₀ → 17 * r .sources ≤ 34 + next → (k .sources + 1 ≤ r .sources → k .sources < length rows)
+  pub gathering-next : (r : Keys) (keys′ : List ℕ) (rows′ : List (List ℕ)) → r .count ≤ length keys₀ → 27 * r .sources ≤ 54 + next → (k .sources + 1 ≤ r .sources → k .sources < length rows)
       → Adds (tlvAt b at) keys rows k r keys′ rows′ → Gathering b next keys₀ keys′ rows′ r
   gathering-next r keys′ rows′ fits few room (nothing no-names no-general e f g) =
       rw (e, f, g)
@@ -368,3 +372,13 @@ module _ (b c keys₀ keys : List ℕ) (rows : List (List ℕ)) (k : Keys) (so :
     where
       legacy : (v : ℕ) → member v (numbersOf 0 (K′ ++ map (keyOf 0) (words c))) ≡ member v (srlgs ((sideB b c) .legacy))
       legacy v = ap (member v) (own-numbers 0 K′ (words c) small ∙ ap (λ (l : List ℕ). l ++ words c) (so .none)) ∙ legacy-words b c v
+
+-- ---- whether run C is read
+
+-- RSVP-TE is bit 7 of a standard mask as sent.
+pub named-seven : (rows : List (List ℕ)) (j : ℕ) → namedBy rows j 7 ≡ inNumber (getD (getD rows j []) 16 0) 7
+unfolding namedBy
+named-seven rows j = low-bit (getD (getD rows j []) 16 0) (getD (getD rows j []) 17 0) 7 (omega arith)
+
+pub nobody-flagged : (s u : ℕ) → bitOr s u ≡ 0 → (n : ℕ) → inBoth s u n ≡ false
+nobody-flagged s u e n = let (a, b) = or-none s u e in ap₂ (λ (x y : ℕ). inBoth x y n) a b ∙ in-none n
