@@ -7,14 +7,14 @@ use native.Mathlib.Omega.{arith}
 use borrow.Author.Tests.{eq-eqb, ne-eqb, lt-ltb, le-ltb, ltb-true, ltb-false}
 use lib.Dec.{eqb, ltb}
 use lib.Bits.{bitOr}
-use lib.ListN.{length, getD, set, take, replicate, getD-replicate, length-set, length-append, length-replicate}
+use lib.ListN.{length, getD, set, take, replicate, getD-replicate, length-take, length-set, length-append, length-replicate}
 use lib.Seq.{getD-set-same, getD-set-other}
 use Rattle.linkstate.specs.Lists.{put, each, all, any, keep, numbers, member}
 use Rattle.linkstate.specs.Replies.{accepted, runB}
 use Rattle.linkstate.specs.Bytes.{words}
 use Rattle.linkstate.specs.Masks.{inNumber}
 use Rattle.linkstate.specs.Attributes.{srlgs}
-use Rattle.linkstate.specs.Sides.{names, ofLive, generalSet}
+use Rattle.linkstate.specs.Sides.{Side, names, ofLive, generalSet}
 use Rattle.linkstate.specs.Elements.{elements, faults}
 use Rattle.linkstate.proofs.WalkLaws.{left}
 use Rattle.octets.proofs.Laws.{put-nil, put-then, front-is}
@@ -29,7 +29,7 @@ use Rattle.srlg_ranks.proofs.Bits.{or-none}
 use Rattle.srlg_ranks.proofs.Members.{member-append, member-distinct}
 use Rattle.key_sort.specs.Keys.{group}
 use Rattle.srlg_sources.specs.declared.Keys.{Keys}
-use Rattle.srlg_sources.specs.Sources.{Small, keyOf, inRows, numbersOf, sourceRow}
+use Rattle.srlg_sources.specs.Sources.{Small, keyOf, inRows, numbersOf, sourceRow, Ordered}
 use Rattle.srlg_sources.proofs.Joins.{any-same, any-none, any-some, any-out}
 use Rattle.srlg_sources.proofs.Marks.{At, here, there, at-row, length-keys}
 use Rattle.srlg_sources.proofs.Keying.{numbers-append, numbers-own, numbers-beyond, all-append, all-more, rows-more, own-rows}
@@ -37,13 +37,15 @@ use Rattle.srlg_blocks.specs.Blocks.{namedBy, naming}
 use Rattle.srlg_blocks.proofs.Sizes.{low-bit}
 use Rattle.srlg_classes.specs.Sided.{carried, Carried}
 use Rattle.srlg_classes.proofs.Siding.{both-words}
+use Rattle.srlg_classes.proofs.Carrying.{sourced, values-small}
 use Rattle.isis.specs.RunB.{checkB, sideB, srlgAttribute}
 use Rattle.isis_tlvs_238.specs.declared.Which.{Which}
 use Rattle.isis_tlvs_238.specs.declared.Which.the-variants.{Naming, General}
 use Rattle.isis_tlvs_238.specs.Selected.{selects, srlgWords, wordsIn}
 use Rattle.isis_tlvs_238.proofs.Tlvs.{words-one}
 use Rattle.isis_tlvs_238.proofs.Walks.{tlvAt, turn, none-left, live-words}
-use Rattle.isis_srlg_index.specs.Sources.{Adds, nothing, generals, source, Gathering, Unused}
+use Rattle.isis_srlg_index.specs.Sources.{Adds, nothing, generals, source, Gathering, Unused, Legacy, Indexes}
+use Rattle.isis_srlg_index.specs.declared.Indexed.{Indexed}
 
 -- ---- more keys of one source
 
@@ -302,7 +304,10 @@ legacy-words : (b c : List ℕ) (v : ℕ) → member v (words c) ≡ member v (s
 unfolding sideB srlgs srlgWords
 legacy-words b c v = sym (member-distinct v (srlgWords (srlgAttribute 0 c ∷ [])) ∙ ap (member v) (words-one 0 c))
 
-module _ (b c keys₀ keys : List ℕ) (rows : List (List ℕ)) (k : Keys) (so : Gathering b (length b) keys₀ keys rows k) (short : length b ≤ 2048) (room : k .sources ≤ length rows) where
+module _ (b c : List ℕ) (named : Names) (keys₀ keys : List ℕ) (rows : List (List ℕ)) (k : Keys) (is : Legacy b c named keys₀ keys rows k) (room : k .sources ≤ length rows) where
+  abbrev so : Gathering b (length b) keys₀ keys rows k
+  so = is .gathered
+
   abbrev K′ : List ℕ
   K′ = so .written
 
@@ -324,15 +329,15 @@ module _ (b c keys₀ keys : List ℕ) (rows : List (List ℕ)) (k : Keys) (so :
       ∙ so .naming a v h ∙ all-words (Naming a) v
 
   sources-few : k .sources ≤ 128
-  sources-few = omega (arith, so .few .1)
+  sources-few = omega (arith, so .few .1, is .short)
 
   front : (K keys′ : List ℕ) (n : ℕ) → n ≡ length K → keys′ ≡ put keys₀ 0 K → length K ≤ length keys₀ → take n keys′ ≡ K
   front K keys′ n e f h = ap₂ (λ (i : ℕ) (l : List ℕ). take i l) e f ∙ front-is keys₀ K (omega arith)
 
   -- without run C
-  pub carried-unused : (names-of : Names) → k .count ≤ length keys₀ → Tells ((sideB b c) .live) names-of → Unused names-of rows (k .sources) → Carried (take (k .count) keys) rows (k .sources) (sideB b c)
-  carried-unused names-of fits tells un =
-      rw (front K′ keys (k .count) (so .count) (so .list) (omega (arith, so .count)))
+  pub carried-unused : k .count ≤ length keys → Unused named rows (k .sources) → Carried (take (k .count) keys) rows (k .sources) (sideB b c)
+  carried-unused fits un =
+      rw (front K′ keys (k .count) (so .count) (so .list) (omega (arith, so .count, is .size)))
       record {
         few = (so .few .0, sources-few, room);
         low = so .low;
@@ -340,7 +345,7 @@ module _ (b c keys₀ keys : List ℕ) (rows : List (List ℕ)) (k : Keys) (so :
         blank = so .blank;
         general = general-all;
         naming = naming-all;
-        byL = λ a v e. absurd (false≢true (sym (un .nobody a) ∙ side-flagged (sideB b c) names-of tells a ∙ e));
+        byL = λ a v e. absurd (false≢true (sym (un .nobody a) ∙ side-flagged (sideB b c) named (is .tells) a ∙ e));
         bare = λ v e. absurd (has-some e);
       }
     where
@@ -351,12 +356,13 @@ module _ (b c keys₀ keys : List ℕ) (rows : List (List ℕ)) (k : Keys) (so :
           false≢true (sym (no-member v (srlgs (ofLive (names 0) (sideB b c))) e) ∙ sym (naming-all 0 v (omega arith)) ∙ named-carried rows (k .sources) K′ j v h l sources-few m w)
 
   -- with it
-  pub carried-used : (r : Keys) (keys′ : List ℕ) → r .count ≡ k .count + length (words c) → r .sources ≡ k .sources → keys′ ≡ put keys (k .count) (map (keyOf 0) (words c)) → Small (words c) → r .count ≤ length keys₀
+  pub carried-used : (r : Keys) (keys′ : List ℕ) → r .count ≡ k .count + length (words c) → r .sources ≡ k .sources → keys′ ≡ put keys (k .count) (map (keyOf 0) (words c)) → Small (words c) → r .count ≤ length keys
       → Carried (take (r .count) keys′) rows (r .sources) (sideB b c)
   carried-used r keys′ e f g small fits =
       let ws = words c in
       let added = map (keyOf 0) ws in
       let two = so .few .0 in
+      let same = is .size in
       let whole : keys′ ≡ put keys₀ 0 (K′ ++ added) = put-then keys₀ keys keys′ 0 K′ (k .count) added (so .list) g (omega (arith, so .count)) (omega (arith, length-keys 0 ws)) in
       rw (front (K′ ++ added) keys′ (r .count) (omega (arith, so .count, length-append K′ added, length-keys 0 ws)) whole (omega (arith, so .count, length-append K′ added, length-keys 0 ws)), f)
       record {
@@ -382,3 +388,19 @@ named-seven rows j = low-bit (getD (getD rows j []) 16 0) (getD (getD rows j [])
 
 pub nobody-flagged : (s u : ℕ) → bitOr s u ≡ 0 → (n : ℕ) → inBoth s u n ≡ false
 nobody-flagged s u e n = let (a, b) = or-none s u e in ap₂ (λ (x y : ℕ). inBoth x y n) a b ∙ in-none n
+
+-- ---- all in order
+
+pub low-rows : (keys : List ℕ) (rows : List (List ℕ)) (n : ℕ) (side : Side) → Carried keys rows n side → all (inRows (length rows)) keys ≡ true
+low-rows keys rows n side told = all-more (inRows n) (inRows (length rows)) keys (λ x. rows-more n (length rows) x (told .few .2)) (told .low)
+
+pub indexes : (side : Side) (keys values : List ℕ) (rows ranked : List (List ℕ)) (m : ℕ) (r : Indexed) → Carried (take m keys) rows (r .sources) side
+    → Ordered (take m keys) values (r .count) rows ranked → m ≤ 768 → length ranked ≡ length rows → Indexes side values ranked r
+indexes side keys values rows ranked m r told is few size =
+    let short : length (take m keys) ≤ 768 = omega (arith, length-take m keys) in
+    record {
+      sourced = sourced (take m keys) rows ranked (r .sources) side values (r .count) told is (omega arith);
+      small = values-small (take m keys) values (r .count) rows ranked is;
+      few = (omega (arith, is .few), is .room);
+      used = (told .few .0, told .few .1, omega (arith, told .few .2));
+    }

@@ -3,8 +3,8 @@ use mathlib.Core.Path.{_≡_}
 use mathlib.Core.Bool.{Bool, true, false, cond, _&&_, _||_}
 use lib.Dec.{eqb}
 use mathlib.Core.List.{List, [], map, _++_}
-use Prim.Native.Nat.{ℕ, _+_, _*_, _≤_, _<_}
-use lib.ListN.{length, getD, set, drop}
+use Prim.Native.Nat.{ℕ, _+_, _*_, _/_, _≤_, _<_}
+use lib.ListN.{length, getD, set, take, drop}
 use Rattle.linkstate.specs.Lists.{put, each, all, member}
 use Rattle.linkstate.specs.Bytes.{words}
 use Rattle.linkstate.specs.Elements.{Element, elements}
@@ -12,12 +12,12 @@ use Rattle.linkstate.proofs.WalkLaws.{left}
 use Rattle.masks.specs.Sets.{turnedPlace}
 use Rattle.srlg_ranks.specs.Ranks.{inWords}
 use Rattle.srlg_sources.specs.Classes.{mostNumbers}
-use Rattle.srlg_classes.specs.Sided.{carried}
-use Rattle.linkstate.specs.Sides.{names}
+use Rattle.srlg_classes.specs.Sided.{carried, Sourced}
+use Rattle.linkstate.specs.Sides.{Side, names}
 use Rattle.isis.specs.MaskHeader.{sabmLength, udabmLength, headerLength, advertisement}
-use Rattle.isis.specs.RunB.{identifierBytes, checkB}
+use Rattle.isis.specs.RunB.{identifierBytes, checkB, sideB}
 use Rattle.linkstate.specs.Replies.{accepted}
-use Rattle.naming.specs.Names.{inBoth}
+use Rattle.naming.specs.Names.{inBoth, Tells}
 use Rattle.naming.specs.declared.Names.{Names}
 use Rattle.srlg_sources.specs.declared.Keys.{Keys}
 use Rattle.srlg_sources.specs.Sources.{Small, keyOf, inRows, numbersOf, sourceRow}
@@ -25,6 +25,7 @@ use Rattle.srlg_blocks.specs.Blocks.{namedBy}
 use Rattle.isis_tlvs_238.specs.declared.Which.the-variants.{Naming, General}
 use Rattle.isis_tlvs_238.specs.Selected.{wordsIn}
 use Rattle.isis_srlg_index.specs.declared.Tlv.{Tlv}
+use Rattle.isis_srlg_index.specs.declared.Indexed.{Indexed}
 
 -- The least length of a TLV's value that is for some application and has a number: neighbour 7, mask lengths 2, a mask byte, the identifiers' length byte,
 -- identifiers 10 (a 4 is the shortest that tells a link), the number 4.
@@ -85,3 +86,23 @@ Gathered b keys₀ keys rows k = Gathering b (length b) keys₀ keys rows k
 pub record Unused (who : Names) (rows : List (List ℕ)) (sources : ℕ) : Type 0 where
   pub nobody : (n : ℕ) → inBoth (who .lstandard) (who .luser) n ≡ false
   pub source : (j : ℕ) × (1 < j) × (j < sources) × (namedBy rows j 7 ≡ true)
+
+-- What is known where run C is taken or not: all of run B was gathered in a list that was `keys₀`, and the names are those of its advertisements.
+pub record Legacy (b c : List ℕ) (named : Names) (keys₀ keys : List ℕ) (rows : List (List ℕ)) (k : Keys) : Type 0 where
+  pub gathered : Gathered b keys₀ keys rows k
+  pub short : length b ≤ 2048
+  pub size : length keys ≡ length keys₀
+  pub tells : Tells ((sideB b c) .live) named
+
+-- Room for the keys and sources of runs B and C, by lengths: a number takes four bytes, and a TLV with a source 27 at least.
+pub record Room (b c keys rows : ℕ) : Type 0 where
+  pub short : (b ≤ 2048) × (c ≤ 1024)
+  pub numbers : b / 4 + c / 4 ≤ keys
+  pub sources : 2 + b / 27 ≤ rows
+
+-- The SRLGs of a side, ranked.
+pub record Indexes (side : Side) (values : List ℕ) (rows : List (List ℕ)) (r : Indexed) : Type 0 where
+  pub sourced : Sourced (take (r .count) values) rows (r .sources) side
+  pub small : Small (take (r .count) values)
+  pub few : (r .count ≤ 768) × (r .count ≤ length values)
+  pub used : (2 ≤ r .sources) × (r .sources ≤ 128) × (r .sources ≤ length rows)

@@ -12,7 +12,7 @@ ghost use Rattle.srlg_classes.specs.Sided.{Carried};
 ghost use Rattle.isis.specs.MaskHeader.{headerLength, maskTooLong};
 ghost use Rattle.isis.specs.RunB.{checkB, sideB, identifierBytes};
 ghost use Rattle.isis_check_a.specs.Headers.{headerOf};
-ghost use Rattle.isis_srlg_index.specs.Sources.{leastValue, noTlv, Passed, Lives, Says, Adds, Gathered, Unused};
+ghost use Rattle.isis_srlg_index.specs.Sources.{leastValue, noTlv, Passed, Lives, Says, Adds, Gathered, Unused, Legacy, Room, Indexes};
 use isis_check_a::Header;
 use naming::Names;
 use srlg_sources::Keys;
@@ -142,27 +142,63 @@ fn names_rsvp_te(rows: &[[u64; 18]], sources: usize) -> bool
 }
 
 // Whether somebody can get a legacy number: one that is named with L, or RSVP-TE where no TLV has a number for it.
-fn legacy_used(names: Names, rows: &[[u64; 18]], sources: usize) -> bool
+fn legacy_used(named: Names, rows: &[[u64; 18]], sources: usize) -> bool
     requires { ⌜ sources ≤ length (now rows) ⌝ }
-    ensures { λ r. ⌜ (r ≡ false → Unused names (now (rows .entry)) sources) ⌝ }
+    ensures { λ r. ⌜ (r ≡ false → Unused named (now (rows .entry)) sources) ⌝ }
 {
-    if names.lstandard | names.luser != 0 {
+    if named.lstandard | named.luser != 0 {
         return true;
     }
     !names_rsvp_te(rows, sources)
 }
 
-// The numbers of a link as keys, and a row for each source: 0 legacy, as far as somebody can get it, 1 general, and one for each TLV 238 that names somebody and has a number.
-pub fn gather(b: &[u8], c: &[u8], names: Names, keys: &mut [u64], rows: &mut [[u64; 18]]) -> Keys
-    requires { ⌜ (faults runB checkB (elements 1 0 (now b)) ≡ accepted) × (length (now b) ≤ 2048) × (length (now b) / 4 + length (now c) / 4 ≤ length (now keys)) × (2 + length (now b) / 27 ≤ length (now rows)) × Tells ((sideB (now b) (now c)) .live) names ⌝ }
-    ensures { λ r. ⌜ Carried (take (r .count) (now (keys .exit))) (now (rows .exit)) (r .sources) (sideB (now (b .entry)) (now (c .entry))) × (r .count ≤ length (now (b .entry)) / 4 + length (now (c .entry)) / 4) ⌝ }
+// Behind the keys of run B those of run C, as far as somebody can get them. Source 0 is theirs.
+fn add_legacy(c: &[u8], named: Names, keys: &mut [u64], rows: &[[u64; 18]], k: Keys) -> Keys
+    requires { ⌜ (k .count + length (now c) / 4 ≤ length (now keys)) × (k .sources ≤ length (now rows)) ⌝ }
+    ensures { λ r. ⌜ ((b first : List ℕ) → Legacy b (now (c .entry)) named first (now (keys .entry)) (now (rows .entry)) k → Carried (take (r .count) (now (keys .exit))) (now (rows .entry)) (r .sources) (sideB b (now (c .entry)))) ⌝ }
+    ensures { λ r. ⌜ r .count ≤ k .count + length (now (c .entry)) / 4 ⌝ }
 {
-    let k = gather_b(b, keys, rows);
-    if !legacy_used(names, rows, k.sources) {
+    if !legacy_used(named, rows, k.sources) {
         return k;
     }
     let count = srlg_sources::add_words(c, 0, keys, k.count);
     Keys {
+        count,
+        sources: k.sources,
+    }
+}
+
+// The numbers of a link as keys, and a row for each source: 0 legacy, as far as somebody can get it, 1 general, and one for each TLV 238 that names somebody and has a number.
+pub fn gather(b: &[u8], c: &[u8], named: Names, keys: &mut [u64], rows: &mut [[u64; 18]]) -> Keys
+    requires { ⌜ (faults runB checkB (elements 1 0 (now b)) ≡ accepted) × Tells ((sideB (now b) (now c)) .live) named × Room (length (now b)) (length (now c)) (length (now keys)) (length (now rows)) ⌝ }
+    ensures { λ r. ⌜ Carried (take (r .count) (now (keys .exit))) (now (rows .exit)) (r .sources) (sideB (now (b .entry)) (now (c .entry))) ⌝ }
+    ensures { λ r. ⌜ (r .count ≤ length (now (keys .entry))) × (r .count ≤ 768) ⌝ }
+{
+    let k = gather_b(b, keys, rows);
+    add_legacy(c, named, keys, rows, k)
+}
+
+// How many different numbers a link has, and how many sources.
+pub struct Indexed {
+    pub count: usize,
+    pub sources: usize,
+}
+
+// The different numbers of a link, ascending at the front of a list, and a row for each source with the bits of its numbers. The keys are room to work in.
+pub fn index_srlgs(
+    b: &[u8],
+    c: &[u8],
+    named: Names,
+    keys: &mut [u64],
+    values: &mut [u64],
+    rows: &mut [[u64; 18]],
+) -> Indexed
+    requires { ⌜ (faults runB checkB (elements 1 0 (now b)) ≡ accepted) × Tells ((sideB (now b) (now c)) .live) named × Room (length (now b)) (length (now c)) (length (now keys)) (length (now rows)) × (length (now keys) ≤ length (now values)) ⌝ }
+    ensures { λ r. ⌜ Indexes (sideB (now (b .entry)) (now (c .entry))) (now (values .exit)) (now (rows .exit)) r ⌝ }
+{
+    let k = gather(b, c, named, keys, rows);
+    let count = srlg_sources::order(keys, values, rows, k.count);
+    Indexed {
         count,
         sources: k.sources,
     }
