@@ -237,9 +237,11 @@ module _ (b : List ℕ) (at : ℕ) (keys₀ keys : List ℕ) (rows : List (List 
       filled-at j h (less q) p = let (v, m) = so .filled j h q in (v, still-member v j (k .sources) K ws small m)
       filled-at j h (more q) p = absurd (omega arith)
       filled-at j h (same q) p =
-          let (v, m) = first-member ws some in
-          (v, ap (λ (i : ℕ). member v (numbersOf i (K ++ map (keyOf (k .sources)) ws))) q
-          ∙ ap (member v) (own-numbers (k .sources) K ws small ∙ ap (λ (l : List ℕ). l ++ ws) (numbers-beyond (k .sources) (k .sources) K (omega arith) (so .low))) ∙ m)
+          let (v, m) = first-member ws some in (
+            v,
+            ap (λ (i : ℕ). member v (numbersOf i (K ++ map (keyOf (k .sources)) ws))) q
+                ∙ ap (member v) (own-numbers (k .sources) K ws small ∙ ap (λ (l : List ℕ). l ++ ws) (numbers-beyond (k .sources) (k .sources) K (omega arith) (so .low))) ∙ m,
+          )
 
 -- ---- before the first TLV
 

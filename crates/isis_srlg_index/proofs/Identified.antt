@@ -102,9 +102,10 @@ identified es ok h = go (any (isOfType 4) es) refl (any (isOfType 6) es && any (
     go : (a : Bool) → any (isOfType 4) es ≡ a → (b : Bool) → any (isOfType 6) es && any (isOfType 8) es ≡ b → a || b || (any (isOfType 12) es && any (isOfType 13) es) ≡ true → 10 ≤ bytes es
     go true e b f g = one-bytes 4 8 sized-4 es ok e
     go false e true f g =
-        omega
-        (arith,
-        two-bytes 6 4 8 4 sized-6 sized-8 (λ z. omega arith) es ok (and-l (any (isOfType 6) es) (any (isOfType 8) es) f) (and-r (any (isOfType 6) es) (any (isOfType 8) es) f))
+        omega (
+          arith,
+          two-bytes 6 4 8 4 sized-6 sized-8 (λ z. omega arith) es ok (and-l (any (isOfType 6) es) (any (isOfType 8) es) f) (and-r (any (isOfType 6) es) (any (isOfType 8) es) f),
+        )
     go false e false f g = omega (arith, one-bytes 12 16 sized-12 es ok (and-l (any (isOfType 12) es) (any (isOfType 13) es) g))
 
 -- ---- a TLV 238 that passed its checks and is live

@@ -111,7 +111,7 @@ module _ (at t : ℕ) (value v : List ℕ) (is : t ≡ 238) (e : v ≡ afterNeig
       let k = headerLength v + 1 + identifierBytes v in
       let size : length v ≡ length value - 7 = ap length (e ∙ after-drop value) ∙ length-drop 7 value in
       let w : words (drop (r .start) value) ≡ words (srlgValues v) =
-              ap (λ (i : ℕ). words (drop i value)) (so .start) ∙ ap words (sym (drop-drop k 7 value)) ∙ ap (λ (x : List ℕ). words (drop k x)) (sym (e ∙ after-drop value)) in
+      ap (λ (i : ℕ). words (drop i value)) (so .start) ∙ ap words (sym (drop-drop k 7 value)) ∙ ap (λ (x : List ℕ). words (drop k x)) (sym (e ∙ after-drop value)) in
       record {
         naming = λ n. selected (Naming n) ∙ ap₂ (λ (b : Bool) (ws : List ℕ). cond b ws []) (sym (so .named n)) (sym w);
         generals = selected General ∙ ap₂ (λ (b : Bool) (ws : List ℕ). cond b ws []) (general-is v (omega arith) ∙ sym (so .general)) (sym w);

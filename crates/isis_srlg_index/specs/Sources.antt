@@ -7,21 +7,23 @@ use Prim.Native.Nat.{ℕ, _+_, _*_, _/_, _≤_, _<_}
 use lib.ListN.{length, getD, set, take, drop}
 use Rattle.linkstate.specs.Lists.{put, each, all, member}
 use Rattle.linkstate.specs.Bytes.{words}
-use Rattle.linkstate.specs.Elements.{Element, elements}
+use Rattle.linkstate.specs.Elements.{Element, elements, faults}
 use Rattle.linkstate.proofs.WalkLaws.{left}
 use Rattle.masks.specs.Sets.{turnedPlace}
 use Rattle.srlg_ranks.specs.Ranks.{inWords}
 use Rattle.srlg_sources.specs.Classes.{mostNumbers}
-use Rattle.srlg_classes.specs.Sided.{carried, Sourced}
+use Rattle.srlg_classes.specs.Sided.{carried, Carried, Sourced}
 use Rattle.linkstate.specs.Sides.{Side, names}
-use Rattle.isis.specs.MaskHeader.{sabmLength, udabmLength, headerLength, advertisement}
+use Rattle.isis.specs.MaskHeader.{sabmLength, udabmLength, headerLength, maskTooLong, advertisement}
 use Rattle.isis.specs.RunB.{identifierBytes, checkB, sideB}
-use Rattle.linkstate.specs.Replies.{accepted}
+use Rattle.linkstate.specs.Replies.{accepted, runB}
 use Rattle.naming.specs.Names.{inBoth, Tells}
 use Rattle.naming.specs.declared.Names.{Names}
 use Rattle.srlg_sources.specs.declared.Keys.{Keys}
 use Rattle.srlg_sources.specs.Sources.{Small, keyOf, inRows, numbersOf, sourceRow}
 use Rattle.srlg_blocks.specs.Blocks.{namedBy}
+use Rattle.isis_check_a.specs.declared.Header.{Header}
+use Rattle.isis_check_a.specs.Headers.{headerOf}
 use Rattle.isis_tlvs_238.specs.declared.Which.the-variants.{Naming, General}
 use Rattle.isis_tlvs_238.specs.Selected.{wordsIn}
 use Rattle.isis_srlg_index.specs.declared.Tlv.{Tlv}
@@ -40,6 +42,13 @@ Passed t value = (at : ℕ) × (checkB at t value ≡ accepted)
 abbrev pub noTlv : ℕ → Tlv
 noTlv n = record { general = false; standard = 0; user = 0; start = n }
 
+-- A TLV 238 that can be read, by what follows its neighbour bytes: its header is h, its masks are not too long, and they and the identifiers lie within it.
+pub record Readable (v : List ℕ) (h : Header) : Type 0 where
+  pub header : h ≡ headerOf v
+  pub masks : maskTooLong v ≡ false
+  pub inside : headerLength v + 1 + identifierBytes v ≤ length v
+  pub size : length v ≤ 2048
+
 -- What is read of a live TLV 238 without L, by what follows its neighbour bytes.
 pub record Lives (v : List ℕ) (r : Tlv) : Type 0 where
   pub named : (n : ℕ) → inBoth (r .standard) (r .user) n ≡ names n (advertisement v [])
@@ -53,6 +62,14 @@ pub record Says (e : Element) (value : List ℕ) (r : Tlv) : Type 0 where
   pub apart : r .general ≡ true → (n : ℕ) → inBoth (r .standard) (r .user) n ≡ false
   pub within : r .start ≤ length value
   pub head : r .start + 4 ≤ length value → r .general ≡ false → leastValue ≤ length value
+
+-- A TLV of run B that passed its checks, and room for its numbers and for a source more.
+pub record RoomAt (t : ℕ) (value keys : List ℕ) (rows : List (List ℕ)) (k : Keys) : Type 0 where
+  pub passed : Passed t value
+  pub size : length value ≤ 2048
+  pub few : (2 ≤ k .sources) × (k .sources < 128)
+  pub numbers : k .count + length value / 4 ≤ length keys
+  pub source : leastValue ≤ length value → k .sources < length rows
 
 -- The keys and rows after a TLV: as they were, with general numbers more, or with a source more.
 pub data Adds (e : Element) (keys : List ℕ) (rows : List (List ℕ)) (k : Keys) (r : Keys) (keys′ : List ℕ) (rows′ : List (List ℕ)) : Type 0 where
@@ -94,11 +111,21 @@ pub record Legacy (b c : List ℕ) (named : Names) (keys₀ keys : List ℕ) (ro
   pub size : length keys ≡ length keys₀
   pub tells : Tells ((sideB b c) .live) named
 
+-- What the keys and rows are then: those of the side, for any run B.
+abbrev pub WithLegacy : List ℕ → Names → List ℕ → List (List ℕ) → Keys → Keys → List ℕ → Type 0
+WithLegacy c named keys rows k r keys′ = (b keys₀ : List ℕ) → Legacy b c named keys₀ keys rows k → Carried (take (r .count) keys′) rows (r .sources) (sideB b c)
+
 -- Room for the keys and sources of runs B and C, by lengths: a number takes four bytes, and a TLV with a source 27 at least.
 pub record Room (b c keys rows : ℕ) : Type 0 where
   pub short : (b ≤ 2048) × (c ≤ 1024)
   pub numbers : b / 4 + c / 4 ≤ keys
   pub sources : 2 + b / 27 ≤ rows
+
+-- What is asked for: a run B that passed its checks, whom it names, and room.
+pub record Ready (b c : List ℕ) (named : Names) (keys rows : ℕ) : Type 0 where
+  pub passed : faults runB checkB (elements 1 0 b) ≡ accepted
+  pub tells : Tells ((sideB b c) .live) named
+  pub room : Room (length b) (length c) keys rows
 
 -- The SRLGs of a side, ranked.
 pub record Indexes (side : Side) (values : List ℕ) (rows : List (List ℕ)) (r : Indexed) : Type 0 where

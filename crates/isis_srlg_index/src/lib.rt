@@ -1,18 +1,14 @@
 // The sources of SRLGs of an IS-IS link: the numbers of run B's TLVs 238 and of run C as keys, each with the source that has it (document 01, "Who gets what").
 ghost use mathlib.Core.Path.{_≡_};
 ghost use mathlib.Core.Bool.{true, false};
-ghost use mathlib.Core.List.{List};
 ghost use Prim.Native.Nat.{ℕ, _+_, _*_, _/_, _≤_, _<_};
 ghost use lib.ListN.{length, take};
 ghost use Rattle.linkstate.specs.Replies.{accepted, runB};
 ghost use Rattle.linkstate.specs.Elements.{element, elements, faults};
-ghost use Rattle.naming.specs.Names.{Tells};
 ghost use Rattle.srlg_blocks.specs.Blocks.{namedBy};
 ghost use Rattle.srlg_classes.specs.Sided.{Carried};
-ghost use Rattle.isis.specs.MaskHeader.{headerLength, maskTooLong};
-ghost use Rattle.isis.specs.RunB.{checkB, sideB, identifierBytes};
-ghost use Rattle.isis_check_a.specs.Headers.{headerOf};
-ghost use Rattle.isis_srlg_index.specs.Sources.{leastValue, noTlv, Passed, Lives, Says, Adds, Gathered, Unused, Legacy, Room, Indexes};
+ghost use Rattle.isis.specs.RunB.{checkB, sideB};
+ghost use Rattle.isis_srlg_index.specs.Sources.{noTlv, Passed, Readable, Lives, Says, RoomAt, Adds, Gathered, Unused, WithLegacy, Room, Ready, Indexes};
 use isis_check_a::Header;
 use naming::Names;
 use srlg_sources::Keys;
@@ -39,7 +35,7 @@ fn no_tlv(n: usize) -> Tlv
 
 // A live TLV 238 without L, by what follows its neighbour bytes and has the header h.
 fn live_tlv(v: &[u8], h: Header) -> Tlv
-    requires { ⌜ (h ≡ headerOf (now v)) × (maskTooLong (now v) ≡ false) × (headerLength (now v) + 1 + identifierBytes (now v) ≤ length (now v)) × (length (now v) ≤ 2048) ⌝ }
+    requires { ⌜ Readable (now v) h ⌝ }
     ensures { λ r. ⌜ Lives (now (v .entry)) r ⌝ }
 {
     let behind = 2 + h.standard;
@@ -77,7 +73,7 @@ fn read_tlv(t: u8, value: &[u8]) -> Tlv
 
 // The keys of one TLV of run B, behind those that are there.
 fn add_tlv(t: u8, value: &[u8], keys: &mut [u64], rows: &mut [[u64; 18]], k: Keys) -> Keys
-    requires { ⌜ Passed t (now value) × (length (now value) ≤ 2048) × (2 ≤ k .sources) × (k .sources < 128) × (k .count + length (now value) / 4 ≤ length (now keys)) × (leastValue ≤ length (now value) → k .sources < length (now rows)) ⌝ }
+    requires { ⌜ RoomAt t (now value) (now keys) (now rows) k ⌝ }
     ensures { λ r. ⌜ ((at : ℕ) → Adds (element at t (now (value .entry))) (now (keys .entry)) (now (rows .entry)) k r (now (keys .exit)) (now (rows .exit))) ⌝ }
     ensures { λ r. ⌜ (r .count ≤ k .count + length (now (value .entry)) / 4) × (27 * r .sources ≤ 27 * k .sources + 2 + length (now (value .entry))) ⌝ }
 {
@@ -96,19 +92,12 @@ fn add_tlv(t: u8, value: &[u8], keys: &mut [u64], rows: &mut [[u64; 18]], k: Key
     if tlv.standard | tlv.user == 0 {
         return k;
     }
-    srlg_sources::add_source(
-        &value[start..],
-        tlv.standard,
-        tlv.user,
-        keys,
-        rows,
-        k,
-    )
+    srlg_sources::add_source(&value[start..], tlv.standard, tlv.user, keys, rows, k)
 }
 
 // The keys of run B's TLVs, in byte order at the front of the list, and a row for each source. Source 0 has none yet.
 fn gather_b(b: &[u8], keys: &mut [u64], rows: &mut [[u64; 18]]) -> Keys
-    requires { ⌜ (faults runB checkB (elements 1 0 (now b)) ≡ accepted) × (length (now b) ≤ 2048) × (length (now b) / 4 ≤ length (now keys)) × (2 + length (now b) / 27 ≤ length (now rows)) ⌝ }
+    requires { ⌜ (faults runB checkB (elements 1 0 (now b)) ≡ accepted) × Room (length (now b)) 0 (length (now keys)) (length (now rows)) ⌝ }
     ensures { λ r. ⌜ Gathered (now (b .entry)) (now (keys .entry)) (now (keys .exit)) (now (rows .exit)) r × (r .count ≤ length (now (b .entry)) / 4) ⌝ }
 {
     let none = [0u64; 18];
@@ -155,7 +144,7 @@ fn legacy_used(named: Names, rows: &[[u64; 18]], sources: usize) -> bool
 // Behind the keys of run B those of run C, as far as somebody can get them. Source 0 is theirs.
 fn add_legacy(c: &[u8], named: Names, keys: &mut [u64], rows: &[[u64; 18]], k: Keys) -> Keys
     requires { ⌜ (k .count + length (now c) / 4 ≤ length (now keys)) × (k .sources ≤ length (now rows)) ⌝ }
-    ensures { λ r. ⌜ ((b first : List ℕ) → Legacy b (now (c .entry)) named first (now (keys .entry)) (now (rows .entry)) k → Carried (take (r .count) (now (keys .exit))) (now (rows .entry)) (r .sources) (sideB b (now (c .entry)))) ⌝ }
+    ensures { λ r. ⌜ WithLegacy (now (c .entry)) named (now (keys .entry)) (now (rows .entry)) k r (now (keys .exit)) ⌝ }
     ensures { λ r. ⌜ r .count ≤ k .count + length (now (c .entry)) / 4 ⌝ }
 {
     if !legacy_used(named, rows, k.sources) {
@@ -168,9 +157,10 @@ fn add_legacy(c: &[u8], named: Names, keys: &mut [u64], rows: &[[u64; 18]], k: K
     }
 }
 
-// The numbers of a link as keys, and a row for each source: 0 legacy, as far as somebody can get it, 1 general, and one for each TLV 238 that names somebody and has a number.
+// The numbers of a link as keys, and a row for each source: 0 legacy, as far as somebody can get it, 1 general,
+// and one for each TLV 238 that names somebody and has a number.
 pub fn gather(b: &[u8], c: &[u8], named: Names, keys: &mut [u64], rows: &mut [[u64; 18]]) -> Keys
-    requires { ⌜ (faults runB checkB (elements 1 0 (now b)) ≡ accepted) × Tells ((sideB (now b) (now c)) .live) named × Room (length (now b)) (length (now c)) (length (now keys)) (length (now rows)) ⌝ }
+    requires { ⌜ Ready (now b) (now c) named (length (now keys)) (length (now rows)) ⌝ }
     ensures { λ r. ⌜ Carried (take (r .count) (now (keys .exit))) (now (rows .exit)) (r .sources) (sideB (now (b .entry)) (now (c .entry))) ⌝ }
     ensures { λ r. ⌜ (r .count ≤ length (now (keys .entry))) × (r .count ≤ 768) ⌝ }
 {
@@ -193,7 +183,7 @@ pub fn index_srlgs(
     values: &mut [u64],
     rows: &mut [[u64; 18]],
 ) -> Indexed
-    requires { ⌜ (faults runB checkB (elements 1 0 (now b)) ≡ accepted) × Tells ((sideB (now b) (now c)) .live) named × Room (length (now b)) (length (now c)) (length (now keys)) (length (now rows)) × (length (now keys) ≤ length (now values)) ⌝ }
+    requires { ⌜ Ready (now b) (now c) named (length (now keys)) (length (now rows)) × (length (now keys) ≤ length (now values)) ⌝ }
     ensures { λ r. ⌜ Indexes (sideB (now (b .entry)) (now (c .entry))) (now (values .exit)) (now (rows .exit)) r ⌝ }
 {
     let k = gather(b, c, named, keys, rows);

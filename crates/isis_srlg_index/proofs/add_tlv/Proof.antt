@@ -11,13 +11,13 @@ use Rattle.isis_srlg_index.proofs.add_tlv.Statement.{statement}
 use Rattle.isis_srlg_index.proofs.add_tlv.Tie as tie
 
 read-tlv-requires : tie.Need-read-tlv-requires
-read-tlv-requires c κs = search needs
+read-tlv-requires c κs = let p = c .before .before .pre in (p .passed, p .size)
 
 sub-if1 : tie.Need-sub-if1
 sub-if1 c = omega (arith, c .read-tlv .ensures 0 .within)
 
 returns : tie.Need-returns
-returns c = 
+returns c =
     let a = c .before .before .before .before .args in
     (λ at. adds-none _ _ _ (c .before .read-tlv .ensures at) (now (a .keys)) (now (a .rows)) (a .k) (omega arith), (omega arith, omega arith))
 
@@ -31,15 +31,15 @@ part-add-words-end : tie.Need-part-add-words-end
 part-add-words-end c = search needs
 
 add-words-requires : tie.Need-add-words-requires
-add-words-requires c κs = 
+add-words-requires c κs =
     let s = c .before .before .before .before .before .before .before in
-    (omega arith, omega (arith, s .pre .4, part-few _ (now (s .args .value)) _ (c .before .before .before .before .read-tlv .ensures 0) (now (s .args .keys)) (now (s .args .rows)) (s .args .k)))
+    (omega arith, omega (arith, s .pre .numbers, part-few _ (now (s .args .value)) _ (c .before .before .before .before .read-tlv .ensures 0) (now (s .args .keys)) (now (s .args .rows)) (s .args .k)))
 
 same-length : tie.Need-same-length
 same-length c = search needs
 
 returns-2 : tie.Need-returns-2
-returns-2 c = 
+returns-2 c =
     let a = c .before .before .before .before .before .before .before .before .before .before .args in
     let y = c .before .before .before .before .before .before .before .read-tlv .ensures in
     let w = c .before .before .add-words .ensures in (
@@ -48,7 +48,7 @@ returns-2 c =
     )
 
 returns-3 : tie.Need-returns-3
-returns-3 c = 
+returns-3 c =
     let a = c .before .before .before .before .before .before .before .args in
     (λ at. adds-nobody _ _ _ (c .before .before .before .before .read-tlv .ensures at) (now (a .keys)) (now (a .rows)) (a .k) (c .before .before .if2 .left) (c .if3 .taken), (omega arith, omega arith))
 
@@ -68,10 +68,10 @@ long c =
     y .head (omega (arith, y .within)) (c .before .before .if2 .left)
 
 add-source-requires : tie.Need-add-source-requires
-add-source-requires c κs = 
+add-source-requires c κs =
     let e = c .before .before .before in
     let s = e .before .before .before .before .before .before .before in
-    (s .pre .3, s .pre .5 (long e), omega (arith, s .pre .4, part-few _ (now (s .args .value)) _ (e .before .before .before .before .read-tlv .ensures 0) (now (s .args .keys)) (now (s .args .rows)) (s .args .k)))
+    (s .pre .few .1, s .pre .source (long e), omega (arith, s .pre .numbers, part-few _ (now (s .args .value)) _ (e .before .before .before .before .read-tlv .ensures 0) (now (s .args .keys)) (now (s .args .rows)) (s .args .k)))
 
 same-length-2 : tie.Need-same-length-2
 same-length-2 c = search needs
@@ -80,7 +80,7 @@ same-length-3 : tie.Need-same-length-3
 same-length-3 c = search needs
 
 returns-4 : tie.Need-returns-4
-returns-4 c = 
+returns-4 c =
     let e = c .before .before .before .before .before .before .before in
     let s = e .before .before .before .before .before .before .before in
     let a = s .args in

@@ -15,14 +15,14 @@ begin k = k .before .before .before .before .before .before
 gather-b-requires : tie.Need-gather-b-requires
 gather-b-requires c κs =
     let s = c .before .before .before .before .before in
-    let r = s .pre .2 in
-    (s .pre .0, r .short .0, omega (arith, r .numbers), r .sources)
+    let r = s .pre .room in
+    (s .pre .passed, record { short = (r .short .0, omega arith); numbers = omega (arith, r .numbers); sources = r .sources })
 
 add-legacy-requires : tie.Need-add-legacy-requires
 add-legacy-requires c κs =
     let k = c .before .before .before .before .before in
     let s = begin k in
-    let r = s .pre .2 in
+    let r = s .pre .room in
     let w = k .gather-b in
     (omega (arith, r .numbers, w .ensures .1, w .kept .1 .0), omega (arith, r .sources, w .ensures .0 .few .1, w .kept .1 .1 .0))
 
@@ -36,11 +36,10 @@ returns : tie.Need-returns
 returns c =
     let k = c .before .before .before .before .before .before .before .before in
     let s = begin k in
-    let r = s .pre .2 in
+    let r = s .pre .room in
     let w = k .gather-b in
-    let x = c .before .before .add-legacy .ensures in
-    (
-      x .0 (now (s .args .b)) (now (s .args .keys)) (record { gathered = w .ensures .0; short = r .short .0; size = w .kept .1 .0; tells = s .pre .1 }),
+    let x = c .before .before .add-legacy .ensures in (
+      x .0 (now (s .args .b)) (now (s .args .keys)) (record { gathered = w .ensures .0; short = r .short .0; size = w .kept .1 .0; tells = s .pre .tells }),
       (omega (arith, x .1, w .ensures .1, r .numbers), omega (arith, x .1, w .ensures .1, r .short)),
     )
 

@@ -32,15 +32,15 @@ size : (c : tie.In-loop Inv-loop μ-loop) → let b = now (c .before .before .be
 size c = part-length (now (c .before .before .before .before .args .b)) (c .before .loop .at + 2) _ (within c)
 
 slice-set-from-none : tie.Need-slice-set-from-none Inv-loop μ-loop
-slice-set-from-none c = omega (arith, c .before .before .pre .3)
+slice-set-from-none c = omega (arith, c .before .before .pre .1 .sources)
 
 slice-set-from-none-2 : tie.Need-slice-set-from-none-2 Inv-loop μ-loop
-slice-set-from-none-2 c = simp length-set (omega (arith, c .before .before .pre .3))
+slice-set-from-none-2 c = simp length-set (omega (arith, c .before .before .pre .1 .sources))
 
 loop-holds : tie.Need-loop-holds Inv-loop μ-loop
 loop-holds c =
     let s = c .before .before in
-    (omega arith, s .pre .0, refl, refl, omega arith, gathering-start (now (s .args .b)) (now (s .args .keys)) (now (s .args .rows)) _ (omega (arith, s .pre .3)) refl refl)
+    (omega arith, s .pre .0, refl, refl, omega arith, gathering-start (now (s .args .b)) (now (s .args .keys)) (now (s .args .rows)) _ (omega (arith, s .pre .1 .sources)) refl refl)
 
 add-value : tie.Need-add-value Inv-loop μ-loop
 add-value c = omega (arith, within c)
@@ -75,7 +75,7 @@ room c h =
     let l = c .before in
     let s = l .before .before .before in
     let e : length (l .loop .rows) ≡ length (now (s .args .rows)) = l .loop .inv .3 ∙ simp length-set in
-    omega (arith, within c, size c, l .loop .inv .5 .few .1, s .pre .3)
+    omega (arith, within c, size c, l .loop .inv .5 .few .1, s .pre .1 .sources)
 
 add-tlv-requires : tie.Need-add-tlv-requires Inv-loop μ-loop
 add-tlv-requires c κs =
@@ -84,14 +84,14 @@ add-tlv-requires c κs =
     let s = l .before .before .before in
     let i = l .loop .inv in
     let few = i .5 .few in
-    (
-      (l .loop .at, value-passed (now (s .args .b)) (l .loop .at) (omega arith) (i .1)),
-      omega (arith, within n, size n, s .pre .1),
-      few .0,
-      omega (arith, s .pre .1),
-      omega (arith, within n, size n, s .pre .2, i .2, i .4),
-      room n,
-    )
+    let short = s .pre .1 .short .0 in
+    record {
+      passed = (l .loop .at, value-passed (now (s .args .b)) (l .loop .at) (omega arith) (i .1));
+      size = omega (arith, within n, size n);
+      few = (few .0, omega arith);
+      numbers = omega (arith, within n, size n, s .pre .1 .numbers, i .2, i .4);
+      source = room n;
+    }
 
 loop-less : tie.Need-loop-less Inv-loop μ-loop
 loop-less c = omega (arith, within (c .before .before .before .before .before .before .before .before .before))
@@ -105,14 +105,13 @@ loop-again c =
     let b = now (s .args .b) in
     let w = c .before .before .before .add-tlv in
     let (count, sources) = w .ensures .1 in
-    let few = i .5 .few .1 in
-    (
+    let few = i .5 .few .1 in (
       within n,
       rest-ok b (l .loop .at) (omega arith) (i .1),
       w .kept .1 .1 .0 ∙ i .2,
       w .kept .1 .1 .1 .0 ∙ i .3,
       omega (arith, size n),
-      gathering-next b (l .loop .at) _ _ _ (l .loop .k) (i .5) (omega arith) (i .1) (omega (arith, s .pre .1)) _ refl _ _ _ (omega (arith, size n, within n, s .pre .2))
+      gathering-next b (l .loop .at) _ _ _ (l .loop .k) (i .5) (omega arith) (i .1) (omega (arith, s .pre .1 .short)) _ refl _ _ _ (omega (arith, size n, within n, s .pre .1 .numbers))
           (omega (arith, size n)) (λ h. room n (omega arith)) (w .ensures .0 (l .loop .at)),
     )
 

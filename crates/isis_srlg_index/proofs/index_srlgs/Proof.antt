@@ -15,7 +15,7 @@ abbrev gathered : tie.After-order → tie.After-gather
 gathered o = o .before .before .before .before .before .before .before
 
 gather-requires : tie.Need-gather-requires
-gather-requires c κs = let s = c .before .before .before .before .before .before in (s .pre .0, s .pre .1, s .pre .2)
+gather-requires c κs = let s = c .before .before .before .before .before .before in s .pre .0
 
 order-requires : tie.Need-order-requires
 order-requires c κs =
@@ -23,7 +23,7 @@ order-requires c κs =
     let s = begin k in
     let w = k .gather in
     let (fits, few) = w .ensures .1 in
-    (omega arith, omega (arith, w .kept), omega (arith, s .pre .3), low-rows _ _ _ _ (w .ensures .0))
+    (omega arith, omega (arith, w .kept), omega (arith, s .pre .1), low-rows _ _ _ _ (w .ensures .0))
 
 same-length : tie.Need-same-length
 same-length c = search needs

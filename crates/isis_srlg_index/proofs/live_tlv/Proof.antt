@@ -15,22 +15,22 @@ abbrev Sizes : tie.Start → Type 0
 Sizes s = (s .args .h .standard ≤ 8) × (s .args .h .user ≤ 8) × (2 + s .args .h .standard + s .args .h .user ≡ headerLength (now (s .args .v)))
 
 sizes : (s : tie.Start) → Sizes s
-sizes s = header-sizes (now (s .args .v)) (s .args .h) (s .pre .0) (s .pre .1)
+sizes s = header-sizes (now (s .args .v)) (s .args .h) (s .pre .header) (s .pre .masks)
 
 add-behind : tie.Need-add-behind
 add-behind c = let s = c .before .before in let (a, b, e) = sizes s in omega arith
 
 with-sent-requires : tie.Need-with-sent-requires
-with-sent-requires c κs = let s = c .before .before in let (a, b, e) = sizes s in (omega (arith, s .pre .2), a, omega (arith, s .pre .3))
+with-sent-requires c κs = let s = c .before .before in let (a, b, e) = sizes s in (omega (arith, s .pre .inside), a, omega (arith, s .pre .size))
 
 with-sent-requires-2 : tie.Need-with-sent-requires-2
-with-sent-requires-2 c κs = let s = c .before .before .before in let (a, b, e) = sizes s in (omega (arith, s .pre .2), b, omega (arith, s .pre .3))
+with-sent-requires-2 c κs = let s = c .before .before .before in let (a, b, e) = sizes s in (omega (arith, s .pre .inside), b, omega (arith, s .pre .size))
 
 add-length-byte : tie.Need-add-length-byte
 add-length-byte c = let (a, b, e) = sizes (c .before .before .before .before .before) in omega arith
 
 shared-slice-read-identifiers : tie.Need-shared-slice-read-identifiers
-shared-slice-read-identifiers c = let s = c .before .before .before .before .before .before in let (a, b, e) = sizes s in omega (arith, s .pre .2)
+shared-slice-read-identifiers c = let s = c .before .before .before .before .before .before in let (a, b, e) = sizes s in omega (arith, s .pre .inside)
 
 cast-identifiers : tie.Need-cast-identifiers
 cast-identifiers c = let h = c .before .before .before .before .before .before .args .h in omega (arith, c .shared-slice-known2 .given (2 + h .standard + h .user))
@@ -57,9 +57,9 @@ returns c =
     let (a, b, e) = sizes s in
     record {
       named =
-          sent-names v (omega (arith, s .pre .2)) _ _ (h .standard) (h .user) (k .before .with-sent .ensures) (k .with-sent2 .ensures)
-          (ap (λ (x : Header). x .standard) (s .pre .0)) (ap (λ (x : Header). x .user) (s .pre .0));
-      general = general-header v h (s .pre .0);
+          sent-names v (omega (arith, s .pre .inside)) _ _ (h .standard) (h .user) (k .before .with-sent .ensures) (k .with-sent2 .ensures)
+          (ap (λ (x : Header). x .standard) (s .pre .header)) (ap (λ (x : Header). x .user) (s .pre .header));
+      general = general-header v h (s .pre .header);
       start = omega (arith, length-byte v (2 + h .standard + h .user) e);
     }
 

@@ -50,7 +50,7 @@ no-tlv-requires-2 : tie.Need-no-tlv-requires-2
 no-tlv-requires-2 c κs = search needs
 
 returns-2 : tie.Need-returns-2
-returns-2 c = 
+returns-2 c =
     let v = c .before .before .before .before in
     λ at. says-nothing _ _ _ (unread-words at _ _ _ (omega arith) (after-is _ (whole v .0)) (sym (header-l _ _ (c .before .before .read-header .ensures .0)) ∙ c .before .if2 .taken)) (c .no-tlv2 .ensures)
 
@@ -61,17 +61,22 @@ no-tlv-requires-3 : tie.Need-no-tlv-requires-3
 no-tlv-requires-3 c κs = search needs
 
 returns-3 : tie.Need-returns-3
-returns-3 c = 
+returns-3 c =
     let v = c .before .before .before .before .before .before in
     λ at. says-nothing _ _ _ (dead-words at _ _ _ _ (omega arith) (after-is _ (whole v .0)) (c .before .before .live-srlg .ensures at) (not-true _ (c .before .if3 .taken))) (c .no-tlv3 .ensures)
 
 live-tlv-requires : tie.Need-live-tlv-requires
-live-tlv-requires c κs = 
+live-tlv-requires c κs =
     let s = c .before .before .before .before .before .before .before in
-    (c .before .before .before .read-header .ensures .0, short c, within c, omega (arith, s .pre .1, behind-few (now (s .args .value))))
+    record {
+      header = c .before .before .before .read-header .ensures .0;
+      masks = short c;
+      inside = within c;
+      size = omega (arith, s .pre .1, behind-few (now (s .args .value)));
+    }
 
 returns-4 : tie.Need-returns-4
-returns-4 c = 
+returns-4 c =
     let e = c .before in
     let v = e .before .before .before .before .before in
     let h = e .before .before .before .read-header .ensures .0 in
@@ -79,8 +84,8 @@ returns-4 c =
     let (o, ok) = v .before .before .pre .0 in
     let long = behind-long o _ _ ok (omega arith) (whole v .0) (sym (e .before .live-srlg .ensures o) ∙ live) in
     λ at.
-        says-live at _ _ _ (omega arith) (after-is _ (whole v .0)) _ (e .before .live-srlg .ensures at) live (sym (header-l _ _ h) ∙ e .before .before .if2 .left) _ (within e) long
-        (omega (arith, whole v .0)) (c .live-tlv .ensures)
+    says-live at _ _ _ (omega arith) (after-is _ (whole v .0)) _ (e .before .live-srlg .ensures at) live (sym (header-l _ _ h) ∙ e .before .before .if2 .left) _ (within e) long
+    (omega (arith, whole v .0)) (c .live-tlv .ensures)
 
 pub read-tlv-spec : {M : Type 1} → statement M
 read-tlv-spec =
