@@ -1,13 +1,13 @@
 -- The keys and sources of run B, TLV by TLV: one law for each way that a turn can go. Assumes nothing.
 use mathlib.Core.Path.{_≡_, refl, sym, ap, ap₂, _∙_}
-use mathlib.Core.Bool.{Bool, true, false, cond, _&&_, _||_, or-assoc, or-false, or-true, and-false, false≢true}
+use mathlib.Core.Bool.{Bool, true, false, cond, _&&_, _||_, or-false, and-false, false≢true}
 use mathlib.Core.List.{List, [], _∷_, _++_, map, append-assoc, append-nil}
-use Prim.Native.Nat.{ℕ, zero, suc, _+_, _*_, _/_, _%_, _≤_, _<_}
+use Prim.Native.Nat.{ℕ, _+_, _*_, _/_, _%_, _≤_, _<_}
 use native.Mathlib.Omega.{arith}
-use borrow.Author.Tests.{eq-eqb, ne-eqb, lt-ltb, le-ltb, ltb-true, ltb-false}
+use borrow.Author.Tests.{eq-eqb, ne-eqb, lt-ltb, le-ltb}
 use lib.Dec.{eqb, ltb}
 use lib.Bits.{bitOr}
-use lib.ListN.{length, getD, set, take, replicate, getD-replicate, length-take, length-set, length-append, length-replicate}
+use lib.ListN.{length, getD, set, take, replicate, getD-replicate, length-take, length-set, length-append}
 use lib.Seq.{getD-set-same, getD-set-other}
 use Rattle.linkstate.specs.Lists.{put, each, all, any, keep, numbers, member}
 use Rattle.linkstate.specs.Replies.{accepted, runB}
@@ -21,7 +21,7 @@ use Rattle.octets.proofs.Laws.{put-nil, put-then, front-is}
 use Rattle.masks.specs.Sets.{turnedPlace}
 use Rattle.masks.proofs.Steps.{zero-none}
 use Rattle.naming.specs.declared.Names.{Names}
-use Rattle.naming.specs.Names.{inBoth, Tells}
+use Rattle.naming.specs.Names.{inBoth}
 use Rattle.naming.proofs.Laws.{side-flagged, in-none}
 use Rattle.srlg.proofs.Laws.{Order, less, more, same, order}
 use Rattle.srlg_ranks.specs.Ranks.{inWords}
@@ -31,7 +31,7 @@ use Rattle.key_sort.specs.Keys.{group}
 use Rattle.srlg_sources.specs.declared.Keys.{Keys}
 use Rattle.srlg_sources.specs.Sources.{Small, keyOf, inRows, numbersOf, sourceRow, Ordered}
 use Rattle.srlg_sources.proofs.Joins.{any-same, any-none, any-some, any-out}
-use Rattle.srlg_sources.proofs.Marks.{At, here, there, at-row, length-keys}
+use Rattle.srlg_sources.proofs.Marks.{length-keys}
 use Rattle.srlg_sources.proofs.Keying.{numbers-append, numbers-own, numbers-beyond, all-append, all-more, rows-more, own-rows}
 use Rattle.srlg_blocks.specs.Blocks.{namedBy, naming}
 use Rattle.srlg_blocks.proofs.Sizes.{low-bit}

@@ -2,13 +2,13 @@
 use mathlib.Core.Path.{_≡_, refl, sym, ap, _∙_}
 use mathlib.Core.Bool.{Bool, true, false, cond, _&&_, _||_, not, false≢true}
 use mathlib.Core.List.{List, [], _∷_}
-use Prim.Native.Nat.{ℕ, _+_, _-_, _≤_, _<_}
+use Prim.Native.Nat.{ℕ, _+_, _-_, _≤_}
 use native.Mathlib.Omega.{arith}
 use borrow.Author.Tests.{eqb-true}
 use lib.Dec.{eqb}
 use lib.ListN.{length, drop, take, length-drop, length-take}
 use Rattle.linkstate.specs.Lists.{any}
-use Rattle.linkstate.specs.Replies.{Verdict, accepted, fault, _then_, runB}
+use Rattle.linkstate.specs.Replies.{accepted, fault, _then_, runB}
 use Rattle.linkstate.specs.Elements.{Element, element, cut, sizeOf, lengthOf, elements, faults}
 use Rattle.linkstate.proofs.ElementLaws.{Framed, done, short, step, framed, value-length}
 use Rattle.linkstate.proofs.ListLaws.{and-l, and-r}

@@ -34,7 +34,7 @@ use Rattle.isis_tlvs_238.specs.declared.Which.the-variants.{Naming, General}
 use Rattle.isis_tlvs_238.specs.Selected.{selects, wordsIn}
 use Rattle.isis_tlvs_238.proofs.Tlvs as tlv
 use Rattle.isis_srlg_index.specs.declared.Tlv.{Tlv}
-use Rattle.isis_srlg_index.specs.Sources.{leastValue, noTlv, Lives, Says, Adds, nothing, generals, source}
+use Rattle.isis_srlg_index.specs.Sources.{noTlv, Lives, Says, Adds, nothing, generals, source}
 
 -- ---- nothing
 

@@ -1,5 +1,5 @@
 -- `isis_srlg_index::gather_b` meets its contract: TLV by TLV. Assumes nothing.
-use Prim.Native.Nat.{ℕ, _+_, _*_, _-_, _≤_, _<_}
+use Prim.Native.Nat.{_+_, _*_, _-_, _≤_, _<_}
 use mathlib.Core.Path.{_≡_, refl, _∙_}
 use denote.Ref.{now}
 use native.Mathlib.Omega.{arith}
@@ -12,7 +12,6 @@ use Rattle.isis_check_a.proofs.Laws.{part-length}
 use Rattle.isis_tlvs_238.proofs.Walks.{inside, rest-ok, value-passed, valueAt}
 use Rattle.isis_srlg_index.specs.Sources.{Gathering}
 use Rattle.isis_srlg_index.proofs.Gathers.{gathering-start, gathering-next, gathering-end}
-use borrow.Author.Needs.{needs}
 use Rattle.isis_srlg_index.proofs.gather_b.Statement.{statement}
 use Rattle.isis_srlg_index.proofs.gather_b.Tie as tie
 

@@ -1,6 +1,4 @@
 -- `isis_srlg_index::index_srlgs` meets its contract: the keys are gathered, and ordered. Assumes nothing.
-use mathlib.Core.Path.{_≡_}
-use denote.Ref.{now}
 use native.Mathlib.Omega.{arith}
 use Rattle.isis_srlg_index.proofs.Gathers.{low-rows, indexes}
 use borrow.Author.Needs.{needs}

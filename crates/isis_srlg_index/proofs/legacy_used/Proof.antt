@@ -2,7 +2,7 @@
 use mathlib.Core.Path.{sym}
 use mathlib.Core.Bool.{false≢true}
 use native.Mathlib.Omega.{arith}
-use borrow.Author.Tests.{not-true, not-false}
+use borrow.Author.Tests.{not-false}
 use Rattle.isis_srlg_index.proofs.Gathers.{nobody-flagged}
 use borrow.Author.Needs.{needs}
 use Rattle.isis_srlg_index.proofs.legacy_used.Statement.{statement}

@@ -1,13 +1,12 @@
 -- `isis_srlg_index::live_tlv` meets its contract. Assumes nothing.
-use Prim.Native.Nat.{ℕ, _+_, _≤_}
-use mathlib.Core.Path.{_≡_, sym, ap}
+use Prim.Native.Nat.{_+_, _≤_}
+use mathlib.Core.Path.{_≡_, ap}
 use denote.Ref.{now}
 use native.Mathlib.Omega.{arith}
 use Rattle.isis.specs.MaskHeader.{headerLength}
 use Rattle.isis_check_a.specs.declared.Header.{Header}
 use Rattle.isis_check_b.proofs.SrlgLaws.{length-byte}
 use Rattle.isis_srlg_index.proofs.Said.{header-sizes, general-header, sent-names}
-use borrow.Author.Needs.{needs}
 use Rattle.isis_srlg_index.proofs.live_tlv.Statement.{statement}
 use Rattle.isis_srlg_index.proofs.live_tlv.Tie as tie
 

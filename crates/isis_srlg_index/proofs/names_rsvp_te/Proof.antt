@@ -1,6 +1,6 @@
 -- `isis_srlg_index::names_rsvp_te` meets its contract. Assumes nothing.
 use Prim.Native.Nat.{_-_, _<_}
-use mathlib.Core.Path.{_≡_, sym, _∙_}
+use mathlib.Core.Path.{sym, _∙_}
 use mathlib.Core.Bool.{false≢true}
 use denote.Ref.{now}
 use native.Mathlib.Omega.{arith}
