@@ -68,10 +68,12 @@ unfolding naming
 naming-high rows n a j h = rw (le-ltb 1 j (omega arith))
 
 -- Keys of the first two sources change nothing of what applications are named for.
-pub carried-low : (rows : List (List ℕ)) (n s : ℕ) (K ws : List ℕ) → s ≤ 1 → Small ws → (a v : ℕ) → carried rows n (K ++ map (keyOf s) ws) a v ≡ carried rows n K a v
+pub carried-low : (rows : List (List ℕ)) (n s : ℕ) (K ws : List ℕ) → s ≤ 1 → Small ws → (a v : ℕ)
+    → carried rows n (K ++ map (keyOf s) ws) a v ≡ carried rows n K a v
 unfolding carried
 carried-low rows n s K ws h small a v =
-    any-same (λ j. naming rows n a j && member v (numbersOf j (K ++ map (keyOf s) ws))) (λ j. naming rows n a j && member v (numbersOf j K)) 128 (λ j l. go j (order j 1))
+    any-same (λ j. naming rows n a j && member v (numbersOf j (K ++ map (keyOf s) ws))) (λ j. naming rows n a j && member v (numbersOf j K)) 128
+    (λ j l. go j (order j 1))
   where
     go : (j : ℕ) → Order j 1 → naming rows n a j && member v (numbersOf j (K ++ map (keyOf s) ws)) ≡ naming rows n a j && member v (numbersOf j K)
     go j (more q) = ap (λ (l : List ℕ). naming rows n a j && member v l) (other-numbers j s K ws small (λ e. omega arith))
@@ -87,7 +89,11 @@ row-size s u = length-set (set (replicate 18 0) 16 s) 17 u ∙ length-set (repli
 row-blank : (s u i : ℕ) → i < 1024 → inWords (sourceRow s u) i ≡ false
 unfolding sourceRow inWords
 row-blank s u i h =
-    rw (getD-set-other (set (replicate 18 0) 16 s) 17 (i / 64) u 0 (λ e. omega arith), getD-set-other (replicate 18 0) 16 (i / 64) s 0 (λ e. omega arith), getD-replicate {A = ℕ} 18 (i / 64) 0 0 (omega arith))
+    rw (
+      getD-set-other (set (replicate 18 0) 16 s) 17 (i / 64) u 0 (λ e. omega arith),
+      getD-set-other (replicate 18 0) 16 (i / 64) s 0 (λ e. omega arith),
+      getD-replicate {A = ℕ} 18 (i / 64) 0 0 (omega arith),
+    )
     (zero-none (i % 64))
 
 module _ (rows : List (List ℕ)) (n s u : ℕ) (high : 1 < n) (low : n < 128) (room : n < length rows) where
@@ -133,14 +139,16 @@ module _ (rows : List (List ℕ)) (n s u : ℕ) (high : 1 < n) (low : n < 128) (
   unfolding naming
   naming-not a = rw (le-ltb n n (omega arith)) (and-false (ltb 1 n))
 
-  pub carried-more : (K ws : List ℕ) → Small ws → all (inRows n) K ≡ true → (a v : ℕ) → carried after (n + 1) (K ++ map (keyOf n) ws) a v ≡ (inWords (s ∷ u ∷ []) a && member v ws) || carried rows n K a v
+  pub carried-more : (K ws : List ℕ) → Small ws → all (inRows n) K ≡ true → (a v : ℕ)
+      → carried after (n + 1) (K ++ map (keyOf n) ws) a v ≡ (inWords (s ∷ u ∷ []) a && member v ws) || carried rows n K a v
   unfolding carried
   carried-more K ws small inside a v =
       any-out (λ j. naming after (n + 1) a j && member v (numbersOf j (K ++ map (keyOf n) ws))) (λ j. naming rows n a j && member v (numbersOf j K)) 128 n low
       (λ j l e. sym (ap₂ (λ (x y : Bool). x && y) (naming-old a j e) (ap (member v) (other-numbers j n K ws small (λ f. e (sym f))))))
       (ap (λ (b : Bool). b && member v (numbersOf n K)) (naming-not a))
       ∙ ap (λ (b : Bool). b || any (λ j. naming rows n a j && member v (numbersOf j K)) (numbers 0 128))
-      (ap₂ (λ (x y : Bool). x && y) (naming-new a) (ap (member v) (own-numbers n K ws small ∙ ap (λ (l : List ℕ). l ++ ws) (numbers-beyond n n K (omega arith) inside))))
+      (ap₂ (λ (x y : Bool). x && y) (naming-new a)
+      (ap (member v) (own-numbers n K ws small ∙ ap (λ (l : List ℕ). l ++ ws) (numbers-beyond n n K (omega arith) inside))))
 
 -- ---- a turn
 
@@ -159,7 +167,8 @@ swap true true z = refl
 swap true false z = refl
 swap false y z = refl
 
-module _ (b : List ℕ) (at : ℕ) (keys₀ keys : List ℕ) (rows : List (List ℕ)) (k : Keys) (so : Gathering b at keys₀ keys rows k) (inside : at < length b) (ok : faults runB checkB (left 1 0 b at) ≡ accepted)
+module _ (b : List ℕ) (at : ℕ) (keys₀ keys : List ℕ) (rows : List (List ℕ)) (k : Keys) (so : Gathering b at keys₀ keys rows k) (inside : at < length b)
+    (ok : faults runB checkB (left 1 0 b at) ≡ accepted)
     (low : k .sources < 128) (next : ℕ) (is : next ≡ at + 2 + getD b (at + 1) 0) where
   abbrev K : List ℕ
   K = so .written
@@ -170,7 +179,8 @@ module _ (b : List ℕ) (at : ℕ) (keys₀ keys : List ℕ) (rows : List (List 
   none-step : (w : Which) → wordsIn w (tlvAt b at) ≡ [] → each (wordsIn w) (left 1 0 b next) ≡ each (wordsIn w) (left 1 0 b at)
   none-step w e = sym (step w ∙ ap (λ (l : List ℕ). l ++ each (wordsIn w) (left 1 0 b next)) e)
 
-  pub gathering-next : (r : Keys) (keys′ : List ℕ) (rows′ : List (List ℕ)) → r .count ≤ length keys₀ → 27 * r .sources ≤ 54 + next → (k .sources + 1 ≤ r .sources → k .sources < length rows)
+  pub gathering-next : (r : Keys) (keys′ : List ℕ) (rows′ : List (List ℕ)) → r .count ≤ length keys₀ → 27 * r .sources ≤ 54 + next
+      → (k .sources + 1 ≤ r .sources → k .sources < length rows)
       → Adds (tlvAt b at) keys rows k r keys′ rows′ → Gathering b next keys₀ keys′ rows′ r
   gathering-next r keys′ rows′ fits few room (nothing no-names no-general e f g) =
       rw (e, f, g)
@@ -185,7 +195,8 @@ module _ (b : List ℕ) (at : ℕ) (keys₀ keys : List ℕ) (rows : List (List 
         none = so .none;
         filled = so .filled;
         general = ap (λ (l : List ℕ). numbersOf 1 K ++ l) (none-step General no-general) ∙ so .general;
-        naming = λ a v h. ap (λ (l : List ℕ). carried rows (k .sources) K (turnedPlace a) v || member v l) (none-step (Naming a) (no-names a)) ∙ so .naming a v h;
+        naming = λ a v h. ap (λ (l : List ℕ). carried rows (k .sources) K (turnedPlace a) v || member v l) (none-step (Naming a) (no-names a))
+            ∙ so .naming a v h;
       }
   gathering-next r keys′ rows′ fits few room (generals no-names small count e f g) =
       let ws = wordsIn General (tlvAt b at) in
@@ -201,10 +212,12 @@ module _ (b : List ℕ) (at : ℕ) (keys₀ keys : List ℕ) (rows : List (List 
         blank = rw (e, g) (so .blank);
         none = other-numbers 0 1 K ws small (λ z. omega arith) ∙ so .none;
         filled = λ j h l. let (v, m) = so .filled j h (omega arith) in (v, still-member v j 1 K ws small m);
-        general = ap (λ (l : List ℕ). l ++ each (wordsIn General) (left 1 0 b next)) (own-numbers 1 K ws small) ∙ append-assoc (numbersOf 1 K) ws (each (wordsIn General) (left 1 0 b next))
+        general = ap (λ (l : List ℕ). l ++ each (wordsIn General) (left 1 0 b next)) (own-numbers 1 K ws small)
+            ∙ append-assoc (numbersOf 1 K) ws (each (wordsIn General) (left 1 0 b next))
             ∙ ap (λ (l : List ℕ). numbersOf 1 K ++ l) (sym (step General)) ∙ so .general;
         naming = λ a v h.
-            ap₂ (λ (x y : Bool). x || y) (ap₂ (λ (q : List (List ℕ)) (n : ℕ). carried q n (K ++ added) (turnedPlace a) v) g e ∙ carried-low rows (k .sources) 1 K ws (omega arith) small (turnedPlace a) v)
+            ap₂ (λ (x y : Bool). x || y) (ap₂ (λ (q : List (List ℕ)) (n : ℕ). carried q n (K ++ added) (turnedPlace a) v) g e
+            ∙ carried-low rows (k .sources) 1 K ws (omega arith) small (turnedPlace a) v)
             (ap (member v) (none-step (Naming a) (no-names a))) ∙ so .naming a v h;
       }
   gathering-next r keys′ rows′ fits few room (source s u ws some small named no-general count e f g) =
@@ -217,15 +230,19 @@ module _ (b : List ℕ) (at : ℕ) (keys₀ keys : List ℕ) (rows : List (List 
         count = omega (arith, count, so .count, length-append K added, length-keys n ws);
         list = put-then keys₀ keys keys′ 0 K (k .count) added (so .list) f (omega (arith, so .count)) (omega (arith, count, length-keys n ws));
         few = (omega arith, few);
-        low = rw e (all-append (inRows (n + 1)) K added (all-more (inRows n) (inRows (n + 1)) K (λ x. rows-more n (n + 1) x (omega arith)) (so .low)) (own-rows n (n + 1) ws (omega arith) small));
+        low = rw e (all-append (inRows (n + 1)) K added (all-more (inRows n) (inRows (n + 1)) K (λ x. rows-more n (n + 1) x (omega arith)) (so .low))
+            (own-rows n (n + 1) ws (omega arith) small));
         wide = rw (e, g) (wide-more rows n s u (omega arith) low l (so .wide));
         blank = rw (e, g) (blank-more rows n s u (omega arith) low l (so .blank));
         none = other-numbers 0 n K ws small (λ z. omega arith) ∙ so .none;
         filled = λ j h p. filled-at j h (order j n) (rw e at p);
-        general = ap (λ (l : List ℕ). l ++ each (wordsIn General) (left 1 0 b next)) (other-numbers 1 n K ws small (λ z. omega arith)) ∙ ap (λ (l : List ℕ). numbersOf 1 K ++ l) (none-step General no-general) ∙ so .general;
+        general = ap (λ (l : List ℕ). l ++ each (wordsIn General) (left 1 0 b next)) (other-numbers 1 n K ws small (λ z. omega arith))
+            ∙ ap (λ (l : List ℕ). numbersOf 1 K ++ l) (none-step General no-general) ∙ so .general;
         naming = λ a v h.
-            ap₂ (λ (x y : Bool). x || y) (ap₂ (λ (q : List (List ℕ)) (m : ℕ). carried q m (K ++ added) (turnedPlace a) v) g e ∙ carried-more rows n s u (omega arith) low l K ws small (so .low) (turnedPlace a) v) refl
-            ∙ swap (inWords (s ∷ u ∷ []) (turnedPlace a) && member v ws) (carried rows n K (turnedPlace a) v) (member v (each (wordsIn (Naming a)) (left 1 0 b next)))
+            ap₂ (λ (x y : Bool). x || y) (ap₂ (λ (q : List (List ℕ)) (m : ℕ). carried q m (K ++ added) (turnedPlace a) v) g e
+            ∙ carried-more rows n s u (omega arith) low l K ws small (so .low) (turnedPlace a) v) refl
+            ∙ swap (inWords (s ∷ u ∷ []) (turnedPlace a) && member v ws) (carried rows n K (turnedPlace a) v)
+            (member v (each (wordsIn (Naming a)) (left 1 0 b next)))
             ∙ ap (λ (x : Bool). carried rows n K (turnedPlace a) v || x)
             (ap (λ (x : Bool). (x && member v ws) || member v (each (wordsIn (Naming a)) (left 1 0 b next))) (sym (both-words s u a h))
             ∙ sym (ap (member v) (step (Naming a)) ∙ member-append v (wordsIn (Naming a) (tlvAt b at)) (each (wordsIn (Naming a)) (left 1 0 b next))
@@ -240,7 +257,8 @@ module _ (b : List ℕ) (at : ℕ) (keys₀ keys : List ℕ) (rows : List (List 
           let (v, m) = first-member ws some in (
             v,
             ap (λ (i : ℕ). member v (numbersOf i (K ++ map (keyOf (k .sources)) ws))) q
-                ∙ ap (member v) (own-numbers (k .sources) K ws small ∙ ap (λ (l : List ℕ). l ++ ws) (numbers-beyond (k .sources) (k .sources) K (omega arith) (so .low))) ∙ m,
+                ∙ ap (member v) (own-numbers (k .sources) K ws small
+                ∙ ap (λ (l : List ℕ). l ++ ws) (numbers-beyond (k .sources) (k .sources) K (omega arith) (so .low))) ∙ m,
           )
 
 -- ---- before the first TLV
@@ -258,9 +276,11 @@ no-numbers j = refl
 
 none-carried : (rows : List (List ℕ)) (n a v : ℕ) → carried rows n [] a v ≡ false
 unfolding carried member
-none-carried rows n a v = any-none (λ j. naming rows n a j && member v (numbersOf j [])) 128 (λ j h. ap (λ (l : List ℕ). naming rows n a j && member v l) (no-numbers j) ∙ and-false (naming rows n a j))
+none-carried rows n a v = any-none (λ j. naming rows n a j && member v (numbersOf j [])) 128
+    (λ j h. ap (λ (l : List ℕ). naming rows n a j && member v l) (no-numbers j) ∙ and-false (naming rows n a j))
 
-pub gathering-start : (b keys : List ℕ) (rows : List (List ℕ)) (k : Keys) → 2 ≤ length rows → k .count ≡ 0 → k .sources ≡ 2 → Gathering b 0 keys keys (set (set rows 0 blank-row) 1 blank-row) k
+pub gathering-start : (b keys : List ℕ) (rows : List (List ℕ)) (k : Keys) → 2 ≤ length rows → k .count ≡ 0 → k .sources ≡ 2
+    → Gathering b 0 keys keys (set (set rows 0 blank-row) 1 blank-row) k
 unfolding all
 gathering-start b keys rows k room count sources =
     record {
@@ -274,7 +294,8 @@ gathering-start b keys rows k room count sources =
       none = no-numbers 0;
       filled = λ j h l. absurd (omega arith);
       general = ap (λ (l : List ℕ). l ++ each (wordsIn General) (elements 1 0 b)) (no-numbers 1);
-      naming = λ a v h. ap (λ (x : Bool). x || member v (each (wordsIn (Naming a)) (elements 1 0 b))) (none-carried (set (set rows 0 blank-row) 1 blank-row) (k .sources) (turnedPlace a) v);
+      naming = λ a v h. ap (λ (x : Bool). x || member v (each (wordsIn (Naming a)) (elements 1 0 b)))
+          (none-carried (set (set rows 0 blank-row) 1 blank-row) (k .sources) (turnedPlace a) v);
     }
   where
     at : (j : ℕ) → j < 2 → getD (set (set rows 0 blank-row) 1 blank-row) j [] ≡ blank-row
@@ -283,17 +304,21 @@ gathering-start b keys rows k room count sources =
         go : Order j 1 → getD (set (set rows 0 blank-row) 1 blank-row) j [] ≡ blank-row
         go (less q) =
             let z : j ≡ 0 = omega arith in
-            getD-set-other (set rows 0 blank-row) 1 j blank-row [] (λ e. omega arith) ∙ ap (λ (i : ℕ). getD (set rows 0 blank-row) i []) z ∙ getD-set-same rows 0 blank-row [] (omega arith)
+            getD-set-other (set rows 0 blank-row) 1 j blank-row [] (λ e. omega arith) ∙ ap (λ (i : ℕ). getD (set rows 0 blank-row) i []) z
+            ∙ getD-set-same rows 0 blank-row [] (omega arith)
         go (more q) = absurd (omega arith)
-        go (same e) = ap (λ (i : ℕ). getD (set (set rows 0 blank-row) 1 blank-row) i []) e ∙ getD-set-same (set rows 0 blank-row) 1 blank-row [] (omega (arith, length-set rows 0 blank-row))
+        go (same e) = ap (λ (i : ℕ). getD (set (set rows 0 blank-row) 1 blank-row) i []) e
+            ∙ getD-set-same (set rows 0 blank-row) 1 blank-row [] (omega (arith, length-set rows 0 blank-row))
 
 -- ---- all of run B, and run C
 
-pub gathering-end : (b : List ℕ) (at : ℕ) (keys₀ keys : List ℕ) (rows : List (List ℕ)) (k : Keys) → at ≡ length b → Gathering b at keys₀ keys rows k → Gathering b (length b) keys₀ keys rows k
+pub gathering-end : (b : List ℕ) (at : ℕ) (keys₀ keys : List ℕ) (rows : List (List ℕ)) (k : Keys) → at ≡ length b → Gathering b at keys₀ keys rows k
+    → Gathering b (length b) keys₀ keys rows k
 gathering-end b at keys₀ keys rows k e so = rw e at so
 
 -- A source that names RSVP-TE and has a number gives it to RSVP-TE.
-named-carried : (rows : List (List ℕ)) (n : ℕ) (K : List ℕ) (j v : ℕ) → 1 < j → j < n → n ≤ 128 → namedBy rows j 7 ≡ true → member v (numbersOf j K) ≡ true → carried rows n K (turnedPlace 0) v ≡ true
+named-carried : (rows : List (List ℕ)) (n : ℕ) (K : List ℕ) (j v : ℕ) → 1 < j → j < n → n ≤ 128 → namedBy rows j 7 ≡ true → member v (numbersOf j K) ≡ true
+    → carried rows n K (turnedPlace 0) v ≡ true
 unfolding carried naming turnedPlace
 named-carried rows n K j v h l m e f =
     any-some (λ j. ltb 1 j && (ltb j n && namedBy rows j 7) && member v (numbersOf j K)) 128 j (omega arith) (rw (lt-ltb 1 j h, lt-ltb j n l, e, f))
@@ -306,7 +331,8 @@ legacy-words : (b c : List ℕ) (v : ℕ) → member v (words c) ≡ member v (s
 unfolding sideB srlgs srlgWords
 legacy-words b c v = sym (member-distinct v (srlgWords (srlgAttribute 0 c ∷ [])) ∙ ap (member v) (words-one 0 c))
 
-module _ (b c : List ℕ) (named : Names) (keys₀ keys : List ℕ) (rows : List (List ℕ)) (k : Keys) (is : Legacy b c named keys₀ keys rows k) (room : k .sources ≤ length rows) where
+module _ (b c : List ℕ) (named : Names) (keys₀ keys : List ℕ) (rows : List (List ℕ)) (k : Keys) (is : Legacy b c named keys₀ keys rows k)
+    (room : k .sources ≤ length rows) where
   abbrev so : Gathering b (length b) keys₀ keys rows k
   so = is .gathered
 
@@ -321,7 +347,8 @@ module _ (b c : List ℕ) (named : Names) (keys₀ keys : List ℕ) (rows : List
   general-all : (v : ℕ) → member v (numbersOf 1 K′) ≡ member v (srlgs (generalSet (sideB b c)))
   unfolding generalSet selects
   general-all v =
-      ap (member v) (sym (append-nil (numbersOf 1 K′)) ∙ ap (λ (l : List ℕ). numbersOf 1 K′ ++ l) (sym (none-left b (length b) (omega arith) (wordsIn General))) ∙ so .general) ∙ all-words General v
+      ap (member v) (sym (append-nil (numbersOf 1 K′)) ∙ ap (λ (l : List ℕ). numbersOf 1 K′ ++ l) (sym (none-left b (length b) (omega arith) (wordsIn General)))
+      ∙ so .general) ∙ all-words General v
 
   naming-all : (a v : ℕ) → a < 128 → carried rows (k .sources) K′ (turnedPlace a) v ≡ member v (srlgs (ofLive (names a) (sideB b c)))
   unfolding selects member
@@ -355,18 +382,25 @@ module _ (b c : List ℕ) (named : Names) (keys₀ keys : List ℕ) (rows : List
       has-some e =
           let (j, h, l, m) = un .source in
           let (v, w) = so .filled j h l in
-          false≢true (sym (no-member v (srlgs (ofLive (names 0) (sideB b c))) e) ∙ sym (naming-all 0 v (omega arith)) ∙ named-carried rows (k .sources) K′ j v h l sources-few m w)
+          false≢true (sym (no-member v (srlgs (ofLive (names 0) (sideB b c))) e) ∙ sym (naming-all 0 v (omega arith))
+          ∙ named-carried rows (k .sources) K′ j v h l sources-few m w)
 
   -- with it
-  pub carried-used : (r : Keys) (keys′ : List ℕ) → r .count ≡ k .count + length (words c) → r .sources ≡ k .sources → keys′ ≡ put keys (k .count) (map (keyOf 0) (words c)) → Small (words c) → r .count ≤ length keys
+  pub carried-used : (r : Keys) (keys′ : List ℕ) → r .count ≡ k .count + length (words c) → r .sources ≡ k .sources
+      → keys′ ≡ put keys (k .count) (map (keyOf 0) (words c)) → Small (words c) → r .count ≤ length keys
       → Carried (take (r .count) keys′) rows (r .sources) (sideB b c)
   carried-used r keys′ e f g small fits =
       let ws = words c in
       let added = map (keyOf 0) ws in
       let two = so .few .0 in
       let same = is .size in
-      let whole : keys′ ≡ put keys₀ 0 (K′ ++ added) = put-then keys₀ keys keys′ 0 K′ (k .count) added (so .list) g (omega (arith, so .count)) (omega (arith, length-keys 0 ws)) in
-      rw (front (K′ ++ added) keys′ (r .count) (omega (arith, so .count, length-append K′ added, length-keys 0 ws)) whole (omega (arith, so .count, length-append K′ added, length-keys 0 ws)), f)
+      let whole : keys′ ≡ put keys₀ 0 (K′ ++ added) = put-then keys₀ keys keys′ 0 K′ (k .count) added (so .list) g (omega (arith, so .count))
+      (omega (arith, length-keys 0 ws)) in
+      rw (
+        front (K′ ++ added) keys′ (r .count) (omega (arith, so .count, length-append K′ added, length-keys 0 ws)) whole
+            (omega (arith, so .count, length-append K′ added, length-keys 0 ws)),
+        f,
+      )
       record {
         few = (so .few .0, sources-few, room);
         low = all-append (inRows (k .sources)) K′ added (so .low) (own-rows 0 (k .sources) ws (omega arith) small);

@@ -14,7 +14,8 @@ use Rattle.linkstate.proofs.ElementLaws.{Framed, done, short, step, framed, val
 use Rattle.linkstate.proofs.ListLaws.{and-l, and-r}
 use Rattle.linkstate.proofs.WalkLaws.{then-first, then-second, not-accepted}
 use Rattle.isis.specs.MaskHeader.{headerLength, maskTooLong, lForNobody}
-use Rattle.isis.specs.RunB.{identifier, knownIdentifiers, checkIdentifier, isOfType, identifies, repeats, identifiers, identifierBytes, ignored, liveSrlg, afterNeighbour, checkB}
+use Rattle.isis.specs.RunB.{identifier, knownIdentifiers, checkIdentifier, isOfType, identifies, repeats, identifiers}
+use Rattle.isis.specs.RunB.{identifierBytes, ignored, liveSrlg, afterNeighbour, checkB}
 use Rattle.isis_check_b.specs.Parts.{partsVerdict}
 use Rattle.isis_check_b.proofs.SrlgLaws.{behind, srlg-parts, tlv-srlg}
 use Rattle.isis_tlvs_238.proofs.Tlvs.{whole, after-is}
@@ -99,12 +100,14 @@ identified : (es : List Element) → Passed es → identifies es ≡ true → 10
 unfolding identifies
 identified es ok h = go (any (isOfType 4) es) refl (any (isOfType 6) es && any (isOfType 8) es) refl h
   where
-    go : (a : Bool) → any (isOfType 4) es ≡ a → (b : Bool) → any (isOfType 6) es && any (isOfType 8) es ≡ b → a || b || (any (isOfType 12) es && any (isOfType 13) es) ≡ true → 10 ≤ bytes es
+    go : (a : Bool) → any (isOfType 4) es ≡ a → (b : Bool) → any (isOfType 6) es && any (isOfType 8) es ≡ b
+        → a || b || (any (isOfType 12) es && any (isOfType 13) es) ≡ true → 10 ≤ bytes es
     go true e b f g = one-bytes 4 8 sized-4 es ok e
     go false e true f g =
         omega (
           arith,
-          two-bytes 6 4 8 4 sized-6 sized-8 (λ z. omega arith) es ok (and-l (any (isOfType 6) es) (any (isOfType 8) es) f) (and-r (any (isOfType 6) es) (any (isOfType 8) es) f),
+          two-bytes 6 4 8 4 sized-6 sized-8 (λ z. omega arith) es ok (and-l (any (isOfType 6) es) (any (isOfType 8) es) f)
+              (and-r (any (isOfType 6) es) (any (isOfType 8) es) f),
         )
     go false e false f g = omega (arith, one-bytes 12 16 sized-12 es ok (and-l (any (isOfType 12) es) (any (isOfType 13) es) g))
 
@@ -121,7 +124,8 @@ identifying false true c e = absurd (false≢true (sym e))
 identifying false false true e = refl
 identifying false false false e = absurd (false≢true (sym e))
 
-identifiers-long : (at t : ℕ) (value : List ℕ) → checkB at t value ≡ accepted → t ≡ 238 → liveSrlg at (afterNeighbour value) ≡ true → 10 ≤ identifierBytes (afterNeighbour value)
+identifiers-long : (at t : ℕ) (value : List ℕ) → checkB at t value ≡ accepted → t ≡ 238 → liveSrlg at (afterNeighbour value) ≡ true
+    → 10 ≤ identifierBytes (afterNeighbour value)
 unfolding identifiers liveSrlg ignored partsVerdict
 identifiers-long at t value ok is live =
     let v = afterNeighbour value in
@@ -131,10 +135,12 @@ identifiers-long at t value ok is live =
     let parts : partsVerdict at v ≡ accepted = srlg-parts at value v nine m (omega arith) inside ∙ tlv-srlg at t value is ∙ ok in
     let s = take (identifierBytes v) (drop (headerLength v + 1) v) in
     let few = framed-bytes (framed 1 (omega arith) (at + 2 + 7 + headerLength v + 1) s) in
-    let long = identified (identifiers at v) (then-first _ _ parts) (identifying (lForNobody v) (repeats (identifiers at v)) (identifies (identifiers at v)) i) in
+    let long = identified (identifiers at v) (then-first _ _ parts)
+    (identifying (lForNobody v) (repeats (identifiers at v)) (identifies (identifiers at v)) i) in
     omega (arith, length-take (identifierBytes v) (drop (headerLength v + 1) v))
 
-pub behind-long : (at t : ℕ) (value : List ℕ) → checkB at t value ≡ accepted → t ≡ 238 → 9 ≤ length value → liveSrlg at (behind value) ≡ true → 10 ≤ identifierBytes (behind value)
+pub behind-long : (at t : ℕ) (value : List ℕ) → checkB at t value ≡ accepted → t ≡ 238 → 9 ≤ length value → liveSrlg at (behind value) ≡ true
+    → 10 ≤ identifierBytes (behind value)
 behind-long at t value ok is nine live = rw (after-is value nine) (identifiers-long at t value ok is (rw (after-is value nine) at live))
 
 pub behind-few : (value : List ℕ) → length (behind value) ≤ length value

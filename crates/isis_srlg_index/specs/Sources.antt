@@ -77,7 +77,8 @@ pub data Adds (e : Element) (keys : List ℕ) (rows : List (List ℕ)) (k : Keys
   generals : ((n : ℕ) → wordsIn (Naming n) e ≡ []) → Small (wordsIn General e) → r .count ≡ k .count + length (wordsIn General e) → r .sources ≡ k .sources
       → keys′ ≡ put keys (k .count) (map (keyOf 1) (wordsIn General e)) → rows′ ≡ rows → Adds e keys rows k r keys′ rows′
   source : (s u : ℕ) (ws : List ℕ) → 0 < length ws → Small ws → ((n : ℕ) → wordsIn (Naming n) e ≡ cond (inBoth s u n) ws []) → wordsIn General e ≡ []
-      → r .count ≡ k .count + length ws → r .sources ≡ k .sources + 1 → keys′ ≡ put keys (k .count) (map (keyOf (k .sources)) ws) → rows′ ≡ set rows (k .sources) (sourceRow s u)
+      → r .count ≡ k .count + length ws → r .sources ≡ k .sources + 1 → keys′ ≡ put keys (k .count) (map (keyOf (k .sources)) ws)
+      → rows′ ≡ set rows (k .sources) (sourceRow s u)
       → Adds e keys rows k r keys′ rows′
 
 -- The keys and sources of the TLVs before an offset: with the numbers of what is left there, they are those of all.
@@ -93,7 +94,8 @@ pub record Gathering (b : List ℕ) (at : ℕ) (keys₀ keys : List ℕ) (rows :
   pub filled : (j : ℕ) → 1 < j → j < k .sources → (v : ℕ) × (member v (numbersOf j written) ≡ true)
   pub general : numbersOf 1 written ++ each (wordsIn General) (left 1 0 b at) ≡ each (wordsIn General) (elements 1 0 b)
   pub naming : (a v : ℕ) → a < 128
-      → carried rows (k .sources) written (turnedPlace a) v || member v (each (wordsIn (Naming a)) (left 1 0 b at)) ≡ member v (each (wordsIn (Naming a)) (elements 1 0 b))
+      → carried rows (k .sources) written (turnedPlace a) v || member v (each (wordsIn (Naming a)) (left 1 0 b at))
+      ≡ member v (each (wordsIn (Naming a)) (elements 1 0 b))
 
 -- All of run B.
 abbrev pub Gathered : List ℕ → List ℕ → List ℕ → List (List ℕ) → Keys → Type 0

@@ -16,7 +16,8 @@ returns : tie.Need-returns
 returns c =
     let s = c .before .before .before .before in (
       λ b first l.
-          carried-unused b _ _ first _ (now (s .args .rows)) (s .args .k) l (s .pre .1) (omega (arith, s .pre .0)) (c .before .legacy-used .ensures (not-true _ (c .if1 .taken))),
+          carried-unused b _ _ first _ (now (s .args .rows)) (s .args .k) l (s .pre .1) (omega (arith, s .pre .0))
+          (c .before .legacy-used .ensures (not-true _ (c .if1 .taken))),
       omega arith,
     )
 
@@ -31,7 +32,8 @@ returns-2 c =
     let s = c .before .before .before .before .before .before .before .before in
     let w = c .before .before .add-words .ensures in
     let many = length-words (now (s .args .c)) in (
-      λ b first l. carried-used b _ _ first _ (now (s .args .rows)) (s .args .k) l (s .pre .1) _ _ (w .0 .0) refl (w .0 .1) (w .1) (omega (arith, s .pre .0, w .0 .0)),
+      λ b first l. carried-used b _ _ first _ (now (s .args .rows)) (s .args .k) l (s .pre .1) _ _ (w .0 .0) refl (w .0 .1) (w .1)
+          (omega (arith, s .pre .0, w .0 .0)),
       omega (arith, w .0 .0),
     )
 

@@ -32,7 +32,7 @@ part-add-words-end c = search needs
 add-words-requires : tie.Need-add-words-requires
 add-words-requires c κs =
     let s = c .before .before .before .before .before .before .before in
-    (omega arith, omega (arith, s .pre .numbers, part-few _ (now (s .args .value)) _ (c .before .before .before .before .read-tlv .ensures 0) (now (s .args .keys)) (now (s .args .rows)) (s .args .k)))
+    (omega arith, omega (arith, s .pre .numbers, part-few (now (s .args .value)) (c .before .before .before .before .read-tlv .result .start)))
 
 same-length : tie.Need-same-length
 same-length c = search needs
@@ -48,8 +48,11 @@ returns-2 c =
 
 returns-3 : tie.Need-returns-3
 returns-3 c =
-    let a = c .before .before .before .before .before .before .before .args in
-    (λ at. adds-nobody _ _ _ (c .before .before .before .before .read-tlv .ensures at) (now (a .keys)) (now (a .rows)) (a .k) (c .before .before .if2 .left) (c .if3 .taken), (omega arith, omega arith))
+    let a = c .before .before .before .before .before .before .before .args in (
+      λ at. adds-nobody _ _ _ (c .before .before .before .before .read-tlv .ensures at) (now (a .keys)) (now (a .rows)) (a .k) (c .before .before .if2 .left)
+          (c .if3 .taken),
+      (omega arith, omega arith),
+    )
 
 sub-add-source : tie.Need-sub-add-source
 sub-add-source c = search needs
@@ -70,7 +73,8 @@ add-source-requires : tie.Need-add-source-requires
 add-source-requires c κs =
     let e = c .before .before .before in
     let s = e .before .before .before .before .before .before .before in
-    (s .pre .few .1, s .pre .source (long e), omega (arith, s .pre .numbers, part-few _ (now (s .args .value)) _ (e .before .before .before .before .read-tlv .ensures 0) (now (s .args .keys)) (now (s .args .rows)) (s .args .k)))
+    let few = part-few (now (s .args .value)) (e .before .before .before .before .read-tlv .result .start) in
+    (s .pre .few .1, s .pre .source (long e), omega (arith, s .pre .numbers))
 
 same-length-2 : tie.Need-same-length-2
 same-length-2 c = search needs

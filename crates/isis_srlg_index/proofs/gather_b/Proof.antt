@@ -24,10 +24,12 @@ abbrev μ-loop : tie.MeasureT-loop
 μ-loop b keys₀ rows₀ k₀ at₀ keys rows k at = length b - at
 
 -- the TLV at a turn lies within b, and its value has the length that its length byte says
-within : (c : tie.In-loop Inv-loop μ-loop) → let b = now (c .before .before .before .before .args .b) in c .before .loop .at + 2 + getD b (c .before .loop .at + 1) 0 ≤ length b
+within : (c : tie.In-loop Inv-loop μ-loop)
+    → let b = now (c .before .before .before .before .args .b) in c .before .loop .at + 2 + getD b (c .before .loop .at + 1) 0 ≤ length b
 within c = inside (now (c .before .before .before .before .args .b)) (c .before .loop .at) (omega arith) (c .before .loop .inv .1)
 
-size : (c : tie.In-loop Inv-loop μ-loop) → let b = now (c .before .before .before .before .args .b) in length (valueAt b (c .before .loop .at)) ≡ getD b (c .before .loop .at + 1) 0
+size : (c : tie.In-loop Inv-loop μ-loop)
+    → let b = now (c .before .before .before .before .args .b) in length (valueAt b (c .before .loop .at)) ≡ getD b (c .before .loop .at + 1) 0
 size c = part-length (now (c .before .before .before .before .args .b)) (c .before .loop .at + 2) _ (within c)
 
 slice-set-from-none : tie.Need-slice-set-from-none Inv-loop μ-loop
@@ -38,8 +40,15 @@ slice-set-from-none-2 c = simp length-set (omega (arith, c .before .before .pre 
 
 loop-holds : tie.Need-loop-holds Inv-loop μ-loop
 loop-holds c =
-    let s = c .before .before in
-    (omega arith, s .pre .0, refl, refl, omega arith, gathering-start (now (s .args .b)) (now (s .args .keys)) (now (s .args .rows)) _ (omega (arith, s .pre .1 .sources)) refl refl)
+    let s = c .before .before in (
+      omega arith,
+      s .pre .0,
+      refl,
+      refl,
+      omega arith,
+      gathering-start (now (s .args .b)) (now (s .args .keys)) (now (s .args .rows)) _
+          (omega (arith, s .pre .1 .sources)) refl refl,
+    )
 
 add-value : tie.Need-add-value Inv-loop μ-loop
 add-value c = omega (arith, within c)
@@ -69,7 +78,8 @@ part-add-tlv-end : tie.Need-part-add-tlv-end Inv-loop μ-loop
 part-add-tlv-end c = omega (arith, within (c .before .before))
 
 -- a source more has a row
-room : (c : tie.In-loop Inv-loop μ-loop) → 25 ≤ length (valueAt (now (c .before .before .before .before .args .b)) (c .before .loop .at)) → c .before .loop .k .sources < length (c .before .loop .rows)
+room : (c : tie.In-loop Inv-loop μ-loop) → 25 ≤ length (valueAt (now (c .before .before .before .before .args .b)) (c .before .loop .at))
+    → c .before .loop .k .sources < length (c .before .loop .rows)
 room c h =
     let l = c .before in
     let s = l .before .before .before in
@@ -110,7 +120,8 @@ loop-again c =
       w .kept .1 .1 .0 ∙ i .2,
       w .kept .1 .1 .1 .0 ∙ i .3,
       omega (arith, size n),
-      gathering-next b (l .loop .at) _ _ _ (l .loop .k) (i .5) (omega arith) (i .1) (omega (arith, s .pre .1 .short)) _ refl _ _ _ (omega (arith, size n, within n, s .pre .1 .numbers))
+      gathering-next b (l .loop .at) _ _ _ (l .loop .k) (i .5) (omega arith) (i .1) (omega (arith, s .pre .1 .short)) _ refl _ _ _
+          (omega (arith, size n, within n, s .pre .1 .numbers))
           (omega (arith, size n)) (λ h. room n (omega arith)) (w .ensures .0 (l .loop .at)),
     )
 

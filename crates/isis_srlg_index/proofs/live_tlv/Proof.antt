@@ -32,7 +32,9 @@ shared-slice-read-identifiers : tie.Need-shared-slice-read-identifiers
 shared-slice-read-identifiers c = let s = c .before .before .before .before .before .before in let (a, b, e) = sizes s in omega (arith, s .pre .inside)
 
 cast-identifiers : tie.Need-cast-identifiers
-cast-identifiers c = let h = c .before .before .before .before .before .before .args .h in omega (arith, c .shared-slice-known2 .given (2 + h .standard + h .user))
+cast-identifiers c =
+    let h = c .before .before .before .before .before .before .args .h in
+    omega (arith, c .shared-slice-known2 .given (2 + h .standard + h .user))
 
 add-t13 : tie.Need-add-t13
 add-t13 c = let (a, b, e) = sizes (c .before .before .before .before .before .before .before .before) in omega arith

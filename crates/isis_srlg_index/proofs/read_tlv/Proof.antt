@@ -31,7 +31,8 @@ whole c = let (at, ok) = c .before .before .pre .0 in tlv-whole at _ _ ok (omega
 short : (c : tie.Else3) → maskTooLong (behind (now (c .before .before .before .before .before .before .before .args .value))) ≡ false
 short c = live-within 0 _ (sym (c .before .live-srlg .ensures 0) ∙ not-false _ (c .if3 .left))
 
-within : (c : tie.Else3) → let v = behind (now (c .before .before .before .before .before .before .before .args .value)) in headerLength v + 1 + identifierBytes v ≤ length v
+within : (c : tie.Else3)
+    → let v = behind (now (c .before .before .before .before .before .before .before .args .value)) in headerLength v + 1 + identifierBytes v ≤ length v
 within c = behind-listed _ (whole (c .before .before .before .before .before)) .listed (short c)
 
 sub-v : tie.Need-sub-v
@@ -52,7 +53,8 @@ no-tlv-requires-2 c κs = search needs
 returns-2 : tie.Need-returns-2
 returns-2 c =
     let v = c .before .before .before .before in
-    λ at. says-nothing _ _ _ (unread-words at _ _ _ (omega arith) (after-is _ (whole v .0)) (sym (header-l _ _ (c .before .before .read-header .ensures .0)) ∙ c .before .if2 .taken)) (c .no-tlv2 .ensures)
+    λ at. says-nothing _ _ _ (unread-words at _ _ _ (omega arith) (after-is _ (whole v .0))
+    (sym (header-l _ _ (c .before .before .read-header .ensures .0)) ∙ c .before .if2 .taken)) (c .no-tlv2 .ensures)
 
 live-srlg-requires : tie.Need-live-srlg-requires
 live-srlg-requires c κs = search needs
@@ -63,7 +65,8 @@ no-tlv-requires-3 c κs = search needs
 returns-3 : tie.Need-returns-3
 returns-3 c =
     let v = c .before .before .before .before .before .before in
-    λ at. says-nothing _ _ _ (dead-words at _ _ _ _ (omega arith) (after-is _ (whole v .0)) (c .before .before .live-srlg .ensures at) (not-true _ (c .before .if3 .taken))) (c .no-tlv3 .ensures)
+    λ at. says-nothing _ _ _ (dead-words at _ _ _ _ (omega arith) (after-is _ (whole v .0)) (c .before .before .live-srlg .ensures at)
+    (not-true _ (c .before .if3 .taken))) (c .no-tlv3 .ensures)
 
 live-tlv-requires : tie.Need-live-tlv-requires
 live-tlv-requires c κs =
@@ -84,7 +87,8 @@ returns-4 c =
     let (o, ok) = v .before .before .pre .0 in
     let long = behind-long o _ _ ok (omega arith) (whole v .0) (sym (e .before .live-srlg .ensures o) ∙ live) in
     λ at.
-    says-live at _ _ _ (omega arith) (after-is _ (whole v .0)) _ (e .before .live-srlg .ensures at) live (sym (header-l _ _ h) ∙ e .before .before .if2 .left) _ (within e) long
+    says-live at _ _ _ (omega arith) (after-is _ (whole v .0)) _ (e .before .live-srlg .ensures at) live (sym (header-l _ _ h) ∙ e .before .before .if2 .left) _
+    (within e) long
     (omega (arith, whole v .0)) (c .live-tlv .ensures)
 
 pub read-tlv-spec : {M : Type 1} → statement M
