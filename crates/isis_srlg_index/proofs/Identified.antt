@@ -1,5 +1,5 @@
 -- Identifiers that tell a link take ten bytes at least. Assumes nothing.
-use mathlib.Core.Path.{_≡_, refl, sym, ap, _∙_}
+use mathlib.Core.Path.{_≡_, refl, sym, ap, ap₂, _∙_}
 use mathlib.Core.Bool.{Bool, true, false, cond, _&&_, _||_, not, false≢true}
 use mathlib.Core.List.{List, [], _∷_}
 use Prim.Native.Nat.{ℕ, _+_, _-_, _≤_}
@@ -13,9 +13,10 @@ use Rattle.linkstate.specs.Elements.{Element, element, cut, sizeOf, lengthOf, e
 use Rattle.linkstate.proofs.ElementLaws.{Framed, done, short, step, framed, value-length}
 use Rattle.linkstate.proofs.ListLaws.{and-l, and-r}
 use Rattle.linkstate.proofs.WalkLaws.{then-first, then-second, not-accepted}
-use Rattle.isis.specs.MaskHeader.{headerLength, maskTooLong, lForNobody}
+use Rattle.isis.specs.MaskHeader.{lFlag, headerLength, maskTooLong, lForNobody}
 use Rattle.isis.specs.RunB.{identifier, knownIdentifiers, checkIdentifier, isOfType, identifies, repeats, identifiers}
 use Rattle.isis.specs.RunB.{identifierBytes, ignored, liveSrlg, afterNeighbour, checkB}
+use Rattle.isis_check_b.specs.Identifiers.{onceAndPaired}
 use Rattle.isis_check_b.specs.Parts.{partsVerdict}
 use Rattle.isis_check_b.proofs.SrlgLaws.{behind, srlg-parts, tlv-srlg}
 use Rattle.isis_tlvs_238.proofs.Tlvs.{whole, after-is}
@@ -145,3 +146,25 @@ behind-long at t value ok is nine live = rw (after-is value nine) (identifiers-l
 
 pub behind-few : (value : List ℕ) → length (behind value) ≤ length value
 behind-few value = omega (arith, length-take (length value - 7) (drop 7 value), length-drop 7 value)
+
+-- ---- live by its identifiers
+
+once : (a b : Bool) → not a && b ≡ not (a || not b)
+once true b = refl
+once false true = refl
+once false false = refl
+
+module _ (at : ℕ) (v : List ℕ) where
+  pub too-long : maskTooLong v ≡ true → false ≡ liveSrlg at v
+  unfolding liveSrlg
+  too-long m = rw m
+
+  -- without L it is live where its masks can be read and its identifiers tell the link
+  pub live-told : (r : Bool) (list end : ℕ) → lFlag v ≡ false → maskTooLong v ≡ false → list ≡ headerLength v + 1 → end ≡ list + identifierBytes v
+      → ((base : ℕ) → r ≡ onceAndPaired (elements 1 base (take (end - list) (drop list v)))) → r ≡ liveSrlg at v
+  unfolding liveSrlg ignored lForNobody identifiers
+  live-told r list end l m e f g =
+      let n : end - list ≡ identifierBytes v = omega arith in
+      let base = at + 2 + 7 + headerLength v + 1 in
+      let es = elements 1 base (take (identifierBytes v) (drop (headerLength v + 1) v)) in
+      g base ∙ ap₂ (λ (i k : ℕ). onceAndPaired (elements 1 base (take i (drop k v)))) n e ∙ once (repeats es) (identifies es) ∙ sym (rw (l, m))

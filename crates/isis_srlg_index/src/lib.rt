@@ -7,7 +7,8 @@ ghost use Rattle.linkstate.specs.Replies.{accepted, runB};
 ghost use Rattle.linkstate.specs.Elements.{element, elements, faults};
 ghost use Rattle.srlg_blocks.specs.Blocks.{namedBy};
 ghost use Rattle.srlg_classes.specs.Sided.{Carried};
-ghost use Rattle.isis.specs.RunB.{checkB, sideB};
+ghost use Rattle.isis.specs.MaskHeader.{lFlag};
+ghost use Rattle.isis.specs.RunB.{checkB, liveSrlg, sideB};
 ghost use Rattle.isis_srlg_index.specs.Sources.{noTlv, Passed, Readable, Lives, Says, RoomAt, Adds, Gathered, Unused, WithLegacy, Room, Ready, Indexes};
 use isis_check_a::Header;
 use naming::Names;
@@ -51,6 +52,17 @@ fn live_tlv(v: &[u8], h: Header) -> Tlv
     }
 }
 
+// Whether its identifiers tell the link, which is all that a TLV 238 without L and with masks that can be read needs to be live.
+fn tells_link(v: &[u8], h: Header) -> bool
+    requires { ⌜ Readable (now v) h × (lFlag (now v) ≡ false) ⌝ }
+    ensures { λ r. ⌜ ((at : ℕ) → r ≡ liveSrlg at (now (v .entry))) ⌝ }
+{
+    let length_byte = isis_check_a::header_length(h);
+    let list = length_byte + 1;
+    let end = list + v[length_byte] as usize;
+    isis_check_b::identifies_link(&v[list..end])
+}
+
 // A TLV of run B. With L no number of it is read.
 fn read_tlv(t: u8, value: &[u8]) -> Tlv
     requires { ⌜ Passed t (now value) × (length (now value) ≤ 2048) ⌝ }
@@ -65,7 +77,10 @@ fn read_tlv(t: u8, value: &[u8]) -> Tlv
     if unread {
         return no_tlv(value.len());
     }
-    if !isis_check_b::live_srlg(v) {
+    if isis_check_a::mask_too_long(h) {
+        return no_tlv(value.len());
+    }
+    if !tells_link(v, h) {
         return no_tlv(value.len());
     }
     live_tlv(v, h)

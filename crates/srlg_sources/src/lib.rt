@@ -18,7 +18,7 @@ pub struct Keys {
     pub sources: usize,
 }
 
-// What a key of a source has above its number. The quotient is 0: it keeps the sum of a key from being joined with the bytes of its number, which are then read at once.
+// What a key of a source has above its number. The quotient is 0: with it a key stays a sum for the compiler, and the four bytes of its number are read at once.
 fn above(source: usize) -> u64
     requires { ⌜ source < 128 ⌝ }
     ensures { λ r. ⌜ r ≡ source * 4294967296 ⌝ }

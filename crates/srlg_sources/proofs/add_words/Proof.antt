@@ -1,5 +1,5 @@
 -- `srlg_sources::add_words` meets its contract: the first i keys are written. Assumes nothing.
-use Prim.Native.Nat.{ℕ, _+_, _*_, _-_, _≤_, _<_}
+use Prim.Native.Nat.{ℕ, _+_, _-_, _≤_, _<_}
 use mathlib.Core.Path.{_≡_, refl, sym, _∙_, ap, ap₂}
 use mathlib.Core.List.{map}
 use lib.ListN.{length, getD, set, length-set}
@@ -25,7 +25,7 @@ above-requires : tie.Need-above-requires Inv-loop μ-loop
 above-requires c κs = search needs
 
 loop-holds : tie.Need-loop-holds Inv-loop μ-loop
-loop-holds c = 
+loop-holds c =
     let a = c .before .before .before .args in
     (omega arith, sym (length-words (now (a .s))), refl, paste-zero (now (a .keys)) (a .at) (map (keyOf (a .source)) (words (now (a .s)))), λ j h. absurd (omega arith))
 
@@ -57,7 +57,7 @@ loop-less : tie.Need-loop-less Inv-loop μ-loop
 loop-less c = search needs
 
 loop-again : tie.Need-loop-again Inv-loop μ-loop
-loop-again c = 
+loop-again c =
     let l = c .before .before .loop in
     let a = c .before .before .before .before .before .before .args in
     let ws = words (now (a .s)) in
@@ -77,7 +77,7 @@ same-length : tie.Need-same-length Inv-loop μ-loop
 same-length c = search needs
 
 returns : tie.Need-returns Inv-loop μ-loop
-returns c = 
+returns c =
     let l = c .before .loop in
     let a = c .before .before .before .before .before .args in
     let ws = words (now (a .s)) in (
