@@ -79,7 +79,7 @@ returns-3 : tie.Need-returns-3
 returns-3 c =
     let v = c .before .before .before .before .before .before in
     let m = sym (header-too-long _ _ (c .before .before .before .before .read-header .ensures .0)) ∙ sym (c .before .before .mask-too-long .ensures)
-        ∙ c .before .if3 .taken in
+    ∙ c .before .if3 .taken in
     λ at. says-nothing _ _ _ (dead-words at _ _ _ false (omega arith) (after-is _ (whole v .0)) (too-long at _ m) refl) (c .no-tlv3 .ensures)
 
 tells-link-requires : tie.Need-tells-link-requires
