@@ -18,13 +18,22 @@ pub struct Keys {
     pub sources: usize,
 }
 
+// What a key of a source has above its number. The quotient is 0: with it a key stays a sum for the compiler, and the four bytes of its number are read at once.
+fn above(source: usize) -> u64
+    requires { ⌜ source < 128 ⌝ }
+    ensures { λ r. ⌜ r ≡ source * 4294967296 ⌝ }
+{
+    let s = source as u64;
+    s * 4294967296 + s / 128
+}
+
 // The numbers of a value as keys of a source, written from a place of the list on; the place after them. A rest of under four bytes is no number.
 pub fn add_words(s: &[u8], source: usize, keys: &mut [u64], at: usize) -> usize
     requires { ⌜ (source < 128) × (at + length (now s) / 4 ≤ length (now keys)) ⌝ }
     ensures { λ r. ⌜ (r ≡ at + length (words (now (s .entry)))) × (now (keys .exit) ≡ put (now (keys .entry)) at (map (keyOf source) (words (now (s .entry))))) ⌝ }
     ensures { λ _. ⌜ Small (words (now (s .entry))) ⌝ }
 {
-    let high = source as u64 * 4294967296;
+    let high = above(source);
     let n = s.len() / 4;
     for i in 0..n {
         let v = octets::read32(s, i * 4) as u64;

@@ -1,6 +1,6 @@
 -- `srlg_sources::add_words` meets its contract: the first i keys are written. Assumes nothing.
-use Prim.Native.Nat.{ℕ, _+_, _*_, _-_, _≤_, _<_}
-use mathlib.Core.Path.{_≡_, refl, sym, _∙_, ap}
+use Prim.Native.Nat.{ℕ, _+_, _-_, _≤_, _<_}
+use mathlib.Core.Path.{_≡_, refl, sym, _∙_, ap, ap₂}
 use mathlib.Core.List.{map}
 use lib.ListN.{length, getD, set, length-set}
 use lib.Seq.{paste, paste-zero}
@@ -21,12 +21,12 @@ Inv-loop s source keys₀ at high n i₀ keys i = (i ≤ n) × (n ≡ length (wo
 abbrev μ-loop : tie.MeasureT-loop
 μ-loop s source keys₀ at high n i₀ keys i = n - i
 
-mul-high : tie.Need-mul-high Inv-loop μ-loop
-mul-high c = search needs
+above-requires : tie.Need-above-requires Inv-loop μ-loop
+above-requires c κs = search needs
 
 loop-holds : tie.Need-loop-holds Inv-loop μ-loop
-loop-holds c = 
-    let a = c .before .before .args in
+loop-holds c =
+    let a = c .before .before .before .args in
     (omega arith, sym (length-words (now (a .s))), refl, paste-zero (now (a .keys)) (a .at) (map (keyOf (a .source)) (words (now (a .s)))), λ j h. absurd (omega arith))
 
 mul-read32 : tie.Need-mul-read32 Inv-loop μ-loop
@@ -57,15 +57,15 @@ loop-less : tie.Need-loop-less Inv-loop μ-loop
 loop-less c = search needs
 
 loop-again : tie.Need-loop-again Inv-loop μ-loop
-loop-again c = 
+loop-again c =
     let l = c .before .before .loop in
-    let a = c .before .before .before .before .before .args in
+    let a = c .before .before .before .before .before .before .args in
     let ws = words (now (a .s)) in
     let e = c .read32 .ensures .0 ∙ sym (word-at (now (a .s)) (l .i) (omega arith)) in (
       omega arith,
       l .inv .1,
       simp length-set (l .inv .2),
-      ap (set (l .keys) (a .at + l .i)) (ap (λ (v : ℕ). v + a .source * 4294967296) e ∙ sym (key-at (a .source) ws (l .i) (omega arith)))
+      ap (set (l .keys) (a .at + l .i)) (ap₂ _+_ e (c .before .before .before .above .ensures) ∙ sym (key-at (a .source) ws (l .i) (omega arith)))
           ∙ copy-next (now (a .keys)) (a .at) (map (keyOf (a .source)) ws) (l .i) (l .keys) (l .inv .3) 0 (omega arith) (omega (arith, length-keys (a .source) ws)),
       small-next ws (l .i) _ e (c .read32 .ensures .1) (l .inv .4),
     )
@@ -77,9 +77,9 @@ same-length : tie.Need-same-length Inv-loop μ-loop
 same-length c = search needs
 
 returns : tie.Need-returns Inv-loop μ-loop
-returns c = 
+returns c =
     let l = c .before .loop in
-    let a = c .before .before .before .before .args in
+    let a = c .before .before .before .before .before .args in
     let ws = words (now (a .s)) in (
       (ap (λ (k : ℕ). a .at + k) (l .inv .1), copy-end (now (a .keys)) (a .at) (map (keyOf (a .source)) ws) (l .i) (l .keys) (l .inv .3) (omega (arith, length-keys (a .source) ws))),
       small-all ws (l .i) (omega arith) (l .inv .4),
@@ -91,7 +91,7 @@ add-words-spec =
     (tie.spec
     Inv-loop
     μ-loop
-    mul-high
+    above-requires
     loop-holds
     mul-read32
     read32-requires
