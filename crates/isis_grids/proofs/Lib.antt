@@ -6,3 +6,4 @@ pub mod Aslas
 pub mod Selects
 pub mod Rows
 pub mod Places
+pub mod Taken

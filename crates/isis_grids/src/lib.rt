@@ -1,17 +1,20 @@
 // What run A holds, as grids and as single rows: of its legacy attributes, and of the ASLA sub-TLVs that pass a test (document 01, "Who gets what").
 ghost use mathlib.Core.Path.{_≡_};
-ghost use Prim.Native.Nat.{_+_, _<_, _≤_};
+ghost use mathlib.Core.Bool.{_&&_, not};
+ghost use mathlib.Core.List.{[]};
+ghost use Prim.Native.Nat.{_+_, _<_};
 ghost use lib.ListN.{length, getD};
 ghost use Rattle.linkstate.specs.Replies.{accepted, runA};
 ghost use Rattle.linkstate.specs.Lists.{each};
-ghost use Rattle.linkstate.specs.Bytes.{bytesAt};
 ghost use Rattle.linkstate.specs.Elements.{elements, faults};
 ghost use Rattle.linkstate.specs.Kinds.{codeOfType, linkCodes};
 ghost use Rattle.kinds.specs.Rules.{gridCodes, rowIn};
-ghost use Rattle.linkstate.specs.Sides.{ofLive};
+ghost use Rattle.linkstate.specs.Sides.{names, rsvpTeAlone, ofLive};
+ghost use Rattle.isis.specs.MaskHeader.{lFlag, maskTooLong, advertisement};
 ghost use Rattle.isis.specs.RunA.{attributesOf, checkA, sideA};
 ghost use Rattle.isis_grids.specs.Grid.{rowOf, entered, filledIn, unchecked};
-ghost use Rattle.isis_grids.specs.Selected.{selects, unflagged, listFrom, listAt, Headed};
+ghost use Rattle.isis_grids.specs.Selected.{selects, listAt, isTaken, valueAt, AslaAt, ReadAt};
+ghost use Rattle.isis_grids.specs.declared.Which.the-variants.{General};
 use kinds::Kind;
 
 // The row of a type; 10 where it has none.
@@ -103,57 +106,89 @@ pub enum Which {
     WithoutL,
 }
 
-// Whether an ASLA without L, of these masks, is selected.
-fn passes(which: Which, standard: &[u8], user: &[u8]) -> bool
-    requires { ⌜ (length (now standard) ≤ 8) × (length (now user) ≤ 8) ⌝ }
-    ensures { λ r. ⌜ r ≡ selects which (unflagged (now (standard .entry)) (now (user .entry))) ⌝ }
+// Whether the ASLA at a position is without L, and its masks are not too long to be read: with L the first byte is 128 or more.
+fn is_read(a: &[u8], at: usize) -> bool
+    requires { ⌜ AslaAt (now a) at ⌝ }
+    ensures { λ r. ⌜ r ≡ not (lFlag (valueAt (now (a .entry)) at)) && not (maskTooLong (valueAt (now (a .entry)) at)) ⌝ }
 {
-    match which {
-        Which::Naming(n) => masks::names(standard, user, n),
-        Which::General => {
-            if standard.len() != 0 {
-                return false;
-            }
-            user.len() == 0
-        }
-        Which::RsvpTeAlone => {
-            if masks::mask_number(standard) != 1 {
-                return false;
-            }
-            masks::mask_number(user) == 0
-        }
-        Which::WithoutL => true,
+    if 8 < a[at + 2] {
+        return false;
     }
+    a[at + 3] % 128 <= 8
 }
 
-// Where the attribute list of an ASLA with the value v begins; past the end where there is none to read, or the ASLA is not selected.
-fn list_start(v: &[u8], which: Which) -> usize
-    requires { ⌜ Headed (now v) ⌝ }
-    ensures { λ r. ⌜ r ≡ listFrom which (now (v .entry)) ⌝ }
+// Whether such an ASLA names an application.
+fn names_at(a: &[u8], at: usize, n: u32) -> bool
+    requires { ⌜ ReadAt (now a) at ⌝ }
+    ensures { λ r. ⌜ r ≡ names n (advertisement (valueAt (now (a .entry)) at) []) ⌝ }
 {
-    let h = isis_check_a::read_header(v);
-    if h.l {
-        return v.len();
+    let standard = a[at + 2] as usize;
+    if n < 64 {
+        return masks::bit_at(a, at + 4, standard, n);
     }
-    if isis_check_a::mask_too_long(h) {
-        return v.len();
+    let user = (a[at + 3] % 128) as usize;
+    masks::bit_at(a, at + 4 + standard, user, n - 64)
+}
+
+// Whether RSVP-TE's is its only bit.
+fn is_alone(a: &[u8], at: usize) -> bool
+    requires { ⌜ ReadAt (now a) at ⌝ }
+    ensures { λ r. ⌜ r ≡ rsvpTeAlone (advertisement (valueAt (now (a .entry)) at) []) ⌝ }
+{
+    if !names_at(a, at, 0) {
+        return false;
     }
-    let m = 2 + h.standard;
-    let e = m + h.user;
-    if passes(which, &v[2..m], &v[m..e]) {
-        return e;
+    let m = at + 4 + a[at + 2] as usize;
+    let e = m + (a[at + 3] % 128) as usize;
+    if masks::mask_number(&a[at + 4..m]) != 1 {
+        return false;
     }
-    v.len()
+    masks::mask_number(&a[m..e]) == 0
+}
+
+// Whether both its masks have no byte; with L the first byte is not 0.
+fn is_general(a: &[u8], at: usize) -> bool
+    requires { ⌜ AslaAt (now a) at ⌝ }
+    ensures { λ r. ⌜ r ≡ isTaken General (valueAt (now (a .entry)) at) ⌝ }
+{
+    if a[at + 2] != 0 {
+        return false;
+    }
+    a[at + 3] % 128 == 0
+}
+
+// Whether the ASLA at a position is selected, and its list read.
+fn is_selected(a: &[u8], at: usize, which: Which) -> bool
+    requires { ⌜ AslaAt (now a) at ⌝ }
+    ensures { λ r. ⌜ r ≡ isTaken which (valueAt (now (a .entry)) at) ⌝ }
+{
+    match which {
+        Which::Naming(n) => {
+            if !is_read(a, at) {
+                return false;
+            }
+            names_at(a, at, n)
+        }
+        Which::General => is_general(a, at),
+        Which::RsvpTeAlone => {
+            if !is_read(a, at) {
+                return false;
+            }
+            is_alone(a, at)
+        }
+        Which::WithoutL => is_read(a, at),
+    }
 }
 
 // Where in run A the list of the ASLA at a position begins: at the ASLA's end where there is none to read, or it is not selected.
 fn list_at(a: &[u8], at: usize, which: Which) -> usize
-    requires { ⌜ (getD (now a) at 0 ≡ 16) × (at + 2 + getD (now a) (at + 1) 0 ≤ length (now a)) × (Headed (bytesAt (now a) (at + 2) (getD (now a) (at + 1) 0))) ⌝ }
+    requires { ⌜ (getD (now a) at 0 ≡ 16) × AslaAt (now a) at ⌝ }
     ensures { λ r. ⌜ r ≡ listAt which (now (a .entry)) at ⌝ }
 {
-    let n = a[at + 1] as usize;
-    let v = at + 2;
-    v + list_start(&a[v..v + n], which)
+    if is_selected(a, at, which) {
+        return at + 4 + a[at + 2] as usize + (a[at + 3] % 128) as usize;
+    }
+    at + 2 + a[at + 1] as usize
 }
 
 // The row of one kind, by its type, in a list whose first byte is at an offset of run A.
