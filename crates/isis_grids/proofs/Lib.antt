@@ -1,7 +1,6 @@
 pub mod Types
 pub mod Grids
 pub mod Walks
-pub mod Headers
 pub mod Aslas
 pub mod Selects
 pub mod Rows

@@ -11,7 +11,7 @@ use lib.ListN.{length, take, drop, getD, length-drop, length-take}
 use lib.Seq.{drop-drop, getD-drop, getD-take, length-take-le}
 use Rattle.linkstate.specs.Bytes.{bytesAt}
 use Rattle.linkstate.specs.Masks.{bit, inMasks, asNumber}
-use Rattle.linkstate.specs.Sides.{Advertisement, names, general, rsvpTeAlone}
+use Rattle.linkstate.specs.Sides.{names, general, rsvpTeAlone}
 use Rattle.linkstate.proofs.ListLaws.{or-l, or-r}
 use Rattle.octets.proofs.Laws.{length-bytesAt}
 use Rattle.isis.specs.MaskHeader.{lFlag, sabmLength, udabmLength, headerLength, maskTooLong, advertisement}

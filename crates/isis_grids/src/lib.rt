@@ -1,100 +1,37 @@
-// What run A holds, as grids and as single rows: of its legacy attributes, and of the ASLA sub-TLVs that pass a test (document 01, "Who gets what").
+// Rows of sets on side A, place and length of a kind's first value in run A: of its legacy attributes, and of the ASLA sub-TLVs that pass a test (document 01,
+// "Who gets what").
 ghost use mathlib.Core.Path.{_≡_};
-ghost use mathlib.Core.Bool.{_&&_, not};
+ghost use mathlib.Core.Bool.{true, false, _&&_, not};
 ghost use mathlib.Core.List.{[]};
 ghost use Prim.Native.Nat.{_+_, _<_};
+ghost use lib.Dec.{eqb};
 ghost use lib.ListN.{length, getD};
 ghost use Rattle.linkstate.specs.Replies.{accepted, runA};
 ghost use Rattle.linkstate.specs.Lists.{each};
 ghost use Rattle.linkstate.specs.Elements.{elements, faults};
-ghost use Rattle.linkstate.specs.Kinds.{codeOfType, linkCodes};
-ghost use Rattle.kinds.specs.Rules.{gridCodes, rowIn};
+ghost use Rattle.linkstate.specs.Kinds.{codeOfType, isCode};
 ghost use Rattle.linkstate.specs.Sides.{names, rsvpTeAlone, ofLive};
 ghost use Rattle.isis.specs.MaskHeader.{lFlag, maskTooLong, advertisement};
 ghost use Rattle.isis.specs.RunA.{attributesOf, checkA, sideA};
-ghost use Rattle.isis_grids.specs.Grid.{rowOf, entered, filledIn, unchecked};
+ghost use Rattle.isis_grids.specs.Grid.{rowOf, unchecked};
 ghost use Rattle.isis_grids.specs.Selected.{selects, listAt, isTaken, valueAt, AslaAt, ReadAt};
 ghost use Rattle.isis_grids.specs.declared.Which.the-variants.{General};
-use kinds::Kind;
 
-// The row of a type; 10 where it has none.
-fn row_of(t: u8) -> usize
-    ensures { λ r. ⌜ r ≡ rowIn gridCodes (codeOfType t) ⌝ }
+// The type in run A of a code; SRLG has none.
+pub fn type_of(code: usize) -> u8
+    requires { ⌜ (isCode code ≡ true) × (eqb code 1096 ≡ false) ⌝ }
+    ensures { λ r. ⌜ codeOfType r ≡ code ⌝ }
 {
-    let rule = kinds::classify_type(t);
-    let kind = rule.kind;
-    match kind {
-        Kind::Link(_) => 10,
-        Kind::Application(k) => k,
-        Kind::Srlg => 10,
-        Kind::Asla => 10,
-        Kind::Unknown => 10,
-    }
-}
-
-// The type of a row.
-pub fn type_of(k: usize) -> u8
-    requires { ⌜ k < 10 ⌝ }
-    ensures { λ r. ⌜ codeOfType r ≡ getD gridCodes k 0 ⌝ }
-{
-    match k {
-        0 => 3,
-        1 => 18,
-        9 => 14,
-        _ => (k + 31) as u8,
-    }
-}
-
-// A value more, of a type, with its place and length: it goes into the row of its kind unless something stands there.
-fn enter(g: &mut [[usize; 2]; 10], t: u8, place: usize, n: usize)
-    ensures { λ _. ⌜ now (g .exit) ≡ entered gridCodes (now (g .entry)) (codeOfType t) place n ⌝ }
-{
-    let k = row_of(t);
-    if k < 10 {
-        if g[k][0] == 0 {
-            let row = [place, n];
-            g[k] = row;
+    match code {
+        1088 => 3,
+        1092 => 18,
+        1173 => 14,
+        _ => {
+            if code < 1092 {
+                return (code - 1080) as u8;
+            }
+            (code - 1081) as u8
         }
-    }
-}
-
-// The same for the rows of the link's bandwidths.
-fn enter_link(l: &mut [[usize; 2]; 3], t: u8, place: usize, n: usize)
-    ensures { λ _. ⌜ now (l .exit) ≡ entered linkCodes (now (l .entry)) (codeOfType t) place n ⌝ }
-{
-    if (9 <= t) & (t <= 11) {
-        let k = (t - 9) as usize;
-        if l[k][0] == 0 {
-            let row = [place, n];
-            l[k] = row;
-        }
-    }
-}
-
-// A grid filled with the attributes of a list, whose first byte is at an offset of run A.
-pub fn fill(g: &mut [[usize; 2]; 10], s: &[u8], base: usize)
-    requires { ⌜ (base + length (now s) < 18446744073709551616) × (faults runA unchecked (elements 1 base (now s)) ≡ accepted) ⌝ }
-    ensures { λ _. ⌜ now (g .exit) ≡ filledIn gridCodes (now (g .entry)) (each attributesOf (elements 1 base (now (s .entry)))) ⌝ }
-{
-    let mut at = 0;
-    while at < s.len() {
-        let n = s[at + 1] as usize;
-        enter(g, s[at], base + at + 2, n);
-        at = at + 2 + n;
-    }
-}
-
-// A grid and the rows of the link's bandwidths, filled with run A's legacy attributes.
-pub fn fill_legacy(g: &mut [[usize; 2]; 10], l: &mut [[usize; 2]; 3], a: &[u8])
-    requires { ⌜ faults runA checkA (elements 1 0 (now a)) ≡ accepted ⌝ }
-    ensures { λ _. ⌜ (now (g .exit) ≡ filledIn gridCodes (now (g .entry)) ((sideA (now (a .entry))) .legacy)) × (now (l .exit) ≡ filledIn linkCodes (now (l .entry)) ((sideA (now (a .entry))) .legacy)) ⌝ }
-{
-    let mut at = 0;
-    while at < a.len() {
-        let n = a[at + 1] as usize;
-        enter(g, a[at], at + 2, n);
-        enter_link(l, a[at], at + 2, n);
-        at = at + 2 + n;
     }
 }
 
