@@ -129,7 +129,7 @@ fn list_at(a: &[u8], at: usize, which: Which) -> usize
 }
 
 // The row of one kind, by its type, in a list whose first byte is at an offset of run A.
-pub fn row_in(s: &[u8], base: usize, t: u8) -> [usize; 2]
+fn row_in(s: &[u8], base: usize, t: u8) -> [usize; 2]
     requires { ⌜ (codeOfType t ≡ 0 → ⊥) × (base + length (now s) < 18446744073709551616) × (faults runA unchecked (elements 1 base (now s)) ≡ accepted) ⌝ }
     ensures { λ r. ⌜ r ≡ rowOf (codeOfType t) (each attributesOf (elements 1 base (now (s .entry)))) ⌝ }
 {
@@ -144,6 +144,14 @@ pub fn row_in(s: &[u8], base: usize, t: u8) -> [usize; 2]
     }
     let none = [0usize; 2];
     none
+}
+
+// The row of one kind, by its type, among run A's own elements.
+pub fn legacy_row(a: &[u8], t: u8) -> [usize; 2]
+    requires { ⌜ (codeOfType t ≡ 0 → ⊥) × (faults runA checkA (elements 1 0 (now a)) ≡ accepted) ⌝ }
+    ensures { λ r. ⌜ r ≡ rowOf (codeOfType t) ((sideA (now (a .entry))) .legacy) ⌝ }
+{
+    row_in(a, 0, t)
 }
 
 // The row of one kind, by its type, in the live ASLA sub-TLVs that are selected.
