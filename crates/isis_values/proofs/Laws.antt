@@ -11,7 +11,7 @@ use Rattle.linkstate.specs.Lists.{empty, any, all}
 use Rattle.linkstate.specs.Bytes.{bytesAt}
 use Rattle.linkstate.specs.Kinds as T
 use Rattle.linkstate.specs.Kinds.{Form, isCode, formOf, kinds}
-use Rattle.linkstate.specs.Replies.{accepted, runA}
+use Rattle.linkstate.specs.Replies.{Reply, accepted, runA}
 use Rattle.linkstate.specs.Elements.{elements, faults}
 use Rattle.linkstate.specs.Attributes.{Attribute, ofKind, valueOf, readingAs}
 use Rattle.linkstate.specs.Sides.{names, ofLive, generalSet}
@@ -131,14 +131,17 @@ module _ (a : List ℕ) (whom : Subject) (k : ℕ) (m : Names) (q : AskedInA a w
       go (present t us i j st) =
           rw (row-present t us i) (λ z. (lies t j st, readable-in-a k (t .len) (q .known) (q .other) (sym (ap (λ (x : ℕ). wrongOfCode x (t .len)) j) ∙ st .right)))
 
-  pub row-answers : firstOf runA (ofKind k (given (linkSource a b c) whom k)) ≡ rowAnswer a runA k (getD row 0 0) (getD row 1 0)
-  row-answers = go first
+  row-reply : firstOf runA (ofKind k (given (linkSource a b c) whom k)) ≡ rowAnswer a runA k (getD row 0 0) (getD row 1 0)
+  row-reply = go first
     where
       go : First a k (given (linkSource a b c) whom k) → firstOf runA (ofKind k (given (linkSource a b c) whom k)) ≡ rowAnswer a runA k (getD row 0 0) (getD row 1 0)
       go (absent i) = first-absent a runA k (ofKind k (given (linkSource a b c) whom k)) i ∙ sym (ap (λ (x : List ℕ). rowAnswer a runA k (getD x 0 0) (getD x 1 0)) (row-absent i))
       go (present t us i j st) =
           first-present a runA k (ofKind k (given (linkSource a b c) whom k)) t us i j (st .placed) (reads t j st)
           ∙ sym (ap (λ (x : List ℕ). rowAnswer a runA k (getD x 0 0) (getD x 1 0)) (row-present t us i))
+
+  pub row-answers : (r : Reply) → r ≡ rowAnswer a runA k (getD row 0 0) (getD row 1 0) → r ≡ firstOf runA (ofKind k (given (linkSource a b c) whom k))
+  row-answers r h = h ∙ sym row-reply
 
   pub row-within : (getD row 0 0 ≡ 0 → ⊥) → getD row 0 0 + getD row 1 0 ≤ length a
   row-within z = row-readable z .0
