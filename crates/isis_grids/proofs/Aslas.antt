@@ -2,13 +2,13 @@
 use mathlib.Core.Path.{_≡_, refl, sym, ap, _∙_, subst}
 use mathlib.Core.Logic.{_⊎_, inl, inr, ⊎-elim}
 use mathlib.Core.Bool.{Bool, true, false, cond, _&&_, _||_, not}
-use mathlib.Core.List.{List, [], _∷_, _++_, append-assoc}
+use mathlib.Core.List.{List, [], _∷_, _++_}
 use Prim.Native.Nat.{ℕ, _+_, _-_, _≤_, _<_}
 use native.Mathlib.Omega.{arith}
 use native.Mathlib.Nat.{zero-add}
 use borrow.Author.Tests.{eqb-true, eqb-false, eq-eqb, ne-eqb, ltb-false}
 use lib.Dec.{eqb, ltb}
-use lib.ListN.{length, take, drop, getD, replicate, length-take}
+use lib.ListN.{length, take, drop, getD, length-take}
 use lib.Seq.{drop-length, drop-at}
 use Rattle.linkstate.specs.Lists.{each, keep}
 use Rattle.linkstate.specs.Bytes.{bytesAt}
@@ -18,16 +18,16 @@ use Rattle.linkstate.specs.Attributes.{Attribute}
 use Rattle.linkstate.specs.Sides.{Advertisement, names, general, rsvpTeAlone, ofLive}
 use Rattle.linkstate.proofs.ElementLaws.{none-left}
 use Rattle.linkstate.proofs.ListLaws.{keep-append, each-append}
-use Rattle.linkstate.proofs.WalkLaws.{left, not-accepted, each-end}
+use Rattle.linkstate.proofs.WalkLaws.{left, not-accepted}
 use Rattle.octets.proofs.Laws.{part-is, length-bytesAt, bytesAt-add}
 use Rattle.isis.specs.MaskHeader.{lFlag, maskTooLong, lForNobody, headerLength, advertisement}
 use Rattle.isis.specs.RunA.{listElements, checkAttribute, checkAsla, checkA, attributesOf, liveAsla, aslaAdvertisements, sideA}
 use Rattle.isis_grids.specs.declared.Which.{Which}
 use Rattle.isis_grids.specs.declared.Which.the-variants.{Naming, General, RsvpTeAlone, WithoutL}
-use Rattle.isis_grids.specs.Grid.{gridOf, filled, unchecked}
+use Rattle.isis_grids.specs.Grid.{unchecked}
 use Rattle.isis_grids.specs.Selected.{selects, listFrom, listAt, Headed, selected}
-use Rattle.isis_grids.proofs.Grids.{All, all-each, Placed, placed-each, filled-empty}
-use Rattle.isis_grids.proofs.Walks.{framed, elementAt, inside, passed, turn, left-all}
+use Rattle.isis_grids.proofs.Grids.{All, all-each, Placed, placed-each}
+use Rattle.isis_grids.proofs.Walks.{framed, elementAt, inside, passed, turn}
 
 -- ---- one ASLA
 

@@ -1,8 +1,8 @@
 pub mod Types
 pub mod Grids
 pub mod Walks
-pub mod Headers
 pub mod Aslas
 pub mod Selects
 pub mod Rows
 pub mod Places
+pub mod Taken

@@ -10,7 +10,7 @@ use lib.ListN.{length, take, drop, getD, length-take, length-drop}
 use lib.Seq.{take-length, take-take, drop-at, length-take-le}
 use Rattle.linkstate.specs.Lists.{each, keep, empty}
 use Rattle.linkstate.specs.Bytes.{bytesAt}
-use Rattle.linkstate.specs.Replies.{Verdict, accepted, runA, fault, _then_}
+use Rattle.linkstate.specs.Replies.{Verdict, accepted, runA, fault}
 use Rattle.linkstate.specs.Elements.{Element, element, cut, elements, faults}
 use Rattle.linkstate.specs.Kinds.{codeOfType, wrongInA}
 use Rattle.linkstate.specs.Attributes.{Attribute, attribute, ofKind, firstValue, valueOf}

@@ -1,59 +1,20 @@
 -- IS-IS types and their codes: what holds of every type, shown at the table's own types by computing and at the unknown ones.
 use mathlib.Core.Path.{_≡_, refl, sym, ap, _∙_, subst}
 use mathlib.Core.Bool.{Bool, true, false, cond, _&&_, _||_, not}
-use mathlib.Core.List.{List, [], _∷_, map}
-use Prim.Native.Nat.{ℕ, zero, suc, _+_, _-_, _≤_, _<_}
+use mathlib.Core.List.{List, [], _∷_}
+use Prim.Native.Nat.{ℕ, zero, suc, _-_, _≤_, _<_}
 use native.Mathlib.Omega.{arith}
-use borrow.Author.Tests.{eqb-true, eq-eqb, ne-eqb, leb-true}
-use lib.Dec.{eqb, leb}
+use borrow.Author.Tests.{eqb-true, ne-eqb, leb-true}
+use lib.Dec.{eqb, leb, ltb}
 use lib.ListN.{length, getD}
-use Rattle.linkstate.specs.Lists.{all, lookup}
+use Rattle.linkstate.specs.Lists.{all, any, lookup}
 use Rattle.linkstate.specs.Kinds as T
-use Rattle.linkstate.specs.Kinds.{kinds, linkCodes, hasType, codeOfType, wrongInA}
+use Rattle.linkstate.specs.Kinds.{kinds, linkCodes, hasType, codeOfType, isCode, wrongInA}
 use Rattle.linkstate.proofs.ListLaws.{and-l, and-r}
-use Rattle.kinds.specs.declared.Kind.{Kind}
-use Rattle.kinds.specs.declared.Kind.the-variants.{Link, Application, Srlg, Asla, Unknown}
-use Rattle.kinds.specs.declared.Size.the-variants.{Any}
-use Rattle.kinds.specs.declared.Rule.{Rule}
-use Rattle.kinds.specs.Rules.{rule, ruleWith, ruleOfType, gridCodes, rowIn}
+use Rattle.kinds.specs.Rules.{gridCodes}
 use Rattle.kinds.proofs.Computing.{computing}
 use Rattle.isis_grids.specs.Grid.{wrongOfCode}
 
--- ---- the row of a type
-
--- Two answers to one search agree where they agree on every row of the table.
-lookup-two : {A B C D : Type 0} (p : A → Bool) (f : A → B) (g : A → C) (x : B → D) (y : C → D) (d : B) (e : C) (qs : List A)
-    → x d ≡ y e → map (λ q. x (f q)) qs ≡ map (λ q. y (g q)) qs → x (lookup p f d qs) ≡ y (lookup p g e qs)
-unfolding lookup
-lookup-two p f g x y d e [] h m = h
-lookup-two p f g x y d e (q ∷ qs) h m = go (p q) (cc) (lookup-two p f g x y d e qs h (cc))
-  where
-    go : (b : Bool) → x (f q) ≡ y (g q) → x (lookup p f d qs) ≡ y (lookup p g e qs) → x (cond b (f q) (lookup p f d qs)) ≡ y (cond b (g q) (lookup p g e qs))
-    go true i j = i
-    go false i j = j
-
--- The row that a kind tells; 10 is none.
-abbrev pub rowOfKind : Kind → ℕ
-rowOfKind (Link i) = 10
-rowOfKind (Application i) = i
-rowOfKind Srlg = 10
-rowOfKind Asla = 10
-rowOfKind Unknown = 10
-
-pub row-of-type : (t : ℕ) → rowOfKind ((ruleOfType t) .kind) ≡ rowIn gridCodes (codeOfType t)
-unfolding computing
-row-of-type t = go (eqb t 16) refl
-  where
-    go : (b : Bool) → eqb t 16 ≡ b
-        → rowOfKind (cond b (rule Asla Any 1122) (lookup (hasType t) (ruleWith (λ q. q .isisSize)) (rule Unknown Any 0) kinds) .kind) ≡ rowIn gridCodes (lookup (hasType t) (λ q. q .code) 0 kinds)
-    go true e = ap (λ (i : ℕ). rowIn gridCodes (codeOfType i)) (sym (eqb-true t 16 e))
-    go false e = lookup-two (hasType t) (ruleWith (λ q. q .isisSize)) (λ q. q .code) (λ r. rowOfKind (r .kind)) (rowIn gridCodes) (rule Unknown Any 0) 0 kinds refl refl
-
--- As the code has it: the kind of the rule that was read.
-pub row-read : (t : ℕ) (r : Rule) (k : Kind) → r ≡ ruleOfType t → r .kind ≡ k → rowOfKind k ≡ rowIn gridCodes (codeOfType t)
-row-read t r k e h = ap rowOfKind (sym h ∙ ap (λ (x : Rule). x .kind) e) ∙ row-of-type t
-
--- The row of a bandwidth's type, 9 to 11, among the link's codes; every other type has none there.
 pub ten-codes : length gridCodes ≡ 10
 unfolding computing
 ten-codes = refl
@@ -61,19 +22,6 @@ ten-codes = refl
 pub three-codes : length linkCodes ≡ 3
 unfolding computing
 three-codes = refl
-
-pub link-bounds : (t : ℕ) → leb 9 t && leb t 11 ≡ true → (9 ≤ t) × (t ≤ 11)
-link-bounds t e = (leb-true 9 t (and-l (leb 9 t) (leb t 11) e), leb-true t 11 (and-r (leb 9 t) (leb t 11) e))
-
-pub link-row : (t : ℕ) → 9 ≤ t → t ≤ 11 → t - 9 ≡ rowIn linkCodes (codeOfType t)
-unfolding computing
-link-row t h g = let e : 9 + (t - 9) ≡ t = omega arith in subst (λ (i : ℕ). i - 9 ≡ rowIn linkCodes (codeOfType i)) e (go (t - 9) (omega arith))
-  where
-    go : (d : ℕ) → d < 3 → 9 + d - 9 ≡ rowIn linkCodes (codeOfType (9 + d))
-    go zero l = refl
-    go (suc zero) l = refl
-    go (suc (suc zero)) l = refl
-    go (suc (suc (suc d))) l = absurd (omega arith)
 
 -- ---- every type
 
@@ -103,26 +51,6 @@ types-in P (q ∷ qs) all t f = go (q .carrier) (all .0) f (types-in P qs (all .
 pub every-type : (P : ℕ → Type 0) → OfTypes P kinds → ((t : ℕ) → codeOfType t ≡ 0 → P t) → (t : ℕ) → P t
 unfolding codeOfType
 every-type P all f t = types-in P kinds all t (f t)
-
--- Whether a type is one of the bandwidths' or has no row among the link's codes: a computed test.
-linked : ℕ → Bool
-linked t = (leb 9 t && leb t 11) || leb 3 (rowIn linkCodes (codeOfType t))
-
-linked-all : (t : ℕ) → linked t ≡ true
-unfolding computing linked
-linked-all = every-type (λ t. linked t ≡ true) (refl, (refl, (refl, (refl, (refl, (tt, (refl, (refl, (refl, (refl, (refl, (refl, (refl, (refl, tt)))))))))))))) (λ t e. or-true (leb 9 t && leb t 11) (leb 3 (rowIn linkCodes (codeOfType t))) (ap (λ (c : ℕ). leb 3 (rowIn linkCodes c)) e))
-  where
-    or-true : (x y : Bool) → y ≡ true → (x || y) ≡ true
-    or-true true y e = refl
-    or-true false y e = e
-
-pub link-none : (t : ℕ) → leb 9 t && leb t 11 ≡ false → 3 ≤ rowIn linkCodes (codeOfType t)
-unfolding linked
-link-none t e = leb-true 3 (rowIn linkCodes (codeOfType t)) (go (leb 9 t && leb t 11) e (linked-all t))
-  where
-    go : (b : Bool) → b ≡ false → b || leb 3 (rowIn linkCodes (codeOfType t)) ≡ true → leb 3 (rowIn linkCodes (codeOfType t)) ≡ true
-    go true f h = absurd (let z : _≡_ {A = ℕ} 0 1 = cc in omega arith)
-    go false f h = h
 
 -- A type whose length is right has a code whose length is.
 pub right-code : (n t : ℕ) → wrongInA t n ≡ false → wrongOfCode (codeOfType t) n ≡ false
@@ -192,32 +120,6 @@ type-code k n = only-type k (codeOfType k) (go (eqb (codeOfType k) 0) refl (know
     go true e h = absurd (n (eqb-true (codeOfType k) 0 e))
     go false e h = h
 
--- The codes of the link's bandwidths, types 9 to 11.
-pub bandwidth-code : (t : ℕ) → 9 ≤ t → t < 12 → codeOfType t ≡ t + 1080
-unfolding computing
-bandwidth-code t h g = let e : 9 + (t - 9) ≡ t = omega arith in subst (λ (i : ℕ). codeOfType i ≡ i + 1080) e (go (t - 9) (omega arith))
-  where
-    go : (d : ℕ) → d < 3 → codeOfType (9 + d) ≡ 9 + d + 1080
-    go zero l = refl
-    go (suc zero) l = refl
-    go (suc (suc zero)) l = refl
-    go (suc (suc (suc d))) l = absurd (omega arith)
-
--- The type of a row, as the code has it.
-pub row-type : (k : ℕ) → k < 10 → (k ≡ 0 → ⊥) → (k ≡ 1 → ⊥) → (k ≡ 9 → ⊥) → codeOfType (k + 31) ≡ getD gridCodes k 0
-unfolding computing
-row-type k h a b c = let e : 2 + (k - 2) ≡ k = omega arith in subst (λ (i : ℕ). codeOfType (i + 31) ≡ getD gridCodes i 0) e (go (k - 2) (omega arith))
-  where
-    go : (d : ℕ) → d < 7 → codeOfType (2 + d + 31) ≡ getD gridCodes (2 + d) 0
-    go zero l = refl
-    go (suc zero) l = refl
-    go (suc (suc zero)) l = refl
-    go (suc (suc (suc zero))) l = refl
-    go (suc (suc (suc (suc zero)))) l = refl
-    go (suc (suc (suc (suc (suc zero))))) l = refl
-    go (suc (suc (suc (suc (suc (suc zero)))))) l = refl
-    go (suc (suc (suc (suc (suc (suc (suc d))))))) l = absurd (omega arith)
-
 -- What holds of every code of a list by a computed test holds at each place.
 pub all-at : (p : ℕ → Bool) (cs : List ℕ) → all p cs ≡ true → (k : ℕ) → k < length cs → p (getD cs k 0) ≡ true
 unfolding all
@@ -229,10 +131,36 @@ all-at p (c ∷ cs) h k l = go (p c) refl h k l (all-at p cs)
     go true e h (suc k) l f = f h k (omega arith)
     go false e h k l f = absurd (let z : _≡_ {A = ℕ} 0 1 = cc in omega arith)
 
--- A row's code is known.
-pub row-known : (k : ℕ) → k < 10 → getD gridCodes k 0 ≡ 0 → ⊥
-unfolding computing
-row-known k h e =
-    let t : not (eqb (getD gridCodes k 0) 0) ≡ true = all-at (λ c. not (eqb c 0)) gridCodes refl k h in
-    let f : not (eqb (getD gridCodes k 0) 0) ≡ false = ap not (eq-eqb (getD gridCodes k 0) 0 e) in
-    let z : _≡_ {A = ℕ} 0 1 = cc in omega arith
+-- ---- the type of a code
+
+-- What a computed test says of every code of the table holds of a known one.
+code-tested : (p : ℕ → Bool) (k : ℕ) (qs : List T.Kind) → all (λ q. p (q .code)) qs ≡ true → any (T.hasCode k) qs ≡ true → p k ≡ true
+unfolding all any T.hasCode
+code-tested p k [] h e = absurd (let z : _≡_ {A = ℕ} 0 1 = cc in omega arith)
+code-tested p k (q ∷ qs) h e = go (eqb k (q .code)) refl e (p (q .code)) refl h (code-tested p k qs)
+  where
+    go : (b : Bool) → eqb k (q .code) ≡ b → b || any (T.hasCode k) qs ≡ true → (c : Bool) → p (q .code) ≡ c → c && all (λ q. p (q .code)) qs ≡ true
+        → (all (λ q. p (q .code)) qs ≡ true → any (T.hasCode k) qs ≡ true → p k ≡ true) → p k ≡ true
+    go b i e false j h f = absurd (let z : _≡_ {A = ℕ} 0 1 = cc in omega arith)
+    go true i e true j h f = ap p (eqb-true k (q .code) i) ∙ j
+    go false i e true j h f = f h e
+
+-- The type as the code tells it.
+abbrev pub typeOf : ℕ → ℕ
+typeOf k = cond (eqb k 1088) 3 (cond (eqb k 1092) 18 (cond (eqb k 1173) 14 (cond (ltb k 1092) (k - 1080) (k - 1081))))
+
+module _ (k : ℕ) (known : isCode k ≡ true) where
+  pub code-within : (1088 ≤ k) × (k ≤ 1173)
+  unfolding computing
+  code-within =
+      let e : leb 1088 k && leb k 1173 ≡ true = code-tested (λ c. leb 1088 c && leb c 1173) k kinds refl known in
+      (leb-true 1088 k (and-l (leb 1088 k) (leb k 1173) e), leb-true k 1173 (and-r (leb 1088 k) (leb k 1173) e))
+
+  pub type-is : eqb k 1096 ≡ false → (t : ℕ) → t ≡ typeOf k → codeOfType t ≡ k
+  unfolding computing
+  type-is n t e =
+      ap codeOfType e ∙ eqb-true (codeOfType (typeOf k)) k (go (eqb k 1096) n (code-tested (λ c. eqb c 1096 || eqb (codeOfType (typeOf c)) c) k kinds refl known))
+    where
+      go : (b : Bool) → b ≡ false → b || eqb (codeOfType (typeOf k)) k ≡ true → eqb (codeOfType (typeOf k)) k ≡ true
+      go true f h = absurd (let z : _≡_ {A = ℕ} 0 1 = cc in omega arith)
+      go false f h = h

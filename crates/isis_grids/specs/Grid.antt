@@ -1,15 +1,14 @@
 -- Sets on side A as grids (rule W7): one row per kind, of place and length or absent.
 use mathlib.Core.Bool.{Bool, cond, _&&_, not}
-use mathlib.Core.List.{List, [], _∷_, map}
+use mathlib.Core.List.{List, [], _∷_}
 use Prim.Native.Nat.{ℕ}
-use lib.Dec.{ltb, eqb}
-use lib.ListN.{length, getD, set}
+use lib.Dec.{eqb}
+use lib.ListN.{length, getD}
 use Rattle.linkstate.specs.Lists.{any}
 use Rattle.linkstate.specs.Bytes.{bytesAt}
 use Rattle.linkstate.specs.Kinds.{kinds, hasCode, fits}
 use Rattle.linkstate.specs.Replies.{Verdict, accepted}
 use Rattle.linkstate.specs.Attributes.{Attribute, ofKind}
-use Rattle.kinds.specs.Rules.{gridCodes, rowIn}
 
 -- The row of an attribute, and of none.
 unfoldable pub firstRow : List Attribute → List ℕ
@@ -19,22 +18,6 @@ firstRow (t ∷ ts) = t .at ∷ t .len ∷ []
 -- W5, W7. The row of a code: place and length of its first value in run A, two zeros where it is absent. No value stands at place 0.
 unfoldable pub rowOf : ℕ → List Attribute → List ℕ
 rowOf c ts = firstRow (ofKind c ts)
-
--- W7. The grid of a set.
-unfoldable pub gridOf : List Attribute → List (List ℕ)
-gridOf ts = map (λ c. rowOf c ts) gridCodes
-
--- One value more, by its code, place and length: it goes into the row of its code unless something stands there. A code that has no row changes nothing.
-unfoldable pub entered : List ℕ → List (List ℕ) → ℕ → ℕ → ℕ → List (List ℕ)
-entered cs g c at n = let k = rowIn cs c in cond (ltb k (length cs) && eqb (getD (getD g k []) 0 0) 0) (set g k (at ∷ n ∷ [])) g
-
--- All attributes of a list, one after the other.
-unfoldable pub filledIn : List ℕ → List (List ℕ) → List Attribute → List (List ℕ)
-filledIn cs g [] = g
-filledIn cs g (t ∷ ts) = filledIn cs (entered cs g (t .code) (t .at) (t .len)) ts
-
-abbrev pub filled : List (List ℕ) → List Attribute → List (List ℕ)
-filled g ts = filledIn gridCodes g ts
 
 -- The check that passes every element: faults by it are those of framing alone.
 unfoldable pub unchecked : ℕ → ℕ → List ℕ → Verdict

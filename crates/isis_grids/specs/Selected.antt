@@ -39,6 +39,24 @@ listAt w a at =
 abbrev pub Headed : List ℕ → Type 0
 Headed v = (2 ≤ length v) × (maskTooLong v ≡ false → headerLength v ≤ length v)
 
+-- Whether the list of an ASLA with the value v is read, and the ASLA selected.
+unfoldable pub isTaken : Which → List ℕ → Bool
+isTaken w v = cond (lFlag v) false (cond (maskTooLong v) false (selects w (advertisement v [])))
+
+-- The value of the element at a position, by its length byte.
+abbrev pub valueAt : List ℕ → ℕ → List ℕ
+valueAt a at = bytesAt a (at + 2) (getD a (at + 1) 0)
+
+-- The ASLA at a position of a run that passed its checks, and one whose masks are read.
+pub record AslaAt (a : List ℕ) (at : ℕ) : Type 0 where
+  pub inside : at + 2 + getD a (at + 1) 0 ≤ length a
+  pub headed : Headed (valueAt a at)
+
+pub record ReadAt (a : List ℕ) (at : ℕ) : Type 0 where
+  pub asla : AslaAt a at
+  pub plain : lFlag (valueAt a at) ≡ false
+  pub short : maskTooLong (valueAt a at) ≡ false
+
 -- The attributes of the advertisements of an element that are selected.
 unfoldable pub selected : Which → Element → List Attribute
 selected w e = each (λ d. d .attributes) (keep (selects w) (aslaAdvertisements e))

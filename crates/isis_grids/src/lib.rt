@@ -1,97 +1,37 @@
-// What run A holds, as grids and as single rows: of its legacy attributes, and of the ASLA sub-TLVs that pass a test (document 01, "Who gets what").
+// Rows of sets on side A, place and length of a kind's first value in run A: of its legacy attributes, and of the ASLA sub-TLVs that pass a test (document 01,
+// "Who gets what").
 ghost use mathlib.Core.Path.{_≡_};
-ghost use Prim.Native.Nat.{_+_, _<_, _≤_};
+ghost use mathlib.Core.Bool.{true, false, _&&_, not};
+ghost use mathlib.Core.List.{[]};
+ghost use Prim.Native.Nat.{_+_, _<_};
+ghost use lib.Dec.{eqb};
 ghost use lib.ListN.{length, getD};
 ghost use Rattle.linkstate.specs.Replies.{accepted, runA};
 ghost use Rattle.linkstate.specs.Lists.{each};
-ghost use Rattle.linkstate.specs.Bytes.{bytesAt};
 ghost use Rattle.linkstate.specs.Elements.{elements, faults};
-ghost use Rattle.linkstate.specs.Kinds.{codeOfType, linkCodes};
-ghost use Rattle.kinds.specs.Rules.{gridCodes, rowIn};
-ghost use Rattle.linkstate.specs.Sides.{ofLive};
+ghost use Rattle.linkstate.specs.Kinds.{codeOfType, isCode};
+ghost use Rattle.linkstate.specs.Sides.{names, rsvpTeAlone, ofLive};
+ghost use Rattle.isis.specs.MaskHeader.{lFlag, maskTooLong, advertisement};
 ghost use Rattle.isis.specs.RunA.{attributesOf, checkA, sideA};
-ghost use Rattle.isis_grids.specs.Grid.{rowOf, entered, filledIn, unchecked};
-ghost use Rattle.isis_grids.specs.Selected.{selects, unflagged, listFrom, listAt, Headed};
-use kinds::Kind;
+ghost use Rattle.isis_grids.specs.Grid.{rowOf, unchecked};
+ghost use Rattle.isis_grids.specs.Selected.{selects, listAt, isTaken, valueAt, AslaAt, ReadAt};
+ghost use Rattle.isis_grids.specs.declared.Which.the-variants.{General};
 
-// The row of a type; 10 where it has none.
-fn row_of(t: u8) -> usize
-    ensures { λ r. ⌜ r ≡ rowIn gridCodes (codeOfType t) ⌝ }
+// The type in run A of a code; SRLG has none.
+pub fn type_of(code: usize) -> u8
+    requires { ⌜ (isCode code ≡ true) × (eqb code 1096 ≡ false) ⌝ }
+    ensures { λ r. ⌜ codeOfType r ≡ code ⌝ }
 {
-    let rule = kinds::classify_type(t);
-    let kind = rule.kind;
-    match kind {
-        Kind::Link(_) => 10,
-        Kind::Application(k) => k,
-        Kind::Srlg => 10,
-        Kind::Asla => 10,
-        Kind::Unknown => 10,
-    }
-}
-
-// The type of a row.
-pub fn type_of(k: usize) -> u8
-    requires { ⌜ k < 10 ⌝ }
-    ensures { λ r. ⌜ codeOfType r ≡ getD gridCodes k 0 ⌝ }
-{
-    match k {
-        0 => 3,
-        1 => 18,
-        9 => 14,
-        _ => (k + 31) as u8,
-    }
-}
-
-// A value more, of a type, with its place and length: it goes into the row of its kind unless something stands there.
-fn enter(g: &mut [[usize; 2]; 10], t: u8, place: usize, n: usize)
-    ensures { λ _. ⌜ now (g .exit) ≡ entered gridCodes (now (g .entry)) (codeOfType t) place n ⌝ }
-{
-    let k = row_of(t);
-    if k < 10 {
-        if g[k][0] == 0 {
-            let row = [place, n];
-            g[k] = row;
+    match code {
+        1088 => 3,
+        1092 => 18,
+        1173 => 14,
+        _ => {
+            if code < 1092 {
+                return (code - 1080) as u8;
+            }
+            (code - 1081) as u8
         }
-    }
-}
-
-// The same for the rows of the link's bandwidths.
-fn enter_link(l: &mut [[usize; 2]; 3], t: u8, place: usize, n: usize)
-    ensures { λ _. ⌜ now (l .exit) ≡ entered linkCodes (now (l .entry)) (codeOfType t) place n ⌝ }
-{
-    if (9 <= t) & (t <= 11) {
-        let k = (t - 9) as usize;
-        if l[k][0] == 0 {
-            let row = [place, n];
-            l[k] = row;
-        }
-    }
-}
-
-// A grid filled with the attributes of a list, whose first byte is at an offset of run A.
-pub fn fill(g: &mut [[usize; 2]; 10], s: &[u8], base: usize)
-    requires { ⌜ (base + length (now s) < 18446744073709551616) × (faults runA unchecked (elements 1 base (now s)) ≡ accepted) ⌝ }
-    ensures { λ _. ⌜ now (g .exit) ≡ filledIn gridCodes (now (g .entry)) (each attributesOf (elements 1 base (now (s .entry)))) ⌝ }
-{
-    let mut at = 0;
-    while at < s.len() {
-        let n = s[at + 1] as usize;
-        enter(g, s[at], base + at + 2, n);
-        at = at + 2 + n;
-    }
-}
-
-// A grid and the rows of the link's bandwidths, filled with run A's legacy attributes.
-pub fn fill_legacy(g: &mut [[usize; 2]; 10], l: &mut [[usize; 2]; 3], a: &[u8])
-    requires { ⌜ faults runA checkA (elements 1 0 (now a)) ≡ accepted ⌝ }
-    ensures { λ _. ⌜ (now (g .exit) ≡ filledIn gridCodes (now (g .entry)) ((sideA (now (a .entry))) .legacy)) × (now (l .exit) ≡ filledIn linkCodes (now (l .entry)) ((sideA (now (a .entry))) .legacy)) ⌝ }
-{
-    let mut at = 0;
-    while at < a.len() {
-        let n = a[at + 1] as usize;
-        enter(g, a[at], at + 2, n);
-        enter_link(l, a[at], at + 2, n);
-        at = at + 2 + n;
     }
 }
 
@@ -103,61 +43,93 @@ pub enum Which {
     WithoutL,
 }
 
-// Whether an ASLA without L, of these masks, is selected.
-fn passes(which: Which, standard: &[u8], user: &[u8]) -> bool
-    requires { ⌜ (length (now standard) ≤ 8) × (length (now user) ≤ 8) ⌝ }
-    ensures { λ r. ⌜ r ≡ selects which (unflagged (now (standard .entry)) (now (user .entry))) ⌝ }
+// Whether the ASLA at a position is without L, and its masks are not too long to be read: with L the first byte is 128 or more.
+fn is_read(a: &[u8], at: usize) -> bool
+    requires { ⌜ AslaAt (now a) at ⌝ }
+    ensures { λ r. ⌜ r ≡ not (lFlag (valueAt (now (a .entry)) at)) && not (maskTooLong (valueAt (now (a .entry)) at)) ⌝ }
 {
-    match which {
-        Which::Naming(n) => masks::names(standard, user, n),
-        Which::General => {
-            if standard.len() != 0 {
-                return false;
-            }
-            user.len() == 0
-        }
-        Which::RsvpTeAlone => {
-            if masks::mask_number(standard) != 1 {
-                return false;
-            }
-            masks::mask_number(user) == 0
-        }
-        Which::WithoutL => true,
+    if 8 < a[at + 2] {
+        return false;
     }
+    a[at + 3] % 128 <= 8
 }
 
-// Where the attribute list of an ASLA with the value v begins; past the end where there is none to read, or the ASLA is not selected.
-fn list_start(v: &[u8], which: Which) -> usize
-    requires { ⌜ Headed (now v) ⌝ }
-    ensures { λ r. ⌜ r ≡ listFrom which (now (v .entry)) ⌝ }
+// Whether such an ASLA names an application.
+fn names_at(a: &[u8], at: usize, n: u32) -> bool
+    requires { ⌜ ReadAt (now a) at ⌝ }
+    ensures { λ r. ⌜ r ≡ names n (advertisement (valueAt (now (a .entry)) at) []) ⌝ }
 {
-    let h = isis_check_a::read_header(v);
-    if h.l {
-        return v.len();
+    let standard = a[at + 2] as usize;
+    if n < 64 {
+        return masks::bit_at(a, at + 4, standard, n);
     }
-    if isis_check_a::mask_too_long(h) {
-        return v.len();
+    let user = (a[at + 3] % 128) as usize;
+    masks::bit_at(a, at + 4 + standard, user, n - 64)
+}
+
+// Whether RSVP-TE's is its only bit.
+fn is_alone(a: &[u8], at: usize) -> bool
+    requires { ⌜ ReadAt (now a) at ⌝ }
+    ensures { λ r. ⌜ r ≡ rsvpTeAlone (advertisement (valueAt (now (a .entry)) at) []) ⌝ }
+{
+    if !names_at(a, at, 0) {
+        return false;
     }
-    let m = 2 + h.standard;
-    let e = m + h.user;
-    if passes(which, &v[2..m], &v[m..e]) {
-        return e;
+    let m = at + 4 + a[at + 2] as usize;
+    let e = m + (a[at + 3] % 128) as usize;
+    if masks::mask_number(&a[at + 4..m]) != 1 {
+        return false;
     }
-    v.len()
+    masks::mask_number(&a[m..e]) == 0
+}
+
+// Whether both its masks have no byte; with L the first byte is not 0.
+fn is_general(a: &[u8], at: usize) -> bool
+    requires { ⌜ AslaAt (now a) at ⌝ }
+    ensures { λ r. ⌜ r ≡ isTaken General (valueAt (now (a .entry)) at) ⌝ }
+{
+    if a[at + 2] != 0 {
+        return false;
+    }
+    a[at + 3] % 128 == 0
+}
+
+// Whether the ASLA at a position is selected, and its list read.
+fn is_selected(a: &[u8], at: usize, which: Which) -> bool
+    requires { ⌜ AslaAt (now a) at ⌝ }
+    ensures { λ r. ⌜ r ≡ isTaken which (valueAt (now (a .entry)) at) ⌝ }
+{
+    match which {
+        Which::Naming(n) => {
+            if !is_read(a, at) {
+                return false;
+            }
+            names_at(a, at, n)
+        }
+        Which::General => is_general(a, at),
+        Which::RsvpTeAlone => {
+            if !is_read(a, at) {
+                return false;
+            }
+            is_alone(a, at)
+        }
+        Which::WithoutL => is_read(a, at),
+    }
 }
 
 // Where in run A the list of the ASLA at a position begins: at the ASLA's end where there is none to read, or it is not selected.
 fn list_at(a: &[u8], at: usize, which: Which) -> usize
-    requires { ⌜ (getD (now a) at 0 ≡ 16) × (at + 2 + getD (now a) (at + 1) 0 ≤ length (now a)) × (Headed (bytesAt (now a) (at + 2) (getD (now a) (at + 1) 0))) ⌝ }
+    requires { ⌜ (getD (now a) at 0 ≡ 16) × AslaAt (now a) at ⌝ }
     ensures { λ r. ⌜ r ≡ listAt which (now (a .entry)) at ⌝ }
 {
-    let n = a[at + 1] as usize;
-    let v = at + 2;
-    v + list_start(&a[v..v + n], which)
+    if is_selected(a, at, which) {
+        return at + 4 + a[at + 2] as usize + (a[at + 3] % 128) as usize;
+    }
+    at + 2 + a[at + 1] as usize
 }
 
 // The row of one kind, by its type, in a list whose first byte is at an offset of run A.
-pub fn row_in(s: &[u8], base: usize, t: u8) -> [usize; 2]
+fn row_in(s: &[u8], base: usize, t: u8) -> [usize; 2]
     requires { ⌜ (codeOfType t ≡ 0 → ⊥) × (base + length (now s) < 18446744073709551616) × (faults runA unchecked (elements 1 base (now s)) ≡ accepted) ⌝ }
     ensures { λ r. ⌜ r ≡ rowOf (codeOfType t) (each attributesOf (elements 1 base (now (s .entry)))) ⌝ }
 {
@@ -172,6 +144,14 @@ pub fn row_in(s: &[u8], base: usize, t: u8) -> [usize; 2]
     }
     let none = [0usize; 2];
     none
+}
+
+// The row of one kind, by its type, among run A's own elements.
+pub fn legacy_row(a: &[u8], t: u8) -> [usize; 2]
+    requires { ⌜ (codeOfType t ≡ 0 → ⊥) × (faults runA checkA (elements 1 0 (now a)) ≡ accepted) ⌝ }
+    ensures { λ r. ⌜ r ≡ rowOf (codeOfType t) ((sideA (now (a .entry))) .legacy) ⌝ }
+{
+    row_in(a, 0, t)
 }
 
 // The row of one kind, by its type, in the live ASLA sub-TLVs that are selected.

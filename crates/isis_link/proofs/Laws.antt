@@ -1,60 +1,55 @@
 -- What an accepted link gives to those who read its runs, and its named applications from the numbers of both sides.
-use mathlib.Core.Path.{_≡_, refl, sym, ap, ap₂, _∙_}
+use mathlib.Core.Path.{_≡_, refl, sym, ap, ap₂, _∙_, subst}
 use mathlib.Core.Bool.{Bool, true, false, cond, _&&_, _||_, not}
-use mathlib.Core.List.{List, [], _∷_}
-use Prim.Native.Nat.{ℕ, zero, suc, _+_, _-_, _^_, _≤_, _<_}
+use mathlib.Core.List.{List}
+use Prim.Native.Nat.{ℕ, zero, suc, _+_, _-_, _^_, _<_}
 use native.Mathlib.Omega.{arith}
 use native.Mathlib.Nat.{div-eq-of-lt}
-use borrow.Author.Tests.{eqb-true, ne-eqb, le-ltb, ltb-false}
-use lib.Dec.{eqb, ltb}
-use lib.ListN.{length, take, drop}
+use borrow.Author.Tests.{eqb-true, ne-eqb, lt-ltb, le-ltb}
+use lib.Dec.{eqb}
+use lib.ListN.{length}
 use Rattle.linkstate.specs.Lists.{empty, member, numbers}
-use Rattle.linkstate.specs.Masks.{user, others, inNumber, asNumber}
-use Rattle.linkstate.specs.Replies.{Verdict, Asked, absent, unless, accepted, refusedIf, faultOfCall, fault, _then_, runA, runB, listed, Named}
-use Rattle.linkstate.specs.Elements.{elements, faults}
-use Rattle.linkstate.specs.Sides.{named, applicationSet, rsvpTeKind}
+use Rattle.linkstate.specs.Masks.{user, others, inNumber}
+use Rattle.linkstate.specs.Replies.{runA, Verdict, Asked, absent, unless, accepted, listed}
+use Rattle.linkstate.specs.Sides.{named}
 use Rattle.linkstate.specs.Attributes.{Attribute, srlgs}
-use Rattle.linkstate.specs.Questions.{Source, Subject, generally, standardNo, userNo, setOf, unwritten, bytesOfFirst, srlgAnswer, listNamed}
-use Rattle.linkstate.proofs.ListLaws.{or-l, or-r, and-l, and-r}
-use Rattle.linkstate.proofs.WalkLaws.{then-first, then-second, unrefused}
-use Rattle.isis.specs.RunA.{checkA, sideA}
-use Rattle.isis.specs.RunB.{checkB, sideB}
+use Rattle.linkstate.specs.Questions.{Subject, setOf, given, beforeAnswer, unwritten, bytesOfFirst, srlgAnswer, answer, ask, listNamed}
+use Rattle.isis.specs.RunA.{sideA}
+use Rattle.isis.specs.RunB.{sideB}
 use Rattle.isis.specs.Link.{linkVerdict, linkSource}
-use Rattle.isis.proofs.Computing.{computing}
 use Rattle.masks.proofs.Laws.{is-number}
 use Rattle.rivals.proofs.KindLaws.{standard-other, user-other}
+use Rattle.masks.specs.Sets.{inSent}
+use Rattle.naming.specs.declared.Names.{Names}
+use Rattle.naming.specs.Names.{inBoth, Tells, Joins}
+use Rattle.naming.proofs.Laws.{side-named}
+use Rattle.answering.proofs.Entries.{ask-answered}
+use Rattle.rules.specs.Rules.{givenOn}
+use Rattle.isis_check.specs.declared.Sides.{Sides}
+use Rattle.isis_check.specs.declared.LinkChecked.{LinkChecked}
+use Rattle.isis_check.specs.declared.LinkChecked.the-variants.{Accepted}
+use Rattle.isis_check.specs.Sides.{NamedSides}
+use Rattle.isis_values.proofs.Checks.{b-passed, b-short, c-short}
+use Rattle.isis_values.proofs.Given.{given-in-b}
 use Rattle.isis_srlgs.specs.Runs.{Passed}
-use Rattle.isis_srlgs.proofs.Subjects.{no-srlgs}
+use Rattle.isis_srlgs.proofs.Words.{no-srlgs}
 
-module _ (a b c : List ℕ) (ok : linkVerdict a b c ≡ accepted) where
-  sizes : (ltb 2048 (length a) || ltb 2048 (length b)) || ltb 1024 (length c) ≡ false
-  unfolding linkVerdict
-  sizes = unrefused _ 1 (then-first _ _ ok)
-
-  runs : (faults runA checkA (elements 1 0 a) then faults runB checkB (elements 1 0 b)) ≡ accepted
-  unfolding linkVerdict
-  runs = then-second _ _ (then-second _ _ ok)
-
-  pub a-passed : faults runA checkA (elements 1 0 a) ≡ accepted
-  a-passed = then-first _ _ runs
-
-  pub b-passed : faults runB checkB (elements 1 0 b) ≡ accepted
-  b-passed = then-second _ _ runs
-
-  pub passed : Passed b c
-  passed =
-      record {
-        checked = b-passed;
-        shortB = ltb-false 2048 (length b) (or-r (ltb 2048 (length a)) (ltb 2048 (length b)) (or-l (ltb 2048 (length a) || ltb 2048 (length b)) (ltb 1024 (length c)) sizes));
-        shortC = ltb-false 1024 (length c) (or-r (ltb 2048 (length a) || ltb 2048 (length b)) (ltb 1024 (length c)) sizes);
-      }
+pub passed : (a b c : List ℕ) → linkVerdict a b c ≡ accepted → Passed b c
+passed a b c ok = record { checked = b-passed a b c ok; shortB = b-short a b c ok; shortC = c-short a b c ok }
 
 -- A verdict that was told of the link is its source's.
 pub of-link : (a b c : List ℕ) (v : Verdict) → v ≡ linkVerdict a b c → v ≡ (linkSource a b c) .verdict
 unfolding linkSource
 of-link a b c v e = e
 
--- The bytes that places lie in are run A's.
+-- Places lie in run A, and the bytes are its own.
+pub answered : (a b c : List ℕ) (whom : Subject) (k : ℕ) (list : List ℕ) (x : Asked) → beforeAnswer (linkSource a b c) whom k ≡ accepted → x ≡ answer runA k (given (linkSource a b c) whom k) list → x ≡ ask (linkSource a b c) whom k list
+unfolding linkSource
+answered a b c whom k list x e h = h ∙ of-run
+  where
+    of-run : answer runA k (given (linkSource a b c) whom k) list ≡ ask (linkSource a b c) whom k list
+    of-run = ask-answered (linkSource a b c) whom k list e
+
 pub source-bytes : (a b c v : List ℕ) (ts : List Attribute) → v ≡ bytesOfFirst a ts → v ≡ bytesOfFirst ((linkSource a b c) .bytes) ts
 unfolding linkSource
 source-bytes a b c v ts e = e
@@ -105,18 +100,39 @@ module _ (a b c : List ℕ) (standard users : ℕ) where
       (is-number standard (λ n. member n others && (named n (sideA a) || named n (sideB b c))) ls (λ n h. hs n h ∙ and-comm (named n (sideA a) || named n (sideB b c)) (not (eqb n 0)) ∙ ap (λ (x : Bool). x && (named n (sideA a) || named n (sideB b c))) (sym (standard-is n h))))
       (is-number users (λ n. member (user n) others && (named (user n) (sideA a) || named (user n) (sideB b c))) lu (λ n h. hu n h ∙ ap (λ (x : Bool). x && (named (user n) (sideA a) || named (user n) (sideB b c))) (sym (user-is n h)))))
 
--- What is in the numbers, from what each step says of them.
-module _ (x y j s : ℕ) (p q : ℕ → Bool) where
-  pub standard-in : ((n : ℕ) → n < 64 → inNumber x n ≡ p n) → ((n : ℕ) → n < 64 → inNumber y n ≡ q n) → ((n : ℕ) → inNumber j n ≡ inNumber x n || inNumber y n)
-      → ((n : ℕ) → inNumber s n ≡ inNumber j n && not (inNumber 1 n)) → (n : ℕ) → n < 64 → inNumber s n ≡ (p n || q n) && not (eqb n 0)
-  standard-in hx hy hj hs n h = hs n ∙ ap₂ (λ (u v : Bool). u && not v) (hj n ∙ ap₂ (λ (u v : Bool). u || v) (hx n h) (hy n h)) (in-one n)
+-- Whom the sides name, as the checks tell it.
+pub told-names : (a b c : List ℕ) (r : LinkChecked) → NamedSides r a b c → (s : Sides) → r ≡ Accepted s → Tells ((sideA a) .live) (s .a) × Tells ((sideB b c) .live) (s .b)
+told-names a b c r h s e = subst (λ (x : LinkChecked). NamedSides x a b c) e h
 
-  pub user-in : ((n : ℕ) → n < 64 → inNumber x n ≡ p n) → ((n : ℕ) → n < 64 → inNumber y n ≡ q n) → ((n : ℕ) → inNumber j n ≡ inNumber x n || inNumber y n)
-      → (n : ℕ) → n < 64 → inNumber j n ≡ p n || q n
-  user-in hx hy hj n h = hj n ∙ ap₂ (λ (u v : Bool). u || v) (hx n h) (hy n h)
+-- What is in the numbers, from what each step says of them: m is whom either side names, with the bytes of masks.
+module _ (a b c : List ℕ) (x y m : Names) (p : Tells ((sideA a) .live) x) (q : Tells ((sideB b c) .live) y) (j : Joins x y m) where
+  either : (n : ℕ) → inBoth (m .standard) (m .user) n ≡ named n (sideA a) || named n (sideB b c)
+  either n = j .named n ∙ ap₂ (λ (u v : Bool). u || v) (side-named (sideA a) x p n) (side-named (sideB b c) y q n)
+
+  module _ (t : ℕ) where
+    pub standard-in : ((n : ℕ) → n < 64 → inNumber t n ≡ inSent (m .standard) n) → (s : ℕ) → ((n : ℕ) → inNumber s n ≡ inNumber t n && not (inNumber 1 n))
+        → (n : ℕ) → n < 64 → inNumber s n ≡ (named n (sideA a) || named n (sideB b c)) && not (eqb n 0)
+    unfolding inBoth
+    standard-in ht s hs n h = hs n ∙ ap₂ (λ (u v : Bool). u && not v) (ht n h ∙ low n h ∙ either n) (in-one n)
+      where
+        low : (n : ℕ) → n < 64 → inSent (m .standard) n ≡ inBoth (m .standard) (m .user) n
+        low n h = ap (λ (b : Bool). cond b (inSent (m .standard) n) (inSent (m .user) (n - 64))) (sym (lt-ltb n 64 h))
+
+    pub user-in : ((n : ℕ) → n < 64 → inNumber t n ≡ inSent (m .user) n) → (n : ℕ) → n < 64 → inNumber t n ≡ named (user n) (sideA a) || named (user n) (sideB b c)
+    unfolding inBoth user
+    user-in ht n h = ht n h ∙ high n ∙ either (64 + n)
+      where
+        high : (n : ℕ) → inSent (m .user) n ≡ inBoth (m .standard) (m .user) (64 + n)
+        high n =
+            let z : n ≡ 64 + n - 64 = omega arith in
+            ap (inSent (m .user)) z ∙ ap (λ (b : Bool). cond b (inSent (m .standard) (64 + n)) (inSent (m .user) (64 + n - 64))) (sym (le-ltb (64 + n) 64 (omega arith)))
 
 -- Without runs B and C there is no SRLG to answer with.
-pub none-there : (a b c : List ℕ) (whom : Subject) (list : List ℕ) → (eqb (length b) 0 && eqb (length c) 0) ≡ true
-    → record { reply = absent; list = list } ≡ srlgAnswer (srlgs (setOf (linkSource a b c) whom 1096)) list
+pub none-there : (b c : List ℕ) (whom : Subject) (list : List ℕ) → (eqb (length b) 0 && eqb (length c) 0) ≡ true
+    → record { reply = absent; list = list } ≡ srlgAnswer (srlgs (givenOn whom 1096 (sideB b c))) list
 unfolding srlgAnswer unwritten empty
-none-there a b c whom list e = sym (ap (λ (ns : List ℕ). srlgAnswer ns list) (no-srlgs a b c whom e))
+none-there b c whom list e = sym (ap (λ (ns : List ℕ). srlgAnswer ns list) (no-srlgs b c whom e))
+
+-- What the code answers SRLG with, of the link.
+pub srlg-of-link : (a b c : List ℕ) (whom : Subject) (list : List ℕ) (x : Asked) → x ≡ srlgAnswer (srlgs (givenOn whom 1096 (sideB b c))) list → x ≡ srlgAnswer (srlgs (setOf (linkSource a b c) whom 1096)) list
+srlg-of-link a b c whom list x e = e ∙ ap (λ (ts : List Attribute). srlgAnswer (srlgs ts) list) (given-in-b a b c whom)

@@ -1,50 +1,56 @@
 // Questions to an IS-IS link: ask, value and named. A link is three lent runs: A, the sub-TLVs of its neighbour entry; B, its TLVs 238, whole; C, its legacy SRLG values.
 // Any bytes, any subject and any code are taken; every refusal is document 01's, and after one nothing was written.
 ghost use mathlib.Core.Path.{_≡_};
-ghost use mathlib.Core.Bool.{true, false};
-ghost use mathlib.Core.List.{List};
-ghost use Prim.Native.Nat.{ℕ};
-ghost use Rattle.linkstate.specs.Kinds.{isCode};
-ghost use Rattle.linkstate.specs.Replies.{accepted, runA};
+ghost use mathlib.Core.Bool.{false};
+ghost use Rattle.linkstate.specs.Replies.{runA};
 ghost use Rattle.linkstate.specs.Attributes.{srlgs};
-ghost use Rattle.linkstate.specs.Questions.{numberTooHigh, setOf, given, srlgAnswer, answer, ask, value, listNamed};
-ghost use Rattle.isis.specs.Link.{linkVerdict, linkSource};
+ghost use Rattle.linkstate.specs.Questions.{numberTooHigh, given, srlgAnswer, answer, ask, value, listNamed};
+ghost use Rattle.isis.specs.RunB.{sideB};
+ghost use Rattle.isis.specs.Link.{linkSource};
 ghost use Rattle.replies.specs.Told.{subjectOf, toldAsked, toldNamed};
+ghost use Rattle.naming.specs.Names.{Tells};
+ghost use Rattle.rules.specs.Rules.{givenOn};
+ghost use Rattle.isis_values.specs.Asked.{Asked};
 ghost use Rattle.isis_srlgs.specs.Runs.{Passed};
+use isis_check::LinkChecked;
+use isis_check::Sides;
+use naming::Names;
 use replies::Answer;
-use replies::Checked;
 use replies::Named;
 use replies::Subject;
 
-// The reply of SRLG, of a link that passed its checks. Without TLVs 238 and legacy values there is none.
-fn answer_srlg(b: &[u8], c: &[u8], whom: Subject, list: &mut [u32]) -> Answer
-    requires { ⌜ Passed (now b) (now c) × (numberTooHigh (subjectOf whom) ≡ false) ⌝ }
-    ensures { λ r. ⌜ ((a : List ℕ) → toldAsked r (now (list .exit)) ≡ srlgAnswer (srlgs (setOf (linkSource a (now (b .entry)) (now (c .entry))) (subjectOf whom) 1096)) (now (list .entry))) ⌝ }
+// The reply of SRLG, by whom side B names. Without TLVs 238 and legacy values there is none.
+fn answer_srlg(b: &[u8], c: &[u8], whom: Subject, m: Names, list: &mut [u32]) -> Answer
+    requires { ⌜ Passed (now b) (now c) × (numberTooHigh (subjectOf whom) ≡ false) × Tells ((sideB (now b) (now c)) .live) m ⌝ }
+    ensures { λ r. ⌜ toldAsked r (now (list .exit)) ≡ srlgAnswer (srlgs (givenOn (subjectOf whom) 1096 (sideB (now (b .entry)) (now (c .entry))))) (now (list .entry)) ⌝ }
 {
     if (b.len() == 0) & (c.len() == 0) {
         return Answer::Absent;
     }
     let mut ns = [0u32; 512];
-    let k = isis_srlgs::srlgs_of(b, c, whom, &mut ns);
+    let k = isis_srlgs::srlgs_of(b, c, whom, m, &mut ns);
     answering::answer_front(&ns, k, list)
 }
 
-// The answer to a question that nothing refuses but 5.
+// The answer to a question that nothing refuses but 5, by whom the sides name: the names of a kind's own side count.
 fn answer_accepted(
     a: &[u8],
     b: &[u8],
     c: &[u8],
     whom: Subject,
     code: usize,
+    names: Sides,
     list: &mut [u32],
 ) -> Answer
-    requires { ⌜ (linkVerdict (now a) (now b) (now c) ≡ accepted) × (numberTooHigh (subjectOf whom) ≡ false) × (isCode code ≡ true) ⌝ }
+    requires { ⌜ Asked (now a) (now b) (now c) (subjectOf whom) code names ⌝ }
     ensures { λ r. ⌜ toldAsked r (now (list .exit)) ≡ answer runA code (given (linkSource (now (a .entry)) (now (b .entry)) (now (c .entry))) (subjectOf whom) code) (now (list .entry)) ⌝ }
 {
     if code == 1096 {
-        return answer_srlg(b, c, whom, list);
+        let m = names.b;
+        return answer_srlg(b, c, whom, m, list);
     }
-    isis_values::answer_value(a, whom, code)
+    let m = names.a;
+    isis_values::answer_value(a, whom, code, m)
 }
 
 // One kind of one subject: absent, found with its reading, or refused. SRLGs go ascending to the front of the lent list; for every other answer the list stays as it was.
@@ -52,13 +58,9 @@ fn answer_accepted(
 pub fn ask(a: &[u8], b: &[u8], c: &[u8], whom: Subject, code: usize, list: &mut [u32]) -> Answer
     ensures { λ r. ⌜ toldAsked r (now (list .exit)) ≡ ask (linkSource (now (a .entry)) (now (b .entry)) (now (c .entry))) (subjectOf whom) code (now (list .entry)) ⌝ }
 {
-    match answering::check_question(whom, code) {
-        Checked::Refused(x) => return Answer::Refused(x),
-        Checked::Accepted => {}
-    }
-    match isis_check::check_link(a, b, c) {
-        Checked::Refused(x) => Answer::Refused(x),
-        Checked::Accepted => answer_accepted(a, b, c, whom, code, list),
+    match isis_values::check_asked(a, b, c, whom, code) {
+        LinkChecked::Refused(x) => Answer::Refused(x),
+        LinkChecked::Accepted(names) => answer_accepted(a, b, c, whom, code, names, list),
     }
 }
 
@@ -74,31 +76,30 @@ pub fn value<'a, 'b, 'c>(
 ) -> &'a [u8]
     ensures { λ r. ⌜ now r ≡ value (linkSource (now (a .entry)) (now (b .entry)) (now (c .entry))) (subjectOf whom) code ⌝ }
 {
-    match answering::check_question(whom, code) {
-        Checked::Refused(_) => return &a[0..0],
-        Checked::Accepted => {}
+    match isis_values::check_asked(a, b, c, whom, code) {
+        LinkChecked::Refused(_) => return &a[0..0],
+        LinkChecked::Accepted(names) => {
+            if code == 1096 {
+                return &a[0..0];
+            }
+            let m = names.a;
+            return isis_values::part_of(a, whom, code, m);
+        }
     }
-    match isis_check::check_link(a, b, c) {
-        Checked::Refused(_) => return &a[0..0],
-        Checked::Accepted => {}
-    }
-    if code == 1096 {
-        return &a[0..0];
-    }
-    isis_values::part_of(a, whom, code)
 }
 
 // The applications other than RSVP-TE that the link names on either side.
 pub fn named(a: &[u8], b: &[u8], c: &[u8]) -> Named
     ensures { λ r. ⌜ toldNamed r ≡ listNamed (linkSource (now (a .entry)) (now (b .entry)) (now (c .entry))) ⌝ }
 {
-    match isis_check::check_link(a, b, c) {
-        Checked::Refused(x) => Named::Refused(x),
-        Checked::Accepted => {
-            let x = isis_sets::named_in_a(a);
-            let y = isis_tlvs_238::named_in_b(b);
-            let standard = masks::without(masks::joined(x.standard, y.standard), 1);
-            let user = masks::joined(x.user, y.user);
+    match isis_check::check_sides(a, b, c) {
+        LinkChecked::Refused(x) => Named::Refused(x),
+        LinkChecked::Accepted(names) => {
+            let x = names.a;
+            let y = names.b;
+            let m = naming::both(x, y);
+            let standard = masks::without(masks::turned(m.standard), 1);
+            let user = masks::turned(m.user);
             Named::Listed { standard, user }
         }
     }

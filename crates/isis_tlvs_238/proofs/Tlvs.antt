@@ -1,23 +1,22 @@
 -- One TLV 238 that passed its checks: its parts lie within it, and what it says by the tests of its header. v follows the neighbour bytes.
 use mathlib.Core.Path.{_≡_, refl, sym, ap, ap₂, _∙_, subst}
-use mathlib.Core.Bool.{Bool, true, false, cond, _&&_, _||_, not, and-true, and-false, or-false}
+use mathlib.Core.Bool.{Bool, true, false, cond, _&&_, _||_, not, and-true, and-false}
 use mathlib.Core.List.{List, [], _∷_, append-nil}
 use Prim.Native.Nat.{ℕ, _+_, _-_, _/_, _≤_, _<_}
 use native.Mathlib.Omega.{arith}
-use borrow.Author.Tests.{eq-eqb, ne-eqb, lt-ltb, le-ltb, ltb-true, ltb-false}
+use borrow.Author.Tests.{eq-eqb, ne-eqb, ltb-true, ltb-false}
 use lib.Dec.{eqb, ltb}
 use lib.ListN.{length, take, drop, length-take, length-drop}
 use lib.Seq.{drop-drop, drop-length}
-use Rattle.linkstate.specs.Lists.{any, keep, each, put}
+use Rattle.linkstate.specs.Lists.{keep, each, put}
 use Rattle.linkstate.specs.Bytes.{words}
 use Rattle.linkstate.specs.Replies.{accepted, runB}
 use Rattle.linkstate.specs.Elements.{element}
-use Rattle.linkstate.specs.Masks.{bit, inMasks, asNumber, inNumber}
+use Rattle.linkstate.specs.Masks.{inMasks}
 use Rattle.linkstate.specs.Attributes.{Attribute, ofKind}
 use Rattle.linkstate.specs.Sides.{Advertisement, names, general}
 use Rattle.linkstate.proofs.WalkLaws.{not-accepted}
 use Rattle.octets.proofs.Laws.{put-nil}
-use Rattle.masks.proofs.Laws.{in-number}
 use Rattle.srlg.proofs.Laws.{length-words}
 use Rattle.isis.specs.MaskHeader.{lFlag, sabmLength, udabmLength, headerLength, maskTooLong, advertisement}
 use Rattle.isis.specs.RunB.{afterNeighbour, identifierBytes, srlgValues, srlgAttribute, ignored, identifiers, checkSrlg, checkB, liveSrlg, srlgAdvertisement, srlgAdvertisements}
@@ -27,8 +26,7 @@ use Rattle.isis_check_b.proofs.SrlgLaws.{behind, tlv-srlg, srlg-short, srlg-no-
 use Rattle.isis_check_a.proofs.Laws.{rest-is}
 use Rattle.isis_tlvs_238.specs.declared.Which.{Which}
 use Rattle.isis_tlvs_238.specs.declared.Which.the-variants.{Naming, General}
-use Rattle.isis_tlvs_238.specs.declared.How.the-variants.{WithL, WithoutL, NotNamed}
-use Rattle.isis_tlvs_238.specs.Selected.{selects, masked, howAmong, srlgWords, wordsIn, Listed, Whole}
+use Rattle.isis_tlvs_238.specs.Selected.{selects, masked, srlgWords, wordsIn, Listed, Whole}
 
 -- ---- what the checks promise
 
@@ -147,22 +145,6 @@ behind-listed value h = subst Listed (sym (after-is value (h .0))) (h .1)
 
 -- ---- what it says
 
-pub any-one : {A : Type 0} (p : A → Bool) (b : Bool) (d : A) → any p (cond b (d ∷ []) []) ≡ b && p d
-unfolding any
-any-one p false d = refl
-any-one p true d = go (p d)
-  where
-    go : (x : Bool) → (x || false) ≡ x
-    go true = refl
-    go false = refl
-
-how-decided : (live l n x : Bool) → x ≡ live && n → cond (live && (l && n)) WithL (cond (live && n) WithoutL NotNamed) ≡ cond x (cond l WithL WithoutL) NotNamed
-how-decided true true true x e = rw e
-how-decided true true false x e = rw e
-how-decided true false true x e = rw e
-how-decided true false false x e = rw e
-how-decided false l n x e = rw e
-
 pub words-one : (at : ℕ) (s : List ℕ) → srlgWords (srlgAttribute at s ∷ []) ≡ words s
 unfolding srlgWords srlgAttribute ofKind keep each
 words-one at s = append-nil (words s)
@@ -204,46 +186,15 @@ module _ (at t : ℕ) (value : List ℕ) (other : t ≡ 238 → ⊥) where
   unfolding srlgAdvertisements
   none-there = rw (ne-eqb t 238 other)
 
-  pub other-how : (n : ℕ) → NotNamed ≡ howAmong n (srlgAdvertisements (element at t value))
-  unfolding howAmong any
-  other-how n = rw none-there
-
   pub other-words : (w : Which) → wordsIn w (element at t value) ≡ []
   unfolding wordsIn keep each
   other-words w = rw none-there words-none
-
-  pub other-names : (a : ℕ) → any (names a) (srlgAdvertisements (element at t value)) ≡ false
-  unfolding any
-  other-names a = rw none-there
 
 -- A 238, with x what `taken` says of it.
 module _ (at t : ℕ) (value v : List ℕ) (is : t ≡ 238) (e : v ≡ afterNeighbour value) where
   pub one-there : srlgAdvertisements (element at t value) ≡ cond (liveSrlg at v) (srlgAdvertisement at v ∷ []) []
   unfolding srlgAdvertisements
   one-there = rw (is, e)
-
-  pub names-are : (a : ℕ) → any (names a) (srlgAdvertisements (element at t value)) ≡ liveSrlg at v && names a (advertisement v [])
-  unfolding names srlgAdvertisement advertisement
-  names-are a = ap (any (names a)) one-there ∙ any-one (names a) (liveSrlg at v) (srlgAdvertisement at v)
-
-  how-is : (n : ℕ) (x : Bool) → x ≡ liveSrlg at v && selects (Naming n) (advertisement v [])
-      → cond x (cond (lFlag v) WithL WithoutL) NotNamed ≡ howAmong n (srlgAdvertisements (element at t value))
-  unfolding howAmong names srlgAdvertisement advertisement selects
-  how-is n x f =
-      sym (ap (howAmong n) one-there
-      ∙ ap₂ (λ (p q : Bool). cond p WithL (cond q WithoutL NotNamed))
-      (any-one (λ (d : Advertisement). d .L && names n d) (liveSrlg at v) (srlgAdvertisement at v)) (any-one (names n) (liveSrlg at v) (srlgAdvertisement at v))
-      ∙ how-decided (liveSrlg at v) (lFlag v) (names n (srlgAdvertisement at v)) x f)
-
-  module _ (n : ℕ) (x : Bool) (f : x ≡ liveSrlg at v && selects (Naming n) (advertisement v [])) where
-    pub how-not : x ≡ false → NotNamed ≡ howAmong n (srlgAdvertisements (element at t value))
-    how-not g = rw g at (how-is n x f)
-
-    pub how-l : x ≡ true → lFlag v ≡ true → WithL ≡ howAmong n (srlgAdvertisements (element at t value))
-    how-l g l = rw (g, l) at (how-is n x f)
-
-    pub how-no-l : x ≡ true → lFlag v ≡ false → WithoutL ≡ howAmong n (srlgAdvertisements (element at t value))
-    how-no-l g l = rw (g, l) at (how-is n x f)
 
   pub words-are : (w : Which) (x : Bool) → x ≡ liveSrlg at v && selects w (advertisement v [])
       → wordsIn w (element at t value) ≡ cond x (cond (lFlag v) [] (words (srlgValues v))) []
@@ -278,11 +229,6 @@ module _ (at t : ℕ) (value v : List ℕ) (is : t ≡ 238) (e : v ≡ afterNeig
       ∙ ap words (sym (drop-drop (headerLength v + 1 + identifierBytes v) 7 value) ∙ ap (drop (headerLength v + 1 + identifierBytes v)) (sym e))
       ∙ sym (words-are w x f ∙ rw (n, l))
 
--- ---- whom it names
-
-pub joins-nothing : (x y : Bool) → y ≡ false → x ≡ x || y
-joins-nothing x y e = sym (ap (λ (z : Bool). x || z) e ∙ or-false x)
-
 -- Masks that are not too long have eight bytes at most.
 pub masks-short : (v : List ℕ) → maskTooLong v ≡ false → (sabmLength v ≤ 8) × (udabmLength v ≤ 8)
 unfolding maskTooLong
@@ -292,28 +238,3 @@ masks-short v e = go (ltb 8 (sabmLength v)) refl (ltb 8 (udabmLength v)) refl e
     go true f q g h = let z : _≡_ {A = ℕ} 0 1 = cc in absurd (omega arith)
     go false f true g h = let z : _≡_ {A = ℕ} 0 1 = cc in absurd (omega arith)
     go false f false g h = (ltb-false 8 (sabmLength v) f, ltb-false 8 (udabmLength v) g)
-
-pub take-short : (s l : List ℕ) (n : ℕ) → s ≡ take n l → n ≤ 8 → length s ≤ 8
-take-short s l n e h = omega (arith, ap length e, length-take n l)
-
-module _ (at t : ℕ) (value v : List ℕ) (is : t ≡ 238) (e : v ≡ afterNeighbour value) (l : Bool) (f : l ≡ liveSrlg at v) where
-  pub names-dead : (a : ℕ) → l ≡ false → any (names a) (srlgAdvertisements (element at t value)) ≡ false
-  names-dead a d = names-are at t value v is e a ∙ ap (λ (b : Bool). b && names a (advertisement v [])) (sym f ∙ d)
-
-  pub names-live : (a : ℕ) → l ≡ true → any (names a) (srlgAdvertisements (element at t value)) ≡ names a (advertisement v [])
-  names-live a d = names-are at t value v is e a ∙ ap (λ (b : Bool). b && names a (advertisement v [])) (sym f ∙ d)
-
-  -- with a mask as a number, joined to what was there
-  module _ (was one now n : ℕ) (h : n < 64) (j : inNumber now n ≡ inNumber was n || inNumber one n) (d : l ≡ true) where
-    pub standard-joined : (s : List ℕ) → s ≡ take (sabmLength v) (drop 2 v) → one ≡ asNumber (bit s) → inNumber now n ≡ inNumber was n || any (names n) (srlgAdvertisements (element at t value))
-    unfolding names inMasks advertisement
-    standard-joined s g i =
-        j ∙ ap (λ (b : Bool). inNumber was n || b)
-        (ap (λ (m : ℕ). inNumber m n) i ∙ in-number (bit s) n h ∙ sym (names-live n d ∙ rw (lt-ltb n 64 h) (ap (λ (m : List ℕ). bit m n) (sym g))))
-
-    pub user-joined : (s : List ℕ) → s ≡ take (udabmLength v) (drop (2 + sabmLength v) v) → one ≡ asNumber (bit s) → inNumber now n ≡ inNumber was n || any (names (64 + n)) (srlgAdvertisements (element at t value))
-    unfolding names inMasks advertisement
-    user-joined s g i =
-        let z : 64 + n - 64 ≡ n = omega arith in
-        j ∙ ap (λ (b : Bool). inNumber was n || b)
-        (ap (λ (m : ℕ). inNumber m n) i ∙ in-number (bit s) n h ∙ sym (names-live (64 + n) d ∙ rw (le-ltb (64 + n) 64 (omega arith), z) (ap (λ (m : List ℕ). bit m n) (sym g))))

@@ -1,26 +1,23 @@
--- A walk over a run B that passed its checks: one turn, and what its TLVs say together.
+-- A walk over a run B that passed its checks: one turn, and the numbers of its TLVs together.
 use mathlib.Core.Path.{_≡_, refl, sym, ap, ap₂, _∙_}
-use mathlib.Core.Bool.{Bool, true, false, cond, _&&_, _||_, or-assoc, or-false}
 use mathlib.Core.List.{List, [], _∷_, _++_, append-assoc, append-nil}
 use Prim.Native.Nat.{ℕ, _+_, _-_, _≤_, _<_}
 use native.Mathlib.Omega.{arith}
 use native.Mathlib.Nat.{zero-add}
 use lib.Dec.{eqb}
 use lib.ListN.{length, take, drop, getD, length-append}
-use Rattle.linkstate.specs.Lists.{any, keep, each, put}
+use Rattle.linkstate.specs.Lists.{keep, each, put}
 use Rattle.linkstate.specs.Bytes.{bytesAt, words}
 use Rattle.linkstate.specs.Replies.{Verdict, accepted, runB}
 use Rattle.linkstate.specs.Elements.{Element, element, cut, elements, faults}
 use Rattle.linkstate.specs.Attributes.{Attribute, ofKind}
-use Rattle.linkstate.specs.Sides.{Advertisement, names, ofLive}
-use Rattle.linkstate.proofs.ListLaws.{any-append, keep-append, each-append}
+use Rattle.linkstate.specs.Sides.{ofLive}
+use Rattle.linkstate.proofs.ListLaws.{keep-append, each-append}
 use Rattle.linkstate.proofs.WalkLaws.{left, typeAt, type-one, length-one, faults-passed, each-end, each-turn}
 use Rattle.octets.proofs.Laws.{part-is, put-nil, put-then}
 use Rattle.isis.specs.RunB.{checkB, srlgAdvertisements, sideB}
 use Rattle.isis_tlvs_238.specs.declared.Which.{Which}
-use Rattle.isis_tlvs_238.specs.declared.How.{How}
-use Rattle.isis_tlvs_238.specs.declared.How.the-variants.{WithL, WithoutL, NotNamed}
-use Rattle.isis_tlvs_238.specs.Selected.{selects, howAmong, stronger, srlgWords, wordsIn, Whole}
+use Rattle.isis_tlvs_238.specs.Selected.{selects, srlgWords, wordsIn, Whole}
 use Rattle.isis_tlvs_238.proofs.Tlvs as tlv
 
 -- ---- lists joined
@@ -30,35 +27,6 @@ unfolding srlgWords ofKind
 words-append ts us =
     ap (each (λ t. words (t .value))) (keep-append (λ t. eqb 1096 (t .code)) ts us)
     ∙ each-append (λ t. words (t .value)) (keep (λ t. eqb 1096 (t .code)) ts) (keep (λ t. eqb 1096 (t .code)) us)
-
-how-append : (n : ℕ) (ds es : List Advertisement) → howAmong n (ds ++ es) ≡ stronger (howAmong n ds) (howAmong n es)
-unfolding howAmong stronger
-how-append n ds es =
-    ap₂ (λ (p q : Bool). cond p WithL (cond q WithoutL NotNamed)) (any-append (λ d. d .L && names n d) ds es) (any-append (names n) ds es)
-    ∙ go (any (λ d. d .L && names n d) ds) (any (names n) ds) (any (λ d. d .L && names n d) es) (any (names n) es)
-  where
-    go : (p q r s : Bool) → cond (p || r) WithL (cond (q || s) WithoutL NotNamed) ≡ stronger (cond p WithL (cond q WithoutL NotNamed)) (cond r WithL (cond s WithoutL NotNamed))
-    go true q r s = refl
-    go false true true s = refl
-    go false true false true = refl
-    go false true false false = refl
-    go false false r s = refl
-
-stronger-assoc : (x y z : How) → stronger (stronger x y) z ≡ stronger x (stronger y z)
-unfolding stronger
-stronger-assoc WithL y z = refl
-stronger-assoc NotNamed y z = refl
-stronger-assoc WithoutL WithL z = refl
-stronger-assoc WithoutL NotNamed z = refl
-stronger-assoc WithoutL WithoutL WithL = refl
-stronger-assoc WithoutL WithoutL WithoutL = refl
-stronger-assoc WithoutL WithoutL NotNamed = refl
-
-pub stronger-none : (x : How) → stronger x NotNamed ≡ x
-unfolding stronger
-stronger-none WithL = refl
-stronger-none WithoutL = refl
-stronger-none NotNamed = refl
 
 -- ---- the numbers of a run
 
@@ -116,30 +84,6 @@ module _ (b : List ℕ) (at : ℕ) (here : at < length b) (ok : faults runB chec
       each-turn f 1 (omega arith) 0 b at (getD b (at + 1) 0) (length-one b at) inside
       ∙ ap (λ (e : Element). f e ++ each f (left 1 0 b next)) here-is
 
-  -- how an application is named: `was` before this TLV, `is` with it
-  pub how-turn : (n : ℕ) (was one is : How) → one ≡ howAmong n (srlgAdvertisements (tlvAt b at)) → is ≡ stronger was one
-      → stronger is (howAmong n (each srlgAdvertisements (left 1 0 b next))) ≡ stronger was (howAmong n (each srlgAdvertisements (left 1 0 b at)))
-  how-turn n was one is e f =
-      let rest = each srlgAdvertisements (left 1 0 b next) in
-      ap (λ (h : How). stronger h (howAmong n rest)) (f ∙ ap (stronger was) e)
-      ∙ stronger-assoc was (howAmong n (srlgAdvertisements (tlvAt b at))) (howAmong n rest)
-      ∙ ap (stronger was) (sym (ap (howAmong n) (turn srlgAdvertisements) ∙ how-append n (srlgAdvertisements (tlvAt b at)) rest))
-
-  -- with L nothing that is left matters
-  pub how-stop : (n : ℕ) (was one is all : How) → one ≡ howAmong n (srlgAdvertisements (tlvAt b at)) → is ≡ stronger was one → is ≡ WithL
-      → stronger was (howAmong n (each srlgAdvertisements (left 1 0 b at))) ≡ all → WithL ≡ all
-  unfolding stronger
-  how-stop n was one is all e f l i = (rw l at (how-turn n was one is e f)) ∙ i
-
-  -- whether an application is named
-  pub named-turn : (a : ℕ) (was is : Bool) → is ≡ was || any (names a) (srlgAdvertisements (tlvAt b at))
-      → is || any (names a) (each srlgAdvertisements (left 1 0 b next)) ≡ was || any (names a) (each srlgAdvertisements (left 1 0 b at))
-  named-turn a was is e =
-      let rest = each srlgAdvertisements (left 1 0 b next) in
-      ap (λ (x : Bool). x || any (names a) rest) e
-      ∙ or-assoc was (any (names a) (srlgAdvertisements (tlvAt b at))) (any (names a) rest)
-      ∙ ap (λ (x : Bool). was || x) (sym (ap (any (names a)) (turn srlgAdvertisements) ∙ any-append (names a) (srlgAdvertisements (tlvAt b at)) rest))
-
   -- the numbers written so far, with this TLV's
   pub words-turn : (w : Which) (all ws : List ℕ) → ws ++ each (wordsIn w) (left 1 0 b at) ≡ all → (ws ++ wordsIn w (tlvAt b at)) ++ each (wordsIn w) (left 1 0 b next) ≡ all
   words-turn w all ws e =
@@ -150,14 +94,6 @@ module _ (b : List ℕ) (at : ℕ) (here : at < length b) (ok : faults runB chec
 module _ (b : List ℕ) (at : ℕ) (end : length b ≤ at) where
   pub none-left : {A : Type 0} (f : Element → List A) → each f (left 1 0 b at) ≡ []
   none-left f = each-end f 1 (omega arith) 0 b at end
-
-  pub how-end : (n : ℕ) (h : How) → h ≡ stronger h (howAmong n (each srlgAdvertisements (left 1 0 b at)))
-  unfolding howAmong any
-  how-end n h = sym (ap (λ (ds : List Advertisement). stronger h (howAmong n ds)) (none-left srlgAdvertisements) ∙ stronger-none h)
-
-  pub named-end : (a : ℕ) (x : Bool) → x ≡ x || any (names a) (each srlgAdvertisements (left 1 0 b at))
-  unfolding any
-  named-end a x = sym (ap (λ (ds : List Advertisement). x || any (names a) ds) (none-left srlgAdvertisements) ∙ or-false x)
 
   pub words-end : (w : Which) (all ws : List ℕ) → ws ++ each (wordsIn w) (left 1 0 b at) ≡ all → ws ≡ all
   words-end w all ws e = sym (append-nil ws) ∙ ap (λ (l : List ℕ). ws ++ l) (sym (none-left (wordsIn w))) ∙ e

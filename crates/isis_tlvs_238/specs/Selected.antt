@@ -1,20 +1,18 @@
--- Which TLVs 238 are read, how they name an application, and the numbers of their SRLG values.
+-- Which TLVs 238 are read, and the numbers of their SRLG values.
 use mathlib.Core.Path.{_≡_}
-use mathlib.Core.Bool.{Bool, false, cond, _&&_}
+use mathlib.Core.Bool.{Bool, false}
 use mathlib.Core.List.{List, []}
 use Prim.Native.Nat.{ℕ, _+_, _≤_}
 use lib.ListN.{length}
-use Rattle.linkstate.specs.Lists.{any, keep, each}
+use Rattle.linkstate.specs.Lists.{keep, each}
 use Rattle.linkstate.specs.Bytes.{words}
 use Rattle.linkstate.specs.Elements.{Element}
 use Rattle.linkstate.specs.Attributes.{Attribute, ofKind}
-use Rattle.linkstate.specs.Sides.{Advertisement, Side, names, general}
+use Rattle.linkstate.specs.Sides.{Advertisement, names, general}
 use Rattle.isis.specs.MaskHeader.{headerLength, maskTooLong}
 use Rattle.isis.specs.RunB.{afterNeighbour, identifierBytes, srlgAdvertisements}
 use Rattle.isis_tlvs_238.specs.declared.Which.{Which}
 use Rattle.isis_tlvs_238.specs.declared.Which.the-variants.{Naming, General}
-use Rattle.isis_tlvs_238.specs.declared.How.{How}
-use Rattle.isis_tlvs_238.specs.declared.How.the-variants.{WithL, WithoutL, NotNamed}
 
 -- The tests of document 01's "Who gets what".
 unfoldable pub selects : Which → Advertisement → Bool
@@ -24,20 +22,6 @@ selects General d = general d
 -- An advertisement by its masks: no test looks at the rest.
 abbrev pub masked : List ℕ → List ℕ → Advertisement
 masked standard user = record { L = false; standardMask = standard; userMask = user; attributes = [] }
-
--- W2, W3. How advertisements name an application: one with L counts more than any without.
-unfoldable pub howAmong : ℕ → List Advertisement → How
-howAmong n ds = cond (any (λ d. d .L && names n d) ds) WithL (cond (any (names n) ds) WithoutL NotNamed)
-
-unfoldable pub howNamed : ℕ → Side → How
-howNamed n s = howAmong n (s .live)
-
-unfoldable pub stronger : How → How → How
-stronger WithL h = WithL
-stronger NotNamed h = h
-stronger WithoutL WithL = WithL
-stronger WithoutL WithoutL = WithoutL
-stronger WithoutL NotNamed = WithoutL
 
 -- W5. The numbers of the SRLG values of attributes, in byte order.
 unfoldable pub srlgWords : List Attribute → List ℕ

@@ -12,8 +12,8 @@ use borrow.Author.Tests.{ltb-true, ltb-false}
 use lib.Dec.{eqb, ltb}
 use lib.Pow.{pow-add, pow-pos, high, mod-pow-add}
 use lib.Bits.{shifted-even}
-use lib.ListN.{length, getD, length-map, List·getD-eq-default}
-use lib.Seq.{ext-getD}
+use lib.ListN.{length, take, drop, getD, length-drop, length-map, List·getD-eq-default}
+use lib.Seq.{ext-getD, getD-drop, getD-take, length-take-le}
 use Rattle.linkstate.specs.Lists.{keep, numbers}
 use Rattle.linkstate.specs.Masks.{bit, one, powersBelow, asNumber, inNumber, Last, none, last, lastBelow, bytesToHold, maskSize, maskByte, mask}
 use Rattle.linkstate.proofs.ListLaws.{getD-numbers}
@@ -238,6 +238,18 @@ module _ (p : ℕ → Bool) (n : ℕ) where
 pub bit-beyond : (s : List ℕ) (n : ℕ) → 8 * length s ≤ n → bit s n ≡ false
 unfolding bit
 bit-beyond s n h = rw (List·getD-eq-default s 0 {n = n / 8} (omega arith), zero-div)
+
+-- a bit of the part of a run that a mask is
+module _ (s : List ℕ) (at len n : ℕ) (fits : at + len ≤ length s) where
+  part-length : length (take len (drop at s)) ≡ len
+  part-length = length-take-le len (drop at s) (omega (arith, length-drop at s))
+
+  pub part-beyond : len ≤ n / 8 → false ≡ bit (take len (drop at s)) n
+  part-beyond h = sym (bit-beyond (take len (drop at s)) n (omega (arith, part-length)))
+
+  pub part-bit : n / 8 < len → eqb (getD s (at + n / 8) 0 / 2 ^ (7 - n % 8) % 2) 1 ≡ bit (take len (drop at s)) n
+  unfolding bit
+  part-bit h = ap (λ (x : ℕ). eqb (x / 2 ^ (7 - n % 8) % 2) 1) (sym (getD-take len (drop at s) (n / 8) 0 h ∙ getD-drop at s (n / 8) 0))
 
 module _ (p : ℕ → Bool) where
   pub mask-at : (i : ℕ) → i < maskSize p → getD (mask p) i 0 ≡ maskByte p (8 * i)

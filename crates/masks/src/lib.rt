@@ -143,6 +143,18 @@ pub fn has_bit(s: &[u8], n: u32) -> bool
     (s[i] >> (7 - n % 8)) % 2 == 1
 }
 
+// The same of the mask of `len` bytes at a place of a run.
+pub fn bit_at(s: &[u8], at: usize, len: usize, n: u32) -> bool
+    requires { ⌜ at + len ≤ length (now s) ⌝ }
+    ensures { λ r. ⌜ r ≡ bit (take len (drop at (now (s .entry)))) n ⌝ }
+{
+    let i = (n / 8) as usize;
+    if len <= i {
+        return false;
+    }
+    (s[at + i] >> (7 - n % 8)) % 2 == 1
+}
+
 // Whether a standard and a user mask name application a.
 pub fn names(standard: &[u8], user: &[u8], a: u32) -> bool
     ensures { λ r. ⌜ r ≡ inMasks (now (standard .entry)) (now (user .entry)) a ⌝ }

@@ -1,4 +1,4 @@
--- What each rule takes is what Sides gives.
+-- What each rule takes is what Sides gives, and the rule as the code finds it.
 use mathlib.Core.Path.{_≡_, refl, sym, ap, ap₂, _∙_, subst}
 use mathlib.Core.Bool.{Bool, true, false, cond, _&&_, _||_, not}
 use mathlib.Core.List.{List, [], _∷_, _++_}
@@ -21,7 +21,7 @@ use Rattle.naming.specs.Names.{inBoth, Tells}
 use Rattle.naming.proofs.Laws.{side-named, side-flagged}
 use Rattle.rules.specs.declared.Rule.{Rule}
 use Rattle.rules.specs.declared.Rule.the-variants.{ByL, Naming, General, Legacy, NamingFirst, AloneFirst, LegacyFirst}
-use Rattle.rules.specs.Rules.{applicationRule, rsvpTeRule, bandwidthRule, takenBy, setOn, givenOn}
+use Rattle.rules.specs.Rules.{applicationRule, rsvpTeRule, bandwidthRule, subjectRule, ruleOn, takenBy, setOn, givenOn}
 
 -- ---- who is not named
 
@@ -108,17 +108,43 @@ bandwidth-taken k s = go (eqb k 1089) (namedWithL 0 s) (named 0 s) refl
     go false false true f = refl
     go false false false f = sym (ap (λ (ts : List Attribute). ts ++ s .legacy) (none-alone s f))
 
+general-taken : (k : ℕ) (s : Side) → takenBy General k s ≡ generalSet s
+unfolding takenBy
+general-taken k s = refl
+
+pub subject-taken : (whom : Subject) (k : ℕ) (s : Side) → takenBy (subjectRule whom s) k s ≡ setOn whom k s
+unfolding subjectRule setOn
+subject-taken generally k s = general-taken k s
+subject-taken (standardNo n) k s = go (eqb n 0)
+  where
+    go : (b : Bool) → takenBy (cond b (rsvpTeRule (namedWithL 0 s) (named 0 s)) (applicationRule n (namedWithL n s) (named n s))) k s ≡ cond b (rsvpTeKind k s) (applicationSet n s)
+    go true = rsvp-te-taken k s
+    go false = application-taken k n s
+subject-taken (userNo n) k s = application-taken k (user n) s
+
+-- What the rule takes is what the subject gets.
+pub rule-taken : (whom : Subject) (k : ℕ) (s : Side) → takenBy (ruleOn whom k s) k s ≡ givenOn whom k s
+unfolding ruleOn givenOn
+rule-taken whom k s = go (isLinkCode k)
+  where
+    go : (b : Bool) → takenBy (cond b (bandwidthRule k (namedWithL 0 s) (named 0 s)) (subjectRule whom s)) k s ≡ cond b (bandwidthKind k s) (setOn whom k s)
+    go true = bandwidth-taken k s
+    go false = subject-taken whom k s
+
+pub rule-takes : (whom : Subject) (k : ℕ) (s : Side) (r : Rule) → r ≡ ruleOn whom k s → takenBy r k s ≡ givenOn whom k s
+rule-takes whom k s r e = ap (λ (x : Rule). takenBy x k s) e ∙ rule-taken whom k s
+
 -- ---- with names that were told: l and y are what the masks say of n
 
-module _ (s : Side) (m : Names) (t : Tells (s .live) m) (n : ℕ) (l y : Bool) (p : l ≡ inBoth (m .lstandard) (m .luser) n) (q : y ≡ inBoth (m .standard) (m .user) n) (k : ℕ) (r : Rule) where
+module _ (s : Side) (m : Names) (t : Tells (s .live) m) (n : ℕ) (l y : Bool) (p : l ≡ inBoth (m .lstandard) (m .luser) n) (q : y ≡ inBoth (m .standard) (m .user) n) (r : Rule) where
   is-l : l ≡ namedWithL n s
   is-l = p ∙ side-flagged s m t n
 
   is-named : y ≡ named n s
   is-named = q ∙ side-named s m t n
 
-  pub told-application : r ≡ applicationRule n l y → takenBy r k s ≡ applicationSet n s
-  told-application e = ap (λ (x : Rule). takenBy x k s) (e ∙ ap₂ (λ (a b : Bool). applicationRule n a b) is-l is-named) ∙ application-taken k n s
+  pub told-application : r ≡ applicationRule n l y → r ≡ applicationRule n (namedWithL n s) (named n s)
+  told-application e = e ∙ ap₂ (λ (a b : Bool). applicationRule n a b) is-l is-named
 
   module _ (z : n ≡ 0) where
     te-l : l ≡ namedWithL 0 s
@@ -127,40 +153,40 @@ module _ (s : Side) (m : Names) (t : Tells (s .live) m) (n : ℕ) (l y : Bool) (
     te-named : y ≡ named 0 s
     te-named = is-named ∙ ap (λ (i : ℕ). named i s) z
 
-    pub told-rsvp-te : r ≡ rsvpTeRule l y → takenBy r k s ≡ rsvpTeKind k s
-    told-rsvp-te e = ap (λ (x : Rule). takenBy x k s) (e ∙ ap₂ rsvpTeRule te-l te-named) ∙ rsvp-te-taken k s
+    pub told-rsvp-te : r ≡ rsvpTeRule l y → r ≡ rsvpTeRule (namedWithL 0 s) (named 0 s)
+    told-rsvp-te e = e ∙ ap₂ rsvpTeRule te-l te-named
 
-    pub told-bandwidth : r ≡ bandwidthRule k l y → takenBy r k s ≡ bandwidthKind k s
-    told-bandwidth e = ap (λ (x : Rule). takenBy x k s) (e ∙ ap₂ (bandwidthRule k) te-l te-named) ∙ bandwidth-taken k s
+    pub told-bandwidth : (k : ℕ) → r ≡ bandwidthRule k l y → r ≡ bandwidthRule k (namedWithL 0 s) (named 0 s)
+    told-bandwidth k e = e ∙ ap₂ (bandwidthRule k) te-l te-named
 
 -- ---- a subject
 
-module _ (k : ℕ) (s : Side) (r : Rule) where
-  pub of-general : r ≡ General → takenBy r k s ≡ setOn generally k s
-  unfolding takenBy setOn
-  of-general e = rw e
+module _ (s : Side) (r : Rule) where
+  pub of-general : r ≡ General → r ≡ subjectRule generally s
+  unfolding subjectRule
+  of-general e = e
 
   module _ (n : ℕ) where
-    pub of-rsvp-te : n ≡ 0 → takenBy r k s ≡ rsvpTeKind k s → takenBy r k s ≡ setOn (standardNo n) k s
-    unfolding setOn
-    of-rsvp-te z e = e ∙ sym (ap (λ (b : Bool). cond b (rsvpTeKind k s) (applicationSet n s)) (eq-eqb n 0 z))
+    pub of-rsvp-te : n ≡ 0 → r ≡ rsvpTeRule (namedWithL 0 s) (named 0 s) → r ≡ subjectRule (standardNo n) s
+    unfolding subjectRule
+    of-rsvp-te z e = rw (eq-eqb n 0 z) e
 
-    pub of-standard : (n ≡ 0 → ⊥) → takenBy r k s ≡ applicationSet n s → takenBy r k s ≡ setOn (standardNo n) k s
-    unfolding setOn
-    of-standard z e = e ∙ sym (ap (λ (b : Bool). cond b (rsvpTeKind k s) (applicationSet n s)) (ne-eqb n 0 z))
+    pub of-standard : (n ≡ 0 → ⊥) → r ≡ applicationRule n (namedWithL n s) (named n s) → r ≡ subjectRule (standardNo n) s
+    unfolding subjectRule
+    of-standard z e = rw (ne-eqb n 0 z) e
 
-    pub of-user : takenBy r k s ≡ applicationSet (64 + n) s → takenBy r k s ≡ setOn (userNo n) k s
-    unfolding setOn user
+    pub of-user : r ≡ applicationRule (64 + n) (namedWithL (64 + n) s) (named (64 + n) s) → r ≡ subjectRule (userNo n) s
+    unfolding subjectRule user
     of-user e = e
 
-module _ (whom : Subject) (k : ℕ) (s : Side) (ts : List Attribute) where
-  pub given-link : isLinkCode k ≡ true → ts ≡ bandwidthKind k s → ts ≡ givenOn whom k s
-  unfolding givenOn
-  given-link i e = e ∙ sym (ap (λ (b : Bool). cond b (bandwidthKind k s) (setOn whom k s)) i)
+module _ (whom : Subject) (k : ℕ) (s : Side) (r : Rule) where
+  pub on-link : isLinkCode k ≡ true → r ≡ bandwidthRule k (namedWithL 0 s) (named 0 s) → r ≡ ruleOn whom k s
+  unfolding ruleOn
+  on-link i e = rw i e
 
-  pub given-subject : isLinkCode k ≡ false → ts ≡ setOn whom k s → ts ≡ givenOn whom k s
-  unfolding givenOn
-  given-subject i e = e ∙ sym (ap (λ (b : Bool). cond b (bandwidthKind k s) (setOn whom k s)) i)
+  pub on-subject : isLinkCode k ≡ false → r ≡ subjectRule whom s → r ≡ ruleOn whom k s
+  unfolding ruleOn
+  on-subject i e = rw i e
 
 -- ---- as the code has a subject
 
@@ -172,5 +198,13 @@ pub low-user : (w : Whom) (n : ℕ) → w ≡ W.User n → numberTooHigh (subjec
 unfolding numberTooHigh
 low-user w n e h = let l = ltb-false 63 n (subst (λ (x : Whom). numberTooHigh (subjectOf x) ≡ false) e h) in omega arith
 
-pub as-whom : (k : ℕ) (s : Side) (r : Rule) (w v : Whom) → w ≡ v → takenBy r k s ≡ setOn (subjectOf v) k s → takenBy r k s ≡ setOn (subjectOf w) k s
-as-whom k s r w v e = subst (λ (x : Whom). takenBy r k s ≡ setOn (subjectOf x) k s) (sym e)
+pub as-whom : (s : Side) (r : Rule) (w v : Whom) → w ≡ v → r ≡ subjectRule (subjectOf v) s → r ≡ subjectRule (subjectOf w) s
+as-whom s r w v e = subst (λ (x : Whom). r ≡ subjectRule (subjectOf x) s) (sym e)
+
+-- ---- the rule, with what it takes
+
+abbrev pub Decides : Subject → ℕ → Names → Rule → Type 0
+Decides whom k m r = ((s : Side) → Tells (s .live) m → takenBy r k s ≡ givenOn whom k s) × ((s : Side) → Tells (s .live) m → r ≡ ruleOn whom k s)
+
+pub both-of : (whom : Subject) (k : ℕ) (m : Names) (r : Rule) → ((s : Side) → Tells (s .live) m → r ≡ ruleOn whom k s) → Decides whom k m r
+both-of whom k m r e = (λ s t. rule-takes whom k s r (e s t), e)

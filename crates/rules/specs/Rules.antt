@@ -7,7 +7,7 @@ use Rattle.linkstate.specs.Lists.{empty}
 use Rattle.linkstate.specs.Kinds.{isLinkCode}
 use Rattle.linkstate.specs.Masks.{user}
 use Rattle.linkstate.specs.Attributes.{Attribute, valueOf}
-use Rattle.linkstate.specs.Sides.{Side, names, ofLive, generalSet, applicationSet, rsvpTeKind, rsvpTeAlone, bandwidthKind}
+use Rattle.linkstate.specs.Sides.{Side, names, named, namedWithL, ofLive, generalSet, applicationSet, rsvpTeKind, rsvpTeAlone, bandwidthKind}
 use Rattle.linkstate.specs.Questions.{Subject, generally, standardNo, userNo}
 use Rattle.rules.specs.declared.Rule.{Rule}
 use Rattle.rules.specs.declared.Rule.the-variants.{ByL, Naming, General, Legacy, NamingFirst, AloneFirst, LegacyFirst}
@@ -23,6 +23,15 @@ rsvpTeRule l named = cond l ByL (cond named NamingFirst Legacy)
 -- W11, W12. A bandwidth of the link, by how RSVP-TE is named.
 unfoldable pub bandwidthRule : ℕ → Bool → Bool → Rule
 bandwidthRule k l named = cond (eqb k 1089) LegacyFirst (cond l ByL (cond named AloneFirst Legacy))
+
+-- W2 to W13. The rule of a subject on a side, by how it is named there; and of a kind: of a bandwidth of the link by how RSVP-TE is named, whoever asks.
+unfoldable pub subjectRule : Subject → Side → Rule
+subjectRule generally s = General
+subjectRule (standardNo n) s = cond (eqb n 0) (rsvpTeRule (namedWithL 0 s) (named 0 s)) (applicationRule n (namedWithL n s) (named n s))
+subjectRule (userNo n) s = applicationRule (user n) (namedWithL (user n) s) (named (user n) s)
+
+unfoldable pub ruleOn : Subject → ℕ → Side → Rule
+ruleOn whom k s = cond (isLinkCode k) (bandwidthRule k (namedWithL 0 s) (named 0 s)) (subjectRule whom s)
 
 -- W2 to W12. What a rule takes, of kind k, on a side.
 unfoldable pub takenBy : Rule → ℕ → Side → List Attribute

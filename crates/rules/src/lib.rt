@@ -5,7 +5,7 @@ ghost use Rattle.linkstate.specs.Questions.{numberTooHigh};
 ghost use Rattle.linkstate.specs.Sides.{Side};
 ghost use Rattle.naming.specs.Names.{Tells};
 ghost use Rattle.replies.specs.Told.{subjectOf};
-ghost use Rattle.rules.specs.Rules.{applicationRule, rsvpTeRule, bandwidthRule, takenBy, setOn, givenOn};
+ghost use Rattle.rules.specs.Rules.{applicationRule, rsvpTeRule, bandwidthRule, subjectRule, ruleOn, takenBy, givenOn};
 use naming::Names;
 use replies::Subject;
 
@@ -69,10 +69,10 @@ fn bandwidth_rule(code: usize, l: bool, named: bool) -> Rule
     Rule::Legacy
 }
 
-// A subject's kind that is no bandwidth of the link.
-fn subject_rule(whom: Subject, code: usize, m: Names) -> Rule
+// A subject, for a kind that is no bandwidth of the link.
+fn subject_rule(whom: Subject, m: Names) -> Rule
     requires { ⌜ numberTooHigh (subjectOf whom) ≡ false ⌝ }
-    ensures { λ r. ⌜ ((s : Side) → Tells (s .live) m → takenBy r code s ≡ setOn (subjectOf whom) code s) ⌝ }
+    ensures { λ r. ⌜ ((s : Side) → Tells (s .live) m → r ≡ subjectRule (subjectOf whom) s) ⌝ }
 {
     match whom {
         Subject::General => Rule::General,
@@ -93,15 +93,16 @@ fn subject_rule(whom: Subject, code: usize, m: Names) -> Rule
     }
 }
 
-// The rule by which a subject gets a kind on a side with these names.
+// The rule by which a subject gets a kind on a side with these names; what it takes there is what the subject gets.
 pub fn decide(whom: Subject, code: usize, m: Names) -> Rule
     requires { ⌜ numberTooHigh (subjectOf whom) ≡ false ⌝ }
     ensures { λ r. ⌜ ((s : Side) → Tells (s .live) m → takenBy r code s ≡ givenOn (subjectOf whom) code s) ⌝ }
+    ensures { λ r. ⌜ ((s : Side) → Tells (s .live) m → r ≡ ruleOn (subjectOf whom) code s) ⌝ }
 {
     if answering::is_link_code(code) {
         let l = naming::is_named_with_l(m, 0);
         let named = naming::is_named(m, 0);
         return bandwidth_rule(code, l, named);
     }
-    subject_rule(whom, code, m)
+    subject_rule(whom, m)
 }

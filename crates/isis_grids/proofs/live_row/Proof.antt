@@ -56,7 +56,7 @@ list-at-requires : tie.Need-list-at-requires Inv-loop μ-loop
 list-at-requires c κs = let l = c .before .before .before .before .loop in
     let a = now (c .before .before .before .before .before .before .args .a) in
     let here = c .before .before .before .loop-test .taken in
-    (c .if1 .taken, inside checkA 0 a (l .at) here (l .inv .1), asla-headed a (l .at) here (l .inv .1) (c .if1 .taken))
+    (c .if1 .taken, record { inside = inside checkA 0 a (l .at) here (l .inv .1); headed = asla-headed a (l .at) here (l .inv .1) (c .if1 .taken) })
 
 sub-row-in : tie.Need-sub-row-in Inv-loop μ-loop
 sub-row-in c = search needs

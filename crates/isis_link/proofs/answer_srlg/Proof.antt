@@ -10,7 +10,7 @@ use Rattle.isis_link.proofs.answer_srlg.Statement.{statement}
 use Rattle.isis_link.proofs.answer_srlg.Tie as tie
 
 returns : tie.Need-returns
-returns c = let q = c .before .before .before .before .args in λ a. none-there a (q .b .now) (q .c .now) (subjectOf (q .whom)) (q .list .now) (c .if1 .taken)
+returns c = let q = c .before .before .before .before .args in none-there (q .b .now) (q .c .now) (subjectOf (q .whom)) (q .list .now) (c .if1 .taken)
 
 slice-aggregate-srlgs-of : tie.Need-slice-aggregate-srlgs-of
 slice-aggregate-srlgs-of c = search needs
@@ -28,7 +28,8 @@ same-length : tie.Need-same-length
 same-length c = search needs
 
 returns-2 : tie.Need-returns-2
-returns-2 c = let q = c .before .before .before .before .before .before .before .before .before .before .before .before .args in λ a. c .before .before .answer-front .ensures ∙ ap (λ (ns : List ℕ). srlgAnswer ns (q .list .now)) (c .before .before .before .before .before .before .srlgs-of .ensures .0 a)
+returns-2 c = let q = c .before .before .before .before .before .before .before .before .before .before .before .before .args in
+    c .before .before .answer-front .ensures ∙ ap (λ (ns : List ℕ). srlgAnswer ns (q .list .now)) (c .before .before .before .before .before .before .srlgs-of .ensures .0)
 
 pub answer-srlg-spec : {M : Type 1} → statement M
 answer-srlg-spec =

@@ -1,69 +1,46 @@
--- Refused by the question, refused by the bytes, or answered.
-use Rattle.isis_link.proofs.Laws.{of-link}
-use Rattle.answering.proofs.Entries.{question-low, question-known, by-question, by-bytes, by-nothing, ask-refused, ask-answered}
+-- Refused before the answer, or answered.
+use Rattle.isis_values.proofs.Checks.{asked-refused, asked-passed, asked-with}
+use Rattle.isis_link.proofs.Laws.{answered}
+use Rattle.answering.proofs.Entries.{ask-refused}
 use Rattle.isis.specs.Link.{linkSource}
-use Rattle.replies.specs.declared.Checked.{Checked}
-use Rattle.replies.specs.Told.{subjectOf, toldChecked}
-use Rattle.linkstate.specs.Replies.{Verdict}
-use mathlib.Core.Path.{sym, ap, _∙_}
+use Rattle.replies.specs.Told.{subjectOf}
 use borrow.Author.Needs.{needs}
 use Rattle.isis_link.proofs.ask.Statement.{statement}
 use Rattle.isis_link.proofs.ask.Tie as tie
 
-check-question-requires : tie.Need-check-question-requires
-check-question-requires c κs = search needs
+check-asked-requires : tie.Need-check-asked-requires
+check-asked-requires c κs = search needs
 
 enum-known-x : tie.Need-enum-known-x
 enum-known-x c = search needs
 
-returns : tie.Need-returns
-returns c = let a = c .before .before .before .before .before .before .before .before .args in let s = linkSource (a .a .now) (a .b .now) (a .c .now) in
-    ask-refused s (subjectOf (a .whom)) (a .code) _ _ (by-question s (subjectOf (a .whom)) (a .code) _ (sym (ap toldChecked (c .before .x .given .1)) ∙ c .before .before .before .check-question .ensures))
-
-enum-told : tie.Need-enum-told
-enum-told c = search needs
-
-check-link-requires : tie.Need-check-link-requires
-check-link-requires c κs = search needs
-
-enum-known-x-2 : tie.Need-enum-known-x-2
-enum-known-x-2 c = search needs
-
-enum-told-2 : tie.Need-enum-told-2
-enum-told-2 c = search needs
+enum-known-names : tie.Need-enum-known-names
+enum-known-names c = search needs
 
 answer-accepted-requires : tie.Need-answer-accepted-requires
-answer-accepted-requires c κs = let a = c .before .before .before .before .before .before .before .before .before .before .before .args in let s = linkSource (a .a .now) (a .b .now) (a .c .now) in
-    let q = sym (c .before .before .before .before .before .before .check-question .ensures) ∙ ap toldChecked (c .before .before .before .before .enum-told .given .1) in
-    (sym (c .before .before .before .check-link .ensures) ∙ ap toldChecked (c .before .enum-told2 .given .1), question-low s (subjectOf (a .whom)) (a .code) q, question-known s (subjectOf (a .whom)) (a .code) q)
+answer-accepted-requires c κs = asked-with _ _ _ _ _ _ (c .before .before .before .before .check-asked .ensures) _ (c .before .before .names .given .1)
 
-returns-2 : tie.Need-returns-2
-returns-2 c = let a = c .before .before .before .before .before .before .before .before .before .before .before .args in let s = linkSource (a .a .now) (a .b .now) (a .c .now) in
-    let q = sym (ap toldChecked (c .before .before .before .before .enum-told .given .1)) ∙ c .before .before .before .before .before .before .check-question .ensures in
-    ask-refused s (subjectOf (a .whom)) (a .code) _ _ (by-bytes s (subjectOf (a .whom)) (a .code) _ q (of-link (a .a .now) (a .b .now) (a .c .now) _ (sym (ap toldChecked (c .before .x2 .given .1)) ∙ c .before .before .before .check-link .ensures)))
+returns : tie.Need-returns
+returns c = let a = c .before .before .before .before .before .before .before .before .args in
+    ask-refused (linkSource (a .a .now) (a .b .now) (a .c .now)) (subjectOf (a .whom)) (a .code) _ _ (asked-refused _ _ _ _ _ _ (c .before .before .before .check-asked .ensures) _ (c .before .x .given .1))
 
 same-length : tie.Need-same-length
 same-length c = search needs
 
-returns-3 : tie.Need-returns-3
-unfolding linkSource
-returns-3 c = let a = c .before .before .before .before .before .before .before .before .before .before .before .before .before .before .args in let s = linkSource (a .a .now) (a .b .now) (a .c .now) in
-    let q = sym (ap toldChecked (c .before .before .before .before .before .before .before .enum-told .given .1)) ∙ c .before .before .before .before .before .before .before .before .before .check-question .ensures in
-    let v = of-link (a .a .now) (a .b .now) (a .c .now) _ (sym (ap toldChecked (c .before .before .before .before .enum-told2 .given .1)) ∙ c .before .before .before .before .before .before .check-link .ensures) in
-    c .before .before .answer-accepted .ensures ∙ ask-answered s (subjectOf (a .whom)) (a .code) _ (by-nothing s (subjectOf (a .whom)) (a .code) q v)
+returns-2 : tie.Need-returns-2
+returns-2 c = let a = c .before .before .before .before .before .before .before .before .before .before .before .before .args in
+    answered (a .a .now) (a .b .now) (a .c .now) (subjectOf (a .whom)) (a .code) _ _
+    (asked-passed _ _ _ _ _ _ (c .before .before .before .before .before .before .before .check-asked .ensures) _ (c .before .before .before .before .before .names .given .1))
+    (c .before .before .answer-accepted .ensures)
 
 pub ask-spec : {M : Type 1} → statement M
 ask-spec =
     tie.close
     (tie.spec
-    check-question-requires
+    check-asked-requires
     enum-known-x
-    returns
-    enum-told
-    check-link-requires
-    enum-known-x-2
-    enum-told-2
+    enum-known-names
     answer-accepted-requires
-    returns-2
+    returns
     same-length
-    returns-3)
+    returns-2)

@@ -1,16 +1,16 @@
 -- Nothing where it is refused or SRLG, else the part that was found.
-use Rattle.isis_link.proofs.Laws.{of-link, a-passed, source-bytes}
-use Rattle.answering.proofs.Entries.{question-low, question-known, by-question, by-bytes, by-nothing, value-refused, value-srlg, value-part}
+use Rattle.isis_link.proofs.Laws.{source-bytes}
+use Rattle.isis_values.proofs.Checks.{asked-refused, asked-passed, asked-with, asked-in-a}
+use Rattle.answering.proofs.Entries.{value-refused, value-srlg, value-part}
 use Rattle.isis.specs.Link.{linkSource}
-use Rattle.replies.specs.Told.{subjectOf, toldChecked}
+use Rattle.replies.specs.Told.{subjectOf}
 use borrow.Author.Tests.{ne-eqb}
-use mathlib.Core.Path.{sym, ap, _∙_}
 use borrow.Author.Needs.{needs}
 use Rattle.isis_link.proofs.value.Statement.{statement}
 use Rattle.isis_link.proofs.value.Tie as tie
 
-check-question-requires : tie.Need-check-question-requires
-check-question-requires c κs = search needs
+check-asked-requires : tie.Need-check-asked-requires
+check-asked-requires c κs = search needs
 
 enum-told : tie.Need-enum-told
 enum-told c = search needs
@@ -25,17 +25,11 @@ part-result-end : tie.Need-part-result-end
 part-result-end c = search needs
 
 returns : tie.Need-returns
-returns c = let a = c .before .before .before .before .before .before .before .args in let s = linkSource (a .a .now) (a .b .now) (a .c .now) in
-    value-refused s (subjectOf (a .whom)) (a .code) _ (by-question s (subjectOf (a .whom)) (a .code) _ (sym (ap toldChecked (c .before .enum-told .given .1)) ∙ c .before .before .before .check-question .ensures))
+returns c = let a = c .before .before .before .before .before .before .before .args in
+    value-refused (linkSource (a .a .now) (a .b .now) (a .c .now)) (subjectOf (a .whom)) (a .code) _ (asked-refused _ _ _ _ _ _ (c .before .before .before .check-asked .ensures) _ (c .before .enum-told .given .1))
 
-enum-told-2 : tie.Need-enum-told-2
-enum-told-2 c = search needs
-
-check-link-requires : tie.Need-check-link-requires
-check-link-requires c κs = search needs
-
-enum-told-3 : tie.Need-enum-told-3
-enum-told-3 c = search needs
+enum-known-names : tie.Need-enum-known-names
+enum-known-names c = search needs
 
 sub-result-2 : tie.Need-sub-result-2
 sub-result-2 c = search needs
@@ -47,61 +41,33 @@ part-result-end-2 : tie.Need-part-result-end-2
 part-result-end-2 c = search needs
 
 returns-2 : tie.Need-returns-2
-returns-2 c = let a = c .before .before .before .before .before .before .before .before .before .before .args in let s = linkSource (a .a .now) (a .b .now) (a .c .now) in
-    let q = sym (ap toldChecked (c .before .before .before .before .enum-told2 .given .1)) ∙ c .before .before .before .before .before .before .check-question .ensures in
-    value-refused s (subjectOf (a .whom)) (a .code) _ (by-bytes s (subjectOf (a .whom)) (a .code) _ q (of-link (a .a .now) (a .b .now) (a .c .now) _ (sym (ap toldChecked (c .before .enum-told3 .given .1)) ∙ c .before .before .before .check-link .ensures)))
-
-enum-told-4 : tie.Need-enum-told-4
-enum-told-4 c = search needs
-
-sub-result-3 : tie.Need-sub-result-3
-sub-result-3 c = search needs
-
-part-result-start-3 : tie.Need-part-result-start-3
-part-result-start-3 c = search needs
-
-part-result-end-3 : tie.Need-part-result-end-3
-part-result-end-3 c = search needs
-
-returns-3 : tie.Need-returns-3
-returns-3 c = let a = c .before .before .before .before .before .before .before .before .before .before .before .args in let s = linkSource (a .a .now) (a .b .now) (a .c .now) in
-    let q = sym (ap toldChecked (c .before .before .before .before .before .enum-told2 .given .1)) ∙ c .before .before .before .before .before .before .before .check-question .ensures in
-    let v = of-link (a .a .now) (a .b .now) (a .c .now) _ (sym (ap toldChecked (c .before .before .enum-told4 .given .1)) ∙ c .before .before .before .before .check-link .ensures) in
-    value-srlg s (subjectOf (a .whom)) (a .code) (by-nothing s (subjectOf (a .whom)) (a .code) q v) (c .before .if1 .taken)
+returns-2 c = let a = c .before .before .before .before .before .before .before .before .before .args in
+    value-srlg (linkSource (a .a .now) (a .b .now) (a .c .now)) (subjectOf (a .whom)) (a .code)
+    (asked-passed _ _ _ _ _ _ (c .before .before .before .before .before .check-asked .ensures) _ (c .before .before .before .names .given .1)) (c .before .if1 .taken)
 
 part-of-requires : tie.Need-part-of-requires
-part-of-requires c κs = let a = c .before .before .before .before .before .before .before .before .before .before .args in let s = linkSource (a .a .now) (a .b .now) (a .c .now) in
-    let q = sym (c .before .before .before .before .before .before .check-question .ensures) ∙ ap toldChecked (c .before .before .before .before .enum-told2 .given .1) in
-    let v = sym (c .before .before .before .check-link .ensures) ∙ ap toldChecked (c .before .enum-told4 .given .1) in
-    (a-passed (a .a .now) (a .b .now) (a .c .now) v, question-low s (subjectOf (a .whom)) (a .code) q, question-known s (subjectOf (a .whom)) (a .code) q, ne-eqb _ 1096 (c .if1 .left))
+part-of-requires c κs = asked-in-a _ _ _ _ _ _ (asked-with _ _ _ _ _ _ (c .before .before .before .before .before .check-asked .ensures) _ (c .before .before .before .names .given .1)) (ne-eqb _ 1096 (c .before .if1 .left))
 
-returns-4 : tie.Need-returns-4
-returns-4 c = let a = c .before .before .before .before .before .before .before .before .before .before .before .args in let s = linkSource (a .a .now) (a .b .now) (a .c .now) in
-    let q = sym (ap toldChecked (c .before .before .before .before .before .enum-told2 .given .1)) ∙ c .before .before .before .before .before .before .before .check-question .ensures in
-    let v = of-link (a .a .now) (a .b .now) (a .c .now) _ (sym (ap toldChecked (c .before .before .enum-told4 .given .1)) ∙ c .before .before .before .before .check-link .ensures) in
-    value-part s (subjectOf (a .whom)) (a .code) _ (by-nothing s (subjectOf (a .whom)) (a .code) q v) (c .before .if1 .left) (source-bytes (a .a .now) (a .b .now) (a .c .now) _ _ (c .part-of .ensures (a .b .now) (a .c .now)))
+returns-3 : tie.Need-returns-3
+returns-3 c = let a = c .before .before .before .before .before .before .before .before .before .before .args in
+    value-part (linkSource (a .a .now) (a .b .now) (a .c .now)) (subjectOf (a .whom)) (a .code) _
+    (asked-passed _ _ _ _ _ _ (c .before .before .before .before .before .before .check-asked .ensures) _ (c .before .before .before .before .names .given .1)) (c .before .before .if1 .left)
+    (source-bytes (a .a .now) (a .b .now) (a .c .now) _ _ (c .part-of .ensures (a .b .now) (a .c .now)))
 
 pub value-spec : {M : Type 1} → statement M
 value-spec =
     tie.close
     (tie.spec
-    check-question-requires
+    check-asked-requires
     enum-told
     sub-result
     part-result-start
     part-result-end
     returns
-    enum-told-2
-    check-link-requires
-    enum-told-3
+    enum-known-names
     sub-result-2
     part-result-start-2
     part-result-end-2
     returns-2
-    enum-told-4
-    sub-result-3
-    part-result-start-3
-    part-result-end-3
-    returns-3
     part-of-requires
-    returns-4)
+    returns-3)

@@ -1,8 +1,6 @@
 -- The reply of the row that was found.
 use Rattle.isis_values.proofs.Laws.{row-readable, row-answers}
-use Rattle.replies.specs.Told.{subjectOf}
 use mathlib.Core.List.{[]}
-use mathlib.Core.Path.{sym, _∙_}
 use borrow.Author.Needs.{needs}
 use Rattle.isis_values.proofs.answer_value.Statement.{statement}
 use Rattle.isis_values.proofs.answer_value.Tie as tie
@@ -17,10 +15,10 @@ array-read-len : tie.Need-array-read-len
 array-read-len c = search needs
 
 answer-row-requires : tie.Need-answer-row-requires
-answer-row-requires c κs = let q = c .before .before in let p = q .pre in row-readable _ (p .0) [] [] (subjectOf (q .args .whom)) _ (p .2) (p .3) _ (c .find-row .ensures [] [])
+answer-row-requires c κs = let q = c .before .before in row-readable _ _ _ _ (q .pre) [] [] _ (c .find-row .ensures [] [])
 
 returns : tie.Need-returns
-returns c = let q = c .before .before .before in let p = q .pre in λ b d. c .answer-row .ensures ∙ sym (row-answers _ (p .0) b d (subjectOf (q .args .whom)) _ (p .2) (p .3) _ (c .before .find-row .ensures b d))
+returns c = let q = c .before .before .before in λ b d. row-answers _ _ _ _ (q .pre) b d _ (c .before .find-row .ensures b d) _ (c .answer-row .ensures)
 
 pub answer-value-spec : {M : Type 1} → statement M
 answer-value-spec =

@@ -1,6 +1,5 @@
 -- Nothing, or the bytes of the row that was found.
 use Rattle.isis_values.proofs.Laws.{row-none, row-part, row-within}
-use Rattle.replies.specs.Told.{subjectOf}
 use native.Mathlib.Omega.{arith}
 use mathlib.Core.List.{[]}
 use borrow.Author.Needs.{needs}
@@ -26,10 +25,10 @@ part-result-end : tie.Need-part-result-end
 part-result-end c = search needs
 
 returns : tie.Need-returns
-returns c = let q = c .before .before .before .before in let p = q .pre in λ b d. row-none _ (p .0) b d (subjectOf (q .args .whom)) _ (p .2) (p .3) _ (c .before .before .find-row .ensures b d) (c .before .if1 .taken)
+returns c = let q = c .before .before .before .before in λ b d. row-none _ _ _ _ (q .pre) b d _ (c .before .before .find-row .ensures b d) (c .before .if1 .taken)
 
 add-result : tie.Need-add-result
-add-result c = let q = c .before .before .before in let p = q .pre in omega (arith, row-within _ (p .0) [] [] (subjectOf (q .args .whom)) _ (p .2) (p .3) _ (c .before .find-row .ensures [] []) (c .if1 .left))
+add-result c = let q = c .before .before .before in omega (arith, row-within _ _ _ _ (q .pre) [] [] _ (c .before .find-row .ensures [] []) (c .if1 .left))
 
 sub-result-2 : tie.Need-sub-result-2
 sub-result-2 c = search needs
@@ -38,10 +37,10 @@ part-result-start-2 : tie.Need-part-result-start-2
 part-result-start-2 c = search needs
 
 part-result-end-2 : tie.Need-part-result-end-2
-part-result-end-2 c = let q = c .before .before .before in let p = q .pre in row-within _ (p .0) [] [] (subjectOf (q .args .whom)) _ (p .2) (p .3) _ (c .before .find-row .ensures [] []) (c .if1 .left)
+part-result-end-2 c = let q = c .before .before .before in row-within _ _ _ _ (q .pre) [] [] _ (c .before .find-row .ensures [] []) (c .if1 .left)
 
 returns-2 : tie.Need-returns-2
-returns-2 c = let q = c .before .before .before .before in let p = q .pre in λ b d. row-part _ (p .0) b d (subjectOf (q .args .whom)) _ (p .2) (p .3) _ (c .before .before .find-row .ensures b d) (c .before .if1 .left)
+returns-2 c = let q = c .before .before .before .before in λ b d. row-part _ _ _ _ (q .pre) b d _ (c .before .before .find-row .ensures b d) (c .before .if1 .left)
 
 pub part-of-spec : {M : Type 1} → statement M
 part-of-spec =
