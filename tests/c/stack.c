@@ -118,10 +118,10 @@ static uint8_t out[NAKHSHIRUL_MAX_EXPORT];
 
 static void make(const char *folder)
 {
-    static const char *const names[] = {"small", "medium", "large"};
+    static const char *const names[] = {"small", "medium", "large", "spread", "merged"};
     static const unsigned counts[] = {1, 64, 65, 512, 513, 20000, NAKHSHIRUL_MAX_RUN_SRLGS};
     size_t i;
-    for (i = 0; i < 3; i++) {
+    for (i = 0; i < sizeof names / sizeof names[0]; i++) {
         char name[64];
         struct link *l = &links[link_count++];
         snprintf(name, sizeof name, "%s.a", names[i]);
