@@ -109,9 +109,9 @@ static struct run run_srlgs(unsigned count)
     return r;
 }
 
-static struct link links[8];
-static struct run runs[12];
-static unsigned srlgs_of[12];
+static struct link links[16];
+static struct run runs[16];
+static unsigned srlgs_of[16];
 static size_t link_count, run_count;
 static uint32_t list[NAKHSHIRUL_MAX_RUN_SRLGS];
 static uint8_t out[NAKHSHIRUL_MAX_EXPORT];
