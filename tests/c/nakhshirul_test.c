@@ -712,6 +712,16 @@ static void bench_large(void)
     bench_link("large");
 }
 
+static void bench_spread(void)
+{
+    bench_link("spread");
+}
+
+static void bench_merged(void)
+{
+    bench_link("merged");
+}
+
 int main(int count, char **words)
 {
     if (count != 2) {
@@ -734,6 +744,8 @@ int main(int count, char **words)
     group("small link and its export", bench_small);
     group("medium link and its export", bench_medium);
     group("large link and its export", bench_large);
+    group("spread link and its export", bench_spread);
+    group("merged link and its export", bench_merged);
     printf("%u passed, %u failed\n", passed, failed);
     return failed == 0 && passed > 0 ? 0 : 1;
 }

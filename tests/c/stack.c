@@ -109,19 +109,19 @@ static struct run run_srlgs(unsigned count)
     return r;
 }
 
-static struct link links[8];
-static struct run runs[12];
-static unsigned srlgs_of[12];
+static struct link links[16];
+static struct run runs[16];
+static unsigned srlgs_of[16];
 static size_t link_count, run_count;
 static uint32_t list[NAKHSHIRUL_MAX_RUN_SRLGS];
 static uint8_t out[NAKHSHIRUL_MAX_EXPORT];
 
 static void make(const char *folder)
 {
-    static const char *const names[] = {"small", "medium", "large"};
+    static const char *const names[] = {"small", "medium", "large", "spread", "merged"};
     static const unsigned counts[] = {1, 64, 65, 512, 513, 20000, NAKHSHIRUL_MAX_RUN_SRLGS};
     size_t i;
-    for (i = 0; i < 3; i++) {
+    for (i = 0; i < sizeof names / sizeof names[0]; i++) {
         char name[64];
         struct link *l = &links[link_count++];
         snprintf(name, sizeof name, "%s.a", names[i]);

@@ -50,10 +50,12 @@ pub enum Request {
     Export {
         room: usize,
     },
+    /// How long the export is; of links alone.
+    ExportLength,
 }
 
-/// The nine functions.
-pub const FUNCTIONS: [&str; 9] = [
+/// The ten functions.
+pub const FUNCTIONS: [&str; 10] = [
     "nakhshirul_ask",
     "nakhshirul_value",
     "nakhshirul_named",
@@ -63,7 +65,11 @@ pub const FUNCTIONS: [&str; 9] = [
     "nakhshirul_run_named",
     "nakhshirul_why",
     "nakhshirul_run_why",
+    "nakhshirul_export_length",
 ];
+
+/// Whether the library has all ten: one without the last is tried with `--no-default-features`.
+pub const WITH_EXPORT_LENGTH: bool = cfg!(feature = "export-length");
 
 /// The place of a call's function in `FUNCTIONS`.
 pub fn function(subject: &Subject, request: &Request) -> usize {
@@ -77,6 +83,9 @@ pub fn function(subject: &Subject, request: &Request) -> usize {
         (Subject::Run(_), Request::Named) => 6,
         (Subject::Link(_), Request::Why { .. }) => 7,
         (Subject::Run(_), Request::Why { .. }) => 8,
-        (Subject::Run(_), Request::Export { .. }) => panic!("a run is not exported"),
+        (Subject::Link(_), Request::ExportLength) => 9,
+        (Subject::Run(_), Request::Export { .. } | Request::ExportLength) => {
+            panic!("a run is not exported")
+        }
     }
 }

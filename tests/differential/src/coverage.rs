@@ -2,14 +2,14 @@
 
 use std::collections::BTreeMap;
 
-use crate::calls::{function, Request, Subject, FUNCTIONS};
+use crate::calls::{function, Request, Subject, FUNCTIONS, WITH_EXPORT_LENGTH};
 use crate::expected::Outcome;
 use crate::reference::application::{rule, Advertisement, Application, Ignored, Rule, RSVP_TE};
 use crate::reference::bgp_ls::read_run;
 use crate::reference::export::groups;
-use crate::reference::kinds::CODES;
+use crate::reference::kinds::{CODES, SRLG};
 use crate::reference::link::{named_on, read_link, Sides};
-use crate::reference::meaning;
+use crate::reference::meaning::{self, Set};
 use crate::reference::reply::{Fault, Run};
 
 /// Counts of calls and of what the links and runs had in them.
@@ -34,7 +34,7 @@ pub struct Coverage {
 }
 
 /// The statuses that each function can give.
-const STATUSES: [&[u64]; 9] = [
+const STATUSES: [&[u64]; 10] = [
     &[0, 1, 2, 3, 4, 5, 129, 130, 131, 132, 133, 134, 135],
     &[0, 4],
     &[6, 129, 130, 131, 132],
@@ -44,7 +44,11 @@ const STATUSES: [&[u64]; 9] = [
     &[6, 129, 131, 132],
     &[16, 129, 130, 131, 132, 134, 135],
     &[16, 129, 131, 132, 134, 135],
+    &[7, 129, 130, 131, 132],
 ];
+
+/// The place of `nakhshirul_export_length`.
+const EXPORT_LENGTH: usize = 9;
 
 /// The answers of the two why functions: rule, whether an advertisement is told, run.
 const WHYS: [(usize, &[(u64, bool, u64)]); 2] = [
@@ -125,7 +129,7 @@ const IGNORED: [(&str, Ignored); 7] = [
     ("BGP-LS", Ignored::MaskLength),
 ];
 
-const THINGS: [&str; 22] = [
+const THINGS: [&str; 30] = [
     "A general",
     "A naming",
     "A neither",
@@ -148,6 +152,14 @@ const THINGS: [&str; 22] = [
     "C of 1028 bytes",
     "BGP-LS run of 524288 bytes accepted",
     "BGP-LS run of 524289 bytes",
+    "95 ASLAs or more, each of one application",
+    "60 ASLAs or more, each of 100 applications or more",
+    "400 ASLAs or more",
+    "60 TLVs 238 or more",
+    "464 SRLGs ascending",
+    "464 SRLGs falling",
+    "464 SRLGs in any order",
+    "60 groups or more with 400 SRLGs or more",
 ];
 
 impl Coverage {
@@ -171,7 +183,7 @@ impl Coverage {
         }
         let code = match request {
             Request::Ask { code, .. } | Request::Value { code, .. } => *code,
-            Request::Why { .. } | Request::Named | Request::Export { .. } => return,
+            _ => return,
         };
         if (1..=5).contains(&outcome.status) {
             *self.kinds.entry((function, code)).or_default() += 1;
@@ -192,10 +204,18 @@ impl Coverage {
                 self.thing_if(link.b.len() == 2048, "B of 2048 bytes accepted");
                 self.thing_if(link.c.len() == 1024, "C of 1024 bytes accepted");
                 self.sides(&sides);
+                self.shapes(&sides);
                 let meaning = meaning::of_sides(link, &sides);
                 let groups = groups(&meaning.named);
                 self.groups += groups.len() as u64;
                 self.most_groups = self.most_groups.max(groups.len());
+                let most_srlgs = |(_, set): &(_, Set)| {
+                    set.iter().any(|(code, value)| *code == SRLG && value.len() >= 1600)
+                };
+                self.thing_if(
+                    groups.len() >= 60 && groups.iter().any(most_srlgs),
+                    "60 groups or more with 400 SRLGs or more",
+                );
                 for (members, _) in groups {
                     let user = |one: &Application| matches!(one, Application::User(_));
                     if members.iter().any(user) && !members.iter().all(user) {
@@ -250,6 +270,28 @@ impl Coverage {
         }
     }
 
+    /// The shapes of `shapes.rs`.
+    fn shapes(&mut self, sides: &Sides) {
+        let naming = |least: u32, most: u32| {
+            let named = sides.a.live.iter().map(|asla| asla.masks.bits_set());
+            named.filter(|n| (least..=most).contains(n)).count()
+        };
+        self.thing_if(naming(1, 1) >= 95, "95 ASLAs or more, each of one application");
+        self.thing_if(naming(100, 128) >= 60, "60 ASLAs or more, each of 100 applications or more");
+        self.thing_if(sides.a.live.len() >= 400, "400 ASLAs or more");
+        self.thing_if(sides.b.live.len() >= 60, "60 TLVs 238 or more");
+        let srlgs: Vec<u32> = sides.b.live.iter().flat_map(|tlv| tlv.carries.clone()).collect();
+        if srlgs.len() >= 464 {
+            let mut pairs = srlgs.iter().zip(&srlgs[1..]);
+            let thing = match (pairs.clone().all(|(x, y)| x < y), pairs.all(|(x, y)| x > y)) {
+                (true, _) => "464 SRLGs ascending",
+                (_, true) => "464 SRLGs falling",
+                _ => "464 SRLGs in any order",
+            };
+            self.thing(thing);
+        }
+    }
+
     fn thing_if(&mut self, met: bool, thing: &'static str) {
         if met {
             self.thing(thing);
@@ -264,6 +306,9 @@ impl Coverage {
     pub fn missing(&self) -> Vec<String> {
         let mut missing = Vec::new();
         for (function, statuses) in STATUSES.iter().enumerate() {
+            if function == EXPORT_LENGTH && !WITH_EXPORT_LENGTH {
+                continue;
+            }
             for status in *statuses {
                 if !self.statuses.contains_key(&(function, *status)) {
                     missing.push(format!("{} status {status}", FUNCTIONS[function]));

@@ -60,6 +60,13 @@ pub fn expected(subject: &Subject, request: &Request) -> Outcome {
                 Ok(out) => Outcome { out: out.clone(), ..status(7, out.len() as u64, 0) },
             }
         }
+        Request::ExportLength => {
+            let Subject::Link(link) = subject else { panic!("a run is not exported") };
+            match export::length(link) {
+                Err(refusal) => refused(refusal),
+                Ok(length) => status(7, length as u64, 0),
+            }
+        }
     }
 }
 

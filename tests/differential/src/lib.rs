@@ -13,6 +13,7 @@ pub mod random;
 pub mod reference;
 pub mod runs;
 pub mod session;
+pub mod shapes;
 pub mod shrink;
 pub mod twins;
 

@@ -1,6 +1,6 @@
 //! The cases of a run of the test, one after another.
 
-use crate::calls::{function, Request, Subject, FUNCTIONS};
+use crate::calls::{function, Request, Subject, FUNCTIONS, WITH_EXPORT_LENGTH};
 use crate::compare::{hex, observe, required, Library, Pattern, Placed};
 use crate::coverage::Coverage;
 use crate::dense::dense_link;
@@ -13,8 +13,9 @@ use crate::reference::application::Application;
 use crate::reference::bgp_ls::read_run;
 use crate::reference::export::export;
 use crate::reference::kinds::{CODES, SRLG};
-use crate::reference::link::{read_link, Link};
+use crate::reference::link::{named, read_link, Link};
 use crate::runs::run;
+use crate::shapes::shaped_link;
 use crate::shrink::shrink;
 use crate::twins::twins;
 
@@ -37,7 +38,7 @@ impl Session<'_> {
     /// take their time.
     pub fn case(&mut self, case: u64) -> Result<(), Difference> {
         let random = &mut Random::new(self.seed, case);
-        let scene = scene(random);
+        let mut scene = scene(random);
         if case % 2000 == 50 {
             let run = long_run(case / 2000, random);
             return self.run_case(case, &scene, run, 5, random);
@@ -54,6 +55,11 @@ impl Session<'_> {
             124 if case % 5000 == 124 => {
                 let subject = accepted(random, |random| Subject::Run(run(&scene, random)));
                 self.compare(case, &subject, &every_question(&subject), random)
+            }
+            _ if case % 50 == 21 => {
+                let link = shaped_link(random);
+                scene.applications.extend(some_named(&link, random));
+                self.link_case(case, &scene, link, random)
             }
             120 => {
                 let link = dense_link(random);
@@ -90,6 +96,9 @@ impl Session<'_> {
         let mut requests = vec![Request::Named, Request::Export { room: room(length, random) }];
         if random.percent(50) {
             requests.push(Request::Export { room: room(length, random) });
+        }
+        if random.percent(50) && WITH_EXPORT_LENGTH {
+            requests.push(Request::ExportLength);
         }
         let questions = if whole.is_ok() { 9 } else { 3 };
         let subject = Subject::Link(link);
@@ -198,6 +207,14 @@ impl Session<'_> {
 fn scene(random: &mut Random) -> Scene {
     let oddness = random.pick(&[0, 0, 0, 0, 10, 30, 30, 60]);
     Scene::new(random, oddness)
+}
+
+/// A few of the applications that a link names; none where it is refused.
+fn some_named(link: &Link, random: &mut Random) -> Vec<Application> {
+    match named(link) {
+        Ok(names) if !names.is_empty() => (0..6).map(|_| random.pick(&names)).collect(),
+        _ => Vec::new(),
+    }
 }
 
 /// A room for so many bytes or numbers: exact, one less, none, larger, any smaller one.

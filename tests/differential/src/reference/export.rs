@@ -16,6 +16,34 @@ pub fn export(link: &Link, room: usize) -> Result<Vec<u8>, Refusal> {
     Ok(written)
 }
 
+/// How many bytes a link takes, reckoned from its meaning without writing it. It is refused as an
+/// export is that has room enough.
+pub fn length(link: &Link) -> Result<usize, Refusal> {
+    let sides = read_link(link)?;
+    let meaning = of_sides(link, &sides);
+    let mut length = set_length(&meaning.bandwidths) + set_length(&meaning.rsvp_te);
+    if !meaning.general.is_empty() {
+        length += 8 + set_length(&meaning.general);
+    }
+    for (members, set) in groups(&meaning.named) {
+        let standard = members.iter().filter_map(|one| match one {
+            Application::Standard(n) => Some(*n),
+            Application::User(_) => None,
+        });
+        let user = members.iter().filter_map(|one| match one {
+            Application::Standard(_) => None,
+            Application::User(n) => Some(*n),
+        });
+        length += 8 + mask_length(standard.max()) + mask_length(user.max()) + set_length(&set);
+    }
+    Ok(length)
+}
+
+/// The TLVs of a set: four bytes before each value.
+fn set_length(set: &[(u16, Vec<u8>)]) -> usize {
+    set.iter().map(|(_, value)| 4 + value.len()).sum()
+}
+
 /// Ascending by type: the link's bandwidths, the RSVP-TE set, and the ASLA TLVs in their own order.
 pub fn write(meaning: &Meaning) -> Vec<u8> {
     let mut tlvs = Vec::new();
@@ -84,14 +112,18 @@ fn asla_value(members: &[Application], set: &Set) -> Vec<u8> {
     value
 }
 
-/// A mask of 0, 4 or 8 bytes, the least that holds its last set bit.
-fn mask(bits: &[u8]) -> Vec<u8> {
-    let length = match bits.iter().max() {
+/// 0, 4 or 8 bytes, the least that hold the last set bit.
+fn mask_length(last: Option<u8>) -> usize {
+    match last {
         None => 0,
-        Some(last) if *last < 32 => 4,
+        Some(last) if last < 32 => 4,
         Some(_) => 8,
-    };
-    let mut mask = vec![0; length];
+    }
+}
+
+/// A mask with these bits.
+fn mask(bits: &[u8]) -> Vec<u8> {
+    let mut mask = vec![0; mask_length(bits.iter().max().copied())];
     for bit in bits {
         mask[usize::from(bit / 8)] |= 128 >> (bit % 8);
     }

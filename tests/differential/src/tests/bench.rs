@@ -1,7 +1,7 @@
 //! The links on the bench, as the paper gives them.
 
 use super::*;
-use crate::reference::export::export;
+use crate::reference::export::{export, length};
 use crate::reference::kinds::CODES;
 use crate::reference::link::named;
 
@@ -14,6 +14,7 @@ fn empty_a() {
         }
     }
     assert_eq!(export(&link, 0), Ok(Vec::new()));
+    assert_eq!(length(&link), Ok(0));
     assert_eq!(named(&link), Ok(Vec::new()));
 }
 
@@ -32,6 +33,7 @@ fn m_s_g() {
     assert_eq!(whole.len(), 44);
     assert_eq!(export(&link, 44), Ok(whole.clone()));
     assert_eq!(export(&link, 45), Ok(whole));
+    assert_eq!(length(&link), Ok(44));
     assert_eq!(told(export(&link, 43).unwrap_err()), (5, Run::A, 0));
 }
 
@@ -51,6 +53,7 @@ fn named_with_nothing() {
     assert_eq!(metric(&link, SR_POLICY), None);
     assert_eq!(metric(&link, LFA), Some(30));
     assert_eq!(export(&link, usize::MAX).unwrap().len(), 28);
+    assert_eq!(length(&link), Ok(28));
 }
 
 #[test]

@@ -64,7 +64,7 @@ fn the_reference_agrees_with_itself() {
 
 #[test]
 fn a_wrong_answer_is_found() {
-    let slips: [fn(&Request, &mut Outcome); 11] = [
+    let slips: [fn(&Request, &mut Outcome); 12] = [
         |_, outcome| outcome.status += u64::from(outcome.status == 135),
         |_, outcome| outcome.reply[1] += u64::from(outcome.status == 1),
         |_, outcome| outcome.reply[0] |= u64::from(outcome.status == 6),
@@ -74,6 +74,10 @@ fn a_wrong_answer_is_found() {
         |_, outcome| outcome.reply[3] |= u64::from(outcome.status == 0),
         |_, outcome| outcome.reply[0] ^= u64::from(outcome.status == 16 && outcome.reply[0] > 1),
         |_, outcome| outcome.reply[2] &= !(7 * u64::from(outcome.reply == [4, u64::MAX, 7, 0])),
+        |request, outcome| {
+            let told = *request == Request::ExportLength && outcome.status == 7;
+            outcome.reply[0] += u64::from(told && outcome.reply[0] > 2000);
+        },
         |_, outcome| {
             if let Some(last) = outcome.list.last_mut() {
                 *last ^= 1;

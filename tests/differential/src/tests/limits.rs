@@ -2,7 +2,7 @@
 
 use super::*;
 use crate::reference::bgp_ls;
-use crate::reference::export::export;
+use crate::reference::export::{export, length};
 use crate::reference::link::named;
 
 #[test]
@@ -23,6 +23,7 @@ fn lengths_of_runs() {
     assert_eq!(refusal(&uneven), (2, Run::A, 0));
     assert_eq!(told(named(&uneven).unwrap_err()), (2, Run::A, 0));
     assert_eq!(told(export(&uneven, 0).unwrap_err()), (2, Run::A, 0));
+    assert_eq!(told(length(&uneven).unwrap_err()), (2, Run::A, 0));
 }
 
 #[test]

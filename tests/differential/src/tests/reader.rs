@@ -1,4 +1,4 @@
-//! The reader of BGP-LS runs, and that an export means what its link means.
+//! The reader of BGP-LS runs, and that an export means what its link means and has the length told.
 
 use super::*;
 use crate::dense::dense_link;
@@ -6,8 +6,9 @@ use crate::generator::{link as some_link, Scene};
 use crate::random::Random;
 use crate::reference::application::Application;
 use crate::reference::bgp_ls::{ask as ask_run, named, value};
-use crate::reference::export::export;
+use crate::reference::export::{export, length};
 use crate::reference::meaning::{of_link, of_run};
+use crate::shapes::shaped_link;
 
 fn run_metric(run: &[u8], asker: Asker) -> Option<u64> {
     match ask_run(run, asker, 1092, 0) {
@@ -83,6 +84,8 @@ fn an_export_means_what_its_link_means() {
         let random = &mut Random::new(77, case);
         let link = if case % 200 == 0 {
             dense_link(random)
+        } else if case % 200 == 100 {
+            shaped_link(random)
         } else {
             let scene = Scene::new(random, (case % 50) as usize);
             some_link(&scene, random)
@@ -92,6 +95,7 @@ fn an_export_means_what_its_link_means() {
         };
         accepted += 1;
         let run = export(&link, 310_644).unwrap();
+        assert_eq!(length(&link), Ok(run.len()), "case {case}");
         assert_eq!(of_run(&run), Ok(meaning), "case {case}");
     }
     assert!(accepted > 10_000, "{accepted}");
