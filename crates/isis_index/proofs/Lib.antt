@@ -3,3 +3,6 @@ pub mod Codes
 pub mod Cells
 pub mod Heard
 pub mod Lists
+pub mod Pairs
+pub mod Aslas
+pub mod Taking

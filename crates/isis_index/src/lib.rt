@@ -1,12 +1,13 @@
 // The walk of an accepted run A: each value goes to the slots of those that get it, in the table of the link's sets (document 01, "Who gets what").
+ghost use mathlib.Core.Path.{_≡_};
 ghost use mathlib.Core.List.{List, [], _∷_};
 ghost use Prim.Native.Nat.{ℕ, _≤_};
-ghost use lib.ListN.{length};
+ghost use lib.ListN.{length, getD};
 ghost use Rattle.linkstate.specs.Lists.{each};
 ghost use Rattle.linkstate.specs.Elements.{elements};
-ghost use Rattle.isis.specs.RunA.{attributesOf};
+ghost use Rattle.isis.specs.RunA.{attributesOf, aslaAdvertisements};
 ghost use Rattle.set_table.specs.Tables.{Table, Within};
-ghost use Rattle.isis_index.specs.Index.{owning, Right, Listed, attributeAt, Took, TookFor, Ready, fromLegacy, heardByAll, heard};
+ghost use Rattle.isis_index.specs.Index.{owning, Right, Listed, attributeAt, Took, TookFor, Ready, fromLegacy, heardByAll, heard, takes, hereIn, Here, Owning, ReadAs, Gains};
 use kinds::Kind;
 
 // A legacy attribute, by its type.
@@ -123,4 +124,75 @@ fn named_list(
         );
         at = at + 2 + n;
     }
+}
+
+// What is read of an ASLA: nothing, or its list from a place on, for all or for those of two masks as sent.
+enum Asla {
+    Unread,
+    ForAll(usize),
+    ForNamed(usize, u64, u64),
+}
+
+// The header of an ASLA of an accepted run. With L, or with a mask too long to be read, nobody hears its list.
+fn read_asla(a: &[u8], at: usize, end: usize) -> Asla
+    requires { ⌜ Here (now a) at end × (getD (now a) at 0 ≡ 16) ⌝ }
+    ensures { λ r. ⌜ ReadAs (now (a .entry)) at end r ⌝ }
+{
+    let value = at + 2;
+    let h = isis_check_a::read_header(&a[value..end]);
+    if h.l {
+        return Asla::Unread;
+    }
+    if isis_check_a::mask_too_long(h) {
+        return Asla::Unread;
+    }
+    let masks = value + 2;
+    let behind = masks + h.standard;
+    let from = behind + h.user;
+    if from == masks {
+        return Asla::ForAll(from);
+    }
+    let standard = masks::with_sent(0, a, masks, h.standard);
+    let user = masks::with_sent(0, a, behind, h.user);
+    Asla::ForNamed(from, standard, user)
+}
+
+// An ASLA of an accepted run.
+fn add_asla(
+    a: &[u8],
+    at: usize,
+    end: usize,
+    sets: &mut [[u32; 12]],
+    own: &[[u8; 2]; 128],
+    have: &mut [[u64; 2]; 10],
+)
+    requires { ⌜ Ready (now a) (now own) (now sets) (now have) × Here (now a) at end × (getD (now a) at 0 ≡ 16) × Owning (now own) (aslaAdvertisements (hereIn (now a) at)) ⌝ }
+    ensures { λ _. ⌜ Gains (now (a .entry)) (now (own .entry)) (now (sets .entry)) (now (sets .exit)) (now (have .exit)) (λ src. takes src (hereIn (now (a .entry)) at)) ⌝ }
+{
+    match read_asla(a, at, end) {
+        Asla::Unread => (),
+        Asla::ForAll(from) => general_list(a, &a[from..end], from, sets),
+        Asla::ForNamed(from, standard, user) => {
+            named_list(a, &a[from..end], from, sets, own, have, standard, user)
+        }
+    }
+}
+
+// An element of an accepted run A.
+fn add_element(
+    a: &[u8],
+    at: usize,
+    end: usize,
+    sets: &mut [[u32; 12]],
+    own: &[[u8; 2]; 128],
+    have: &mut [[u64; 2]; 10],
+)
+    requires { ⌜ Ready (now a) (now own) (now sets) (now have) × Here (now a) at end × Owning (now own) (aslaAdvertisements (hereIn (now a) at)) ⌝ }
+    ensures { λ _. ⌜ Gains (now (a .entry)) (now (own .entry)) (now (sets .entry)) (now (sets .exit)) (now (have .exit)) (λ src. takes src (hereIn (now (a .entry)) at)) ⌝ }
+{
+    if a[at] == 16 {
+        return add_asla(a, at, end, sets, own, have);
+    }
+    let value = at + 2;
+    enter_legacy(a, sets, a[at], value, end - value);
 }
