@@ -6,3 +6,4 @@ pub mod Lists
 pub mod Pairs
 pub mod Aslas
 pub mod Taking
+pub mod Walking

@@ -1,13 +1,14 @@
 // The walk of an accepted run A: each value goes to the slots of those that get it, in the table of the link's sets (document 01, "Who gets what").
 ghost use mathlib.Core.Path.{_≡_};
 ghost use mathlib.Core.List.{List, [], _∷_};
-ghost use Prim.Native.Nat.{ℕ, _≤_};
+ghost use Prim.Native.Nat.{ℕ, _≤_, _<_};
 ghost use lib.ListN.{length, getD};
 ghost use Rattle.linkstate.specs.Lists.{each};
-ghost use Rattle.linkstate.specs.Elements.{elements};
-ghost use Rattle.isis.specs.RunA.{attributesOf, aslaAdvertisements};
+ghost use Rattle.linkstate.specs.Replies.{accepted, runA};
+ghost use Rattle.linkstate.specs.Elements.{elements, faults};
+ghost use Rattle.isis.specs.RunA.{checkA, attributesOf, aslaAdvertisements, sideA};
 ghost use Rattle.set_table.specs.Tables.{Table, Within};
-ghost use Rattle.isis_index.specs.Index.{owning, Right, Listed, attributeAt, Took, TookFor, Ready, fromLegacy, heardByAll, heard, takes, hereIn, Here, Owning, ReadAs, Gains};
+ghost use Rattle.isis_index.specs.Index.{owning, Right, Listed, attributeAt, Took, TookFor, Ready, fromLegacy, heardByAll, heard, takes, hereIn, Here, Ground, Owning, ReadAs, Gains, Empty, Walked};
 use kinds::Kind;
 
 // A legacy attribute, by its type.
@@ -195,4 +196,18 @@ fn add_element(
     }
     let value = at + 2;
     enter_legacy(a, sets, a[at], value, end - value);
+}
+
+// The whole of an accepted run A, for a table of empty rows.
+fn walk(a: &[u8], sets: &mut [[u32; 12]], own: &[[u8; 2]; 128])
+    requires { ⌜ (faults runA checkA (elements 1 0 (now a)) ≡ accepted) × (length (now a) < 65536) × Ground (now own) (now sets) × Empty (now sets) × Owning (now own) ((sideA (now a)) .live) ⌝ }
+    ensures { λ _. ⌜ (length (now (sets .exit)) ≡ length (now (sets .entry))) × Walked (now (a .entry)) (now (own .entry)) (now (sets .exit)) ⌝ }
+{
+    let mut have = [[0u64; 2]; 10];
+    let mut at = 0;
+    while at < a.len() {
+        let end = at + 2 + a[at + 1] as usize;
+        add_element(a, at, end, sets, own, &mut have);
+        at = end;
+    }
 }
