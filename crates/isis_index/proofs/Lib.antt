@@ -7,3 +7,5 @@ pub mod Pairs
 pub mod Aslas
 pub mod Taking
 pub mod Walking
+pub mod Settling
+pub mod RsvpTe

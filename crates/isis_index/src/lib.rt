@@ -1,15 +1,21 @@
 // The walk of an accepted run A: each value goes to the slots of those that get it, in the table of the link's sets (document 01, "Who gets what").
 ghost use mathlib.Core.Path.{_≡_};
+ghost use mathlib.Core.Bool.{true};
 ghost use mathlib.Core.List.{List, [], _∷_};
 ghost use Prim.Native.Nat.{ℕ, _≤_, _<_};
-ghost use lib.ListN.{length, getD};
+ghost use lib.ListN.{length, getD, set};
 ghost use Rattle.linkstate.specs.Lists.{each};
 ghost use Rattle.linkstate.specs.Replies.{accepted, runA};
 ghost use Rattle.linkstate.specs.Elements.{elements, faults};
+ghost use Rattle.naming.specs.Names.{inBoth};
 ghost use Rattle.isis.specs.RunA.{checkA, attributesOf, aslaAdvertisements, sideA};
-ghost use Rattle.set_table.specs.Tables.{Table, Within};
+ghost use Rattle.grids.specs.Slots.{cell, IsSet};
+ghost use Rattle.set_table.specs.Tables.{first, Table, Given, onlyAt, slotAt, inPair, Within, Owned, Gave};
 ghost use Rattle.isis_index.specs.Index.{owning, Right, Listed, attributeAt, Took, TookFor, Ready, fromLegacy, heardByAll, heard, takes, hereIn, Here, Ground, Owning, ReadAs, Gains, Empty, Walked};
+ghost use Rattle.isis_index.specs.Settled.{settled, fromOld, rsvpTeSlot};
 use kinds::Kind;
+use naming::Names;
+use rules::Rule;
 
 // A legacy attribute, by its type.
 fn enter_legacy(a: &[u8], sets: &mut [[u32; 12]], t: u8, place: usize, n: usize)
@@ -210,4 +216,87 @@ fn walk(a: &[u8], sets: &mut [[u32; 12]], own: &[[u8; 2]; 128])
         add_element(a, at, end, sets, own, &mut have);
         at = end;
     }
+}
+
+// The first of two cells; 0 is none.
+fn first_of(x: u32, y: u32) -> u32
+    ensures { λ r. ⌜ r ≡ first x y ⌝ }
+{
+    if x == 0 {
+        return y;
+    }
+    x
+}
+
+// The link's bandwidths: 1089 of legacy's, then of any ASLA without L; 1090 and 1091 of ASLAs for RSVP-TE alone, unless it is named with L, then of legacy's.
+fn settle_row(row: &mut [u32; 12], l: bool)
+    ensures { λ _. ⌜ now (row .exit) ≡ settled (now (row .entry)) l ⌝ }
+{
+    row[0] = first_of(row[0], row[3]);
+    if l {
+        return;
+    }
+    row[1] = first_of(row[4], row[1]);
+    row[2] = first_of(row[5], row[2]);
+}
+
+fn settle(sets: &mut [[u32; 12]], l: bool)
+    requires { ⌜ 2 < length (now sets) ⌝ }
+    ensures { λ _. ⌜ now (sets .exit) ≡ set (now (sets .entry)) 2 (settled (getD (now (sets .entry)) 2 []) l) ⌝ }
+{
+    settle_row(&mut sets[2], l);
+}
+
+// Legacy's value of kind k for a slot, unless it has one.
+fn add_old(a: &[u8], sets: &mut [[u32; 12]], s: usize, k: usize)
+    requires { ⌜ Table (now a) (now sets) × (1 < length (now sets)) × IsSet (now sets) s × (k < 10) ⌝ }
+    ensures { λ _. ⌜ Table (now (a .entry)) (now (sets .exit)) × Given (now (sets .entry)) (now (sets .exit)) (onlyAt s k (cell (now (sets .entry)) 1 k)) ⌝ }
+{
+    let row = grids::row_at(sets, 1, k);
+    let n = row[1];
+    if n == 0 {
+        return;
+    }
+    set_table::enter_one(a, sets, s, k, row[0], n);
+}
+
+// Legacy's values for a slot, of the kinds that it lacks.
+fn add_all_old(a: &[u8], sets: &mut [[u32; 12]], s: usize)
+    requires { ⌜ Table (now a) (now sets) × (1 < length (now sets)) × IsSet (now sets) s ⌝ }
+    ensures { λ _. ⌜ Table (now (a .entry)) (now (sets .exit)) × Given (now (sets .entry)) (now (sets .exit)) (fromOld (now (sets .entry)) s) ⌝ }
+{
+    for k in 0..10 {
+        add_old(a, sets, s, k);
+    }
+}
+
+// A slot's number, to index with.
+fn wide(x: u8) -> usize
+    ensures { λ r. ⌜ r ≡ x ⌝ }
+{
+    x as usize
+}
+
+// The slot of RSVP-TE's set; its own is filled up from legacy's.
+fn rsvp_te_slot(a: &[u8], named: Names, sets: &mut [[u32; 12]], own: &[[u8; 2]; 128]) -> usize
+    requires { ⌜ Table (now a) (now sets) × (1 < length (now sets)) × (inBoth (named .standard) (named .user) 0 ≡ true → IsSet (now sets) (slotAt (now own) 7)) ⌝ }
+    ensures { λ r. ⌜ (r ≡ rsvpTeSlot named (now (own .entry))) × Table (now (a .entry)) (now (sets .exit)) × Given (now (sets .entry)) (now (sets .exit)) (fromOld (now (sets .entry)) r) ⌝ }
+{
+    let l = naming::is_named_with_l(named, 0);
+    let n = naming::is_named(named, 0);
+    if let Rule::NamingFirst = rules::rsvp_te_rule(l, n) {
+        let s = wide(own[7][0]);
+        add_all_old(a, sets, s);
+        return s;
+    }
+    1
+}
+
+// Those that are named with L take legacy's slot.
+fn give_old(standard: u64, user: u64, own: &mut [[u8; 2]; 128])
+    requires { ⌜ Owned (now own) ⌝ }
+    ensures { λ _. ⌜ Gave (now (own .entry)) (now (own .exit)) (inPair standard user) 1 ⌝ }
+{
+    set_table::give_slot(standard, 0, 1, own);
+    set_table::give_slot(user, 64, 1, own);
 }
