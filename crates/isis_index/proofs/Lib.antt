@@ -9,3 +9,7 @@ pub mod Taking
 pub mod Walking
 pub mod Settling
 pub mod RsvpTe
+pub mod Values
+pub mod Starting
+pub mod Slots
+pub mod Ending

@@ -130,7 +130,7 @@ module _ {run : List ℕ} {begun table : List (List ℕ)} {s k : ℕ} (c : Copyi
       and-true true = refl
       and-true false = refl
 
-first-again : (x : ℕ) → first x x ≡ x
+pub first-again : (x : ℕ) → first x x ≡ x
 unfolding first
 first-again x = go (eqb x 0)
   where

@@ -7,12 +7,14 @@ ghost use lib.ListN.{length, getD, set};
 ghost use Rattle.linkstate.specs.Lists.{each};
 ghost use Rattle.linkstate.specs.Replies.{accepted, runA};
 ghost use Rattle.linkstate.specs.Elements.{elements, faults};
-ghost use Rattle.naming.specs.Names.{inBoth};
+ghost use Rattle.naming.specs.Names.{inBoth, Tells};
 ghost use Rattle.isis.specs.RunA.{checkA, attributesOf, aslaAdvertisements, sideA};
 ghost use Rattle.grids.specs.Slots.{cell, IsSet};
 ghost use Rattle.set_table.specs.Tables.{first, Table, Given, onlyAt, slotAt, inPair, Within, Owned, Gave};
 ghost use Rattle.isis_index.specs.Index.{owning, Right, Listed, attributeAt, Took, TookFor, Ready, fromLegacy, heardByAll, heard, takes, hereIn, Here, Ground, Owning, ReadAs, Gains, Empty, Walked};
+ghost use Rattle.isis_index.specs.Started.{Started};
 ghost use Rattle.isis_index.specs.Settled.{settled, fromOld, rsvpTeSlot};
+ghost use Rattle.isis_index.specs.Indexed.{Indexed};
 use kinds::Kind;
 use naming::Names;
 use rules::Rule;
@@ -299,4 +301,21 @@ fn give_old(standard: u64, user: u64, own: &mut [[u8; 2]; 128])
 {
     set_table::give_slot(standard, 0, 1, own);
     set_table::give_slot(user, 64, 1, own);
+}
+
+// The walk of an accepted run A whose applications have their slots, and then the slot of every subject; the answer is that of RSVP-TE's set.
+pub fn index_a(
+    a: &[u8],
+    named: Names,
+    sets: &mut [[u32; 12]],
+    own: &mut [[u8; 2]; 128],
+) -> usize
+    requires { ⌜ (faults runA checkA (elements 1 0 (now a)) ≡ accepted) × (length (now a) < 65536) × Tells ((sideA (now a)) .live) named × Started named (now sets) (now own) ⌝ }
+    ensures { λ r. ⌜ Indexed (now (a .entry)) (now (sets .exit)) (now (own .exit)) r ⌝ }
+{
+    walk(a, sets, own);
+    settle(sets, naming::is_named_with_l(named, 0));
+    let r = rsvp_te_slot(a, named, sets, own);
+    give_old(named.lstandard, named.luser, own);
+    r
 }
