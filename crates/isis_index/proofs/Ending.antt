@@ -37,7 +37,7 @@ use Rattle.isis_grids.proofs.Aslas.{live-all}
 use Rattle.isis_index.specs.Index as I
 use Rattle.isis_index.specs.Index.{cellIn, Source, legacy, live, takes, Spot, sourceOf, slotIn, cellAt, codeOf, Valid, inRun, Walked}
 use Rattle.isis_index.specs.Started.{Started}
-use Rattle.isis_index.specs.Settled.{withMaximum, settled, fromOld, slotBy, rsvpTeSlot}
+use Rattle.isis_index.specs.Settled.{withMaximum, settled, Settled, fromOld, slotBy, rsvpTeSlot}
 use Rattle.isis_index.specs.Indexed.{Holds, Indexed}
 use Rattle.isis_index.proofs.Codes.{link-first, link-same}
 use Rattle.isis_index.proofs.Cells.{cell-append, place-low}
@@ -82,16 +82,15 @@ module _ (s : Side) where
 
 -- ---- all that was done
 
-pub record Done (a : List ℕ) (named : Names) (begun own walked ended given : List (List ℕ)) (r : ℕ) : Type 0 where
+pub record Done (a : List ℕ) (named : Names) (begun own middle ended given : List (List ℕ)) (r : ℕ) : Type 0 where
   pub ok : faults runA checkA (elements 1 0 a) ≡ accepted
   pub small : length a < 65536
   pub tells : Tells ((sideA a) .live) named
   pub started : Started named begun own
-  pub same : length walked ≡ length begun
-  pub walk : Walked a own walked
+  pub walk : Settled a own begun middle (inBoth (named .lstandard) (named .luser) 0)
   pub rsvpTe : r ≡ rsvpTeSlot named own
   pub holds : Table a ended
-  pub gets : Given (set walked 2 (settled (getD walked 2 []) (inBoth (named .lstandard) (named .luser) 0))) ended (fromOld (set walked 2 (settled (getD walked 2 []) (inBoth (named .lstandard) (named .luser) 0))) r)
+  pub gets : Given middle ended (fromOld middle r)
   pub gives : Gave own given (inPair (named .lstandard) (named .luser)) 1
 
 -- Attributes by another name.
@@ -122,7 +121,7 @@ zero-place : turnedPlace 0 ≡ 7
 unfolding turnedPlace
 zero-place = refl
 
-module _ {a : List ℕ} {m : Names} {begun own walked ended given : List (List ℕ)} {r : ℕ} (d : Done a m begun own walked ended given r) where
+module _ {a : List ℕ} {m : Names} {begun own middle ended given : List (List ℕ)} {r : ℕ} (d : Done a m begun own middle ended given r) where
   abbrev side : Side
   side = sideA a
 
@@ -136,11 +135,17 @@ module _ {a : List ℕ} {m : Names} {begun own walked ended given : List (List �
   abbrev slot : ℕ → ℕ
   slot n = slotAt own (turnedPlace n)
 
-  abbrev middle : List (List ℕ)
-  middle = set walked 2 (settled (getD walked 2 []) l)
+  abbrev walked : List (List ℕ)
+  walked = d .walk .walked
+
+  middle-is : middle ≡ set walked 2 (settled (getD walked 2 []) l)
+  middle-is = d .walk .settles
+
+  middle-long : length middle ≡ length walked
+  middle-long = ap length middle-is ∙ length-set walked 2 _
 
   long : length ended ≡ length begun
-  long = d .gets .same ∙ length-set walked 2 _ ∙ d .same
+  long = d .gets .same ∙ middle-long ∙ d .walk .same
 
   where-is : Slot m own r
   where-is = slot-is m own r (d .rsvpTe)
@@ -172,7 +177,7 @@ module _ {a : List ℕ} {m : Names} {begun own walked ended given : List (List �
   -- ---- the cells of the slots
 
   middle-cell : (s k : ℕ) → (s ≡ 2 → ⊥) → cell middle s k ≡ cell walked s k
-  middle-cell s k n = ap (λ (row : List ℕ). getD row k 0) (getD-set-other walked 2 s (settled (getD walked 2 []) l) [] n)
+  middle-cell s k n = ap (λ (table : List (List ℕ)). cell table s k) middle-is ∙ ap (λ (row : List ℕ). getD row k 0) (getD-set-other walked 2 s (settled (getD walked 2 []) l) [] n)
 
   end-cell : (s k : ℕ) → IsSet ended s → k < 10 → cell ended s k ≡ first (cell walked s k) (cond (eqb s r) (cell walked 1 k) 0)
   end-cell s k i h =
@@ -196,12 +201,12 @@ module _ {a : List ℕ} {m : Names} {begun own walked ended given : List (List �
     is = low-set 0 (omega arith);
     cells = λ k h.
         kept-cell 0 k (low-set 0 (omega arith)) h (r-low 0 (omega arith) (λ z. omega arith))
-        ∙ d .walk .cells (I.general k) h ∙ ap (cellIn (getD gridCodes k 0)) (live-source a General ∙ of-general side);
+        ∙ d .walk .walk .cells (I.general k) h ∙ ap (cellIn (getD gridCodes k 0)) (live-source a General ∙ of-general side);
     stands = λ c. subst (All (Stands a)) (of-general side) (all-live General);
   }
 
   old-cell : (k : ℕ) → k < 10 → cell walked 1 k ≡ cellIn (getD gridCodes k 0) (side .legacy)
-  old-cell k h = d .walk .cells (I.old k) h ∙ ap (cellIn (getD gridCodes k 0)) (old-source a)
+  old-cell k h = d .walk .walk .cells (I.old k) h ∙ ap (cellIn (getD gridCodes k 0)) (old-source a)
 
   filled-old : Filled a ended 1 (λ c. side .legacy)
   filled-old = record {
@@ -219,7 +224,7 @@ module _ {a : List ℕ} {m : Names} {begun own walked ended given : List (List �
 
   own-cell : (n : ℕ) → n < 128 → isNamed n ≡ true → (k : ℕ) → k < 10 → cell walked (slot n) k ≡ cellIn (getD gridCodes k 0) (ofLive (names n) side)
   own-cell n h e k g =
-      d .walk .cells (I.own n k) (h, le-leb 3 (slot n) (d .started .slots n h e .0), g) ∙ ap (cellIn (getD gridCodes k 0)) (live-source a (Naming n) ∙ of-naming side n)
+      d .walk .walk .cells (I.own n k) (h, le-leb 3 (slot n) (d .started .slots n h e .0), g) ∙ ap (cellIn (getD gridCodes k 0)) (live-source a (Naming n) ∙ of-naming side n)
 
   all-naming : (n : ℕ) → All (Stands a) (ofLive (names n) side)
   all-naming n = subst (All (Stands a)) (of-naming side n) (all-live (Naming n))
@@ -292,25 +297,25 @@ module _ {a : List ℕ} {m : Names} {begun own walked ended given : List (List �
   row = getD walked 2 []
 
   two-inside : 2 < length walked
-  two-inside = omega (arith, d .same, d .started .three)
+  two-inside = omega (arith, d .walk .same, d .started .three)
 
   twelve : length row ≡ 12
-  twelve = d .walk .holds .rows 2 two-inside .twelve
+  twelve = d .walk .walk .holds .rows 2 two-inside .twelve
 
   link-cell : (k : ℕ) → k < 10 → cell ended 2 k ≡ getD (settled row l) k 0
   link-cell k h =
-      d .gets .cells 2 k (omega (arith, two-inside, length-set walked 2 (settled row l))) h
+      d .gets .cells 2 k (omega (arith, two-inside, middle-long)) h
       ∙ ap (λ (b : Bool). first (cell middle 2 k) (cond b (cell middle 1 k) 0)) (ne-eqb 2 r (r-low 2 (omega arith) (λ z. omega arith)))
-      ∙ first-none (cell middle 2 k) 0 0 ∙ ap (λ (x : List ℕ). getD x k 0) (getD-set-same walked 2 (settled row l) [] two-inside)
+      ∙ first-none (cell middle 2 k) 0 0 ∙ ap (λ (table : List (List ℕ)). cell table 2 k) middle-is ∙ ap (λ (x : List ℕ). getD x k 0) (getD-set-same walked 2 (settled row l) [] two-inside)
 
   old-link : (k : ℕ) → k < 3 → getD row k 0 ≡ cellIn (getD linkCodes k 0) (side .legacy)
-  old-link k h = d .walk .cells (I.bandwidth k) h ∙ ap (cellIn (getD linkCodes k 0)) (old-source a)
+  old-link k h = d .walk .walk .cells (I.bandwidth k) h ∙ ap (cellIn (getD linkCodes k 0)) (old-source a)
 
   maximum-link : getD row 3 0 ≡ cellIn (getD linkCodes 0 0) (ofLive (λ x. not (x .L)) side)
-  maximum-link = d .walk .cells I.maximum tt ∙ ap₂ cellIn (sym link-first) (live-source a WithoutL ∙ of-all side)
+  maximum-link = d .walk .walk .cells I.maximum tt ∙ ap₂ cellIn (sym link-first) (live-source a WithoutL ∙ of-all side)
 
   alone-link : (k : ℕ) → k < 2 → getD row (4 + k) 0 ≡ cellIn (getD linkCodes (1 + k) 0) (ofLive rsvpTeAlone side)
-  alone-link k h = d .walk .cells (I.alone k) h ∙ ap (cellIn (getD linkCodes (1 + k) 0)) (live-source a RsvpTeAlone ∙ of-alone side)
+  alone-link k h = d .walk .walk .cells (I.alone k) h ∙ ap (cellIn (getD linkCodes (1 + k) 0)) (live-source a RsvpTeAlone ∙ of-alone side)
 
   first-link : cell ended 2 0 ≡ cellIn (getD linkCodes 0 0) (bandwidthKind (getD linkCodes 0 0) side)
   unfolding bandwidthKind maximumBandwidth

@@ -11,19 +11,23 @@ use lib.Seq.{getD-set-same, getD-set-other}
 use Rattle.linkstate.specs.Lists.{numbers}
 use Rattle.linkstate.specs.Kinds.{linkCodes}
 use Rattle.linkstate.specs.Attributes.{Attribute, valueOf}
+use Rattle.masks.specs.Sets.{turnedPlace}
 use Rattle.kinds.specs.Rules.{gridCodes, rowIn}
 use Rattle.kinds.proofs.Computing.{computing}
+use Rattle.naming.specs.declared.Names.{Names}
+use Rattle.naming.specs.Names.{inBoth}
 use Rattle.grids.specs.Grids.{rowValue, gridValue, bandwidthOf, Alike}
 use Rattle.grids.specs.Slots.{cell, cellRow, slotGrid, linkRows, slotValues, IsSet, Slots}
 use Rattle.grids.proofs.Laws.{grid-at, row-numbers, slot-row, length-slot}
-use Rattle.set_table.specs.Tables.{first, CellFits, Fitting, Table}
+use Rattle.set_table.specs.Tables.{first, CellFits, Fitting, Table, slotAt}
 use Rattle.set_table.proofs.Tables.{set-fitting, row-table, slots-of}
 use Rattle.isis_grids.specs.Grid.{wrongOfCode}
 use Rattle.isis_grids.proofs.Types.{ten-codes, three-codes}
 use Rattle.isis_grids.proofs.Grids.{All}
 use Rattle.isis_grids.proofs.Places.{Stands}
-use Rattle.isis_index.specs.Index.{cellIn}
-use Rattle.isis_index.specs.Settled.{withMaximum, settled}
+use Rattle.isis_index.specs.Index.{cellIn, Walked}
+use Rattle.isis_index.specs.Started.{Started}
+use Rattle.isis_index.specs.Settled.{withMaximum, settled, Settled}
 use Rattle.isis_index.specs.Indexed.{Holds}
 use Rattle.isis_index.proofs.Values.{grid-code, link-code, cell-right, cell-means}
 
@@ -145,3 +149,20 @@ module _ (row : List ℕ) (twelve : length row ≡ 12) where
   pub settled-third : (l : Bool) → getD (settled row l) 2 0 ≡ cond l (getD row 2 0) (first (getD row 5 0) (getD row 2 0))
   settled-third true = getD-set-other row 0 2 _ 0 (λ e. omega arith)
   settled-third false = getD-set-same one 2 _ 0 (omega (arith, sizes .1))
+
+-- ---- the table with the settled row
+
+pub settled-of : {a : List ℕ} {own begun walked table : List (List ℕ)} {l : Bool} → length walked ≡ length begun → Walked a own walked → (b : Bool) → b ≡ l → table ≡ set walked 2 (settled (getD walked 2 []) b) → Settled a own begun table l
+settled-of {a} {own} {begun} {walked} h w b e i = record { walked = walked; same = h; walk = w; settles = i ∙ ap (λ (x : Bool). set walked 2 (settled (getD walked 2 []) x)) e }
+
+pub settled-ready : {a : List ℕ} {named : Names} {own begun table : List (List ℕ)} {l : Bool} → Started named begun own → Settled a own begun table l
+    → Table a table × (1 < length table) × (inBoth (named .standard) (named .user) 0 ≡ true → IsSet table (slotAt own 7))
+unfolding turnedPlace
+settled-ready {a} {named} {own} {begun} {table} {l} y s = (
+  subst (Table a) (sym (s .settles)) (settled-table (s .walk .holds) (omega (arith, s .same, y .three)) l),
+  omega (arith, long, y .three),
+  λ e. let i = y .slots 0 (omega arith) e in record { inside = omega (arith, long, i .1); other = λ z. omega (arith, i .0) },
+)
+  where
+    long : length table ≡ length begun
+    long = ap length (s .settles) ∙ length-set (s .walked) 2 _ ∙ s .same

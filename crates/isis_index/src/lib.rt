@@ -13,7 +13,7 @@ ghost use Rattle.grids.specs.Slots.{cell, IsSet};
 ghost use Rattle.set_table.specs.Tables.{first, Table, Given, onlyAt, slotAt, inPair, Within, Owned, Gave};
 ghost use Rattle.isis_index.specs.Index.{owning, Right, Listed, attributeAt, Took, TookFor, Ready, fromLegacy, heardByAll, heard, takes, hereIn, Here, Ground, Owning, ReadAs, Gains, Empty, Walked};
 ghost use Rattle.isis_index.specs.Started.{Started};
-ghost use Rattle.isis_index.specs.Settled.{settled, fromOld, rsvpTeSlot};
+ghost use Rattle.isis_index.specs.Settled.{settled, Settled, fromOld, rsvpTeSlot};
 ghost use Rattle.isis_index.specs.Indexed.{Indexed};
 use kinds::Kind;
 use naming::Names;
@@ -303,7 +303,16 @@ fn give_old(standard: u64, user: u64, own: &mut [[u8; 2]; 128])
     set_table::give_slot(user, 64, 1, own);
 }
 
-// The walk of an accepted run A whose applications have their slots, and then the slot of every subject; the answer is that of RSVP-TE's set.
+// The whole of an accepted run A, for a table of empty rows, and then the link's bandwidths.
+fn walk_and_settle(a: &[u8], named: Names, sets: &mut [[u32; 12]], own: &[[u8; 2]; 128])
+    requires { ⌜ (faults runA checkA (elements 1 0 (now a)) ≡ accepted) × (length (now a) < 65536) × Ground (now own) (now sets) × Empty (now sets) × Owning (now own) ((sideA (now a)) .live) ⌝ }
+    ensures { λ _. ⌜ Settled (now (a .entry)) (now (own .entry)) (now (sets .entry)) (now (sets .exit)) (inBoth (named .lstandard) (named .luser) 0) ⌝ }
+{
+    walk(a, sets, own);
+    settle(sets, naming::is_named_with_l(named, 0));
+}
+
+// Run A, accepted, whose applications have their slots: the table of its sets, and the slot of every subject. The answer is the slot of RSVP-TE's set.
 pub fn index_a(
     a: &[u8],
     named: Names,
@@ -313,8 +322,7 @@ pub fn index_a(
     requires { ⌜ (faults runA checkA (elements 1 0 (now a)) ≡ accepted) × (length (now a) < 65536) × Tells ((sideA (now a)) .live) named × Started named (now sets) (now own) ⌝ }
     ensures { λ r. ⌜ Indexed (now (a .entry)) (now (sets .exit)) (now (own .exit)) r ⌝ }
 {
-    walk(a, sets, own);
-    settle(sets, naming::is_named_with_l(named, 0));
+    walk_and_settle(a, named, sets, own);
     let r = rsvp_te_slot(a, named, sets, own);
     give_old(named.lstandard, named.luser, own);
     r
