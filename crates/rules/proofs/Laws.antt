@@ -51,11 +51,11 @@ and-true true = refl
 and-true false = refl
 
 module _ (s : Side) (h : named 0 s ≡ false) where
-  none-naming : ofLive (names 0) s ≡ []
+  pub none-naming : ofLive (names 0) s ≡ []
   unfolding ofLive named each
   none-naming = ap (each (λ d. d .attributes)) (none-pass 0 (names 0) (λ d. true) (λ d. and-true (names 0 d)) (s .live) h)
 
-  none-alone : ofLive rsvpTeAlone s ≡ []
+  pub none-alone : ofLive rsvpTeAlone s ≡ []
   unfolding ofLive named each rsvpTeAlone
   none-alone = ap (each (λ d. d .attributes)) (none-pass 0 rsvpTeAlone (λ d. not (any (λ a. names a d) others)) (λ d. refl) (s .live) h)
 

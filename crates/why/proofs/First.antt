@@ -94,3 +94,7 @@ module _ (s : Standing) where
         go true i true e =
             first-held tied (λ d. p d && true)
             ∙ any-more both (λ d. p d && true) (λ d h. and-true (p d) ∙ and-l (p d) (has k (d .attributes)) h) (s .side .live) (sym (first-held tied both) ∙ both-held ∙ e)
+
+    pub holder-nowhere : isHeld (holder s k p) ≡ false → holder s k p ≡ nowhere
+    unfolding holder
+    holder-nowhere h = let n = sym holder-held ∙ h in rw n

@@ -5,7 +5,7 @@ use mathlib.Core.Bool.{Bool, true, false, cond, _&&_, _||_, not, false≢true}
 use mathlib.Core.List.{List, [], _∷_, _++_, List·Memᴰ, List·Memᴰ·head, List·Memᴰ·tail}
 use Prim.Native.Nat.{ℕ}
 use native.Mathlib.Omega.{arith}
-use borrow.Author.Tests.{eqb-true, eqb-false, ne-eqb}
+use borrow.Author.Tests.{eqb-true, ne-eqb}
 use lib.Dec.{eqb}
 use lib.ListN.{getD}
 use Rattle.linkstate.specs.Lists.{keep, any, each, empty, lookup}
@@ -25,10 +25,10 @@ use Rattle.isis_grids.specs.Selected.{selects}
 use Rattle.isis_grids.proofs.Grids.{All}
 use Rattle.isis_grids.proofs.Places.{Stands, First, absent, present, first-of, value-none, live-stands}
 use Rattle.isis_values.proofs.Laws.{none-wrong}
+use Rattle.isis_values.proofs.Checks.{a-passed}
 use Rattle.replies.specs.declared.Run.the-variants.{A}
 use Rattle.why.proofs.Has.{has-live}
 use Rattle.why.proofs.First.{Tied, holder-other}
-use Rattle.why.proofs.Rules.{link-ready-a}
 
 -- ---- the value
 
@@ -130,4 +130,4 @@ rsvp-te-agrees a b c k ok known s e = ap (λ (x : Bool). cond (namedWithL 0 s ||
     go true i = subst (λ (n : ℕ). empty (valueOf n (ofLive (names 0) s)) ≡ not (has n (ofLive (names 0) s))) (sym (eqb-true k 1096 i)) (same-b (ofLive (names 0) s))
     go false i =
         let q : sideA a ≡ s = sym (e ∙ rw i) in
-        same-a a k (ofLive (names 0) s) (subst (λ (r : Side). All (Stands a) (ofLive (names 0) r)) q (live-stands a (link-ready-a a b k known c ok (eqb-false k 1096 i) .0) (Naming 0))) known i
+        same-a a k (ofLive (names 0) s) (subst (λ (r : Side). All (Stands a) (ofLive (names 0) r)) q (live-stands a (a-passed a b c ok) (Naming 0))) known i
