@@ -5,16 +5,13 @@ ghost use mathlib.Core.List.{List};
 ghost use Prim.Native.Nat.{ℕ, _<_};
 ghost use lib.Dec.{ltb};
 ghost use lib.ListN.{length};
-ghost use Rattle.linkstate.specs.Replies.{_then_, runB};
+ghost use Rattle.linkstate.specs.Replies.{runB};
 ghost use Rattle.linkstate.specs.Elements.{elements, faults};
 ghost use Rattle.isis.specs.RunB.{checkB, sideB};
-ghost use Rattle.isis.specs.Link.{linkVerdict};
-ghost use Rattle.replies.specs.Told.{toldChecked};
 ghost use Rattle.naming.specs.Names.{Checks};
 ghost use Rattle.isis_check.specs.Sides.{ChecksLink};
 use naming::Checking;
 use naming::Names;
-use replies::Checked;
 use replies::Refusal;
 
 // Whether a run is longer than it may be, by the lengths of runs A, B and C.
@@ -28,16 +25,6 @@ fn too_long(a: usize, b: usize, c: usize) -> bool
         return true;
     }
     1024 < c
-}
-
-// The first refusal of two checks.
-fn first_refusal(x: Checked, y: Checked) -> Checked
-    ensures { λ r. ⌜ toldChecked r ≡ (toldChecked x then toldChecked y) ⌝ }
-{
-    match x {
-        Checked::Accepted => y,
-        Checked::Refused(r) => Checked::Refused(r),
-    }
 }
 
 // Whom the two sides of a link name.
@@ -63,7 +50,12 @@ fn check_side_b(b: &[u8]) -> Checking
     isis_check_b::check_b(b)
 }
 
-// The checks of a link, with whom its sides name: by the names the rule of any question is known before a value is looked for.
+// Checks a link before anything is read from it. `a` holds the sub-TLVs of its neighbour entry, `b` its TLVs 238, `c` its legacy SRLG values.
+// Takes any bytes, walks each run once, and keeps nothing.
+// Accepted, with whom its sides name: every question to the link and its export can be answered from these runs, and the rule of a question is known by the names
+// before a value is looked for.
+// Refused: the first fault by its number, 1 a run too long, 2 run C no multiple of 4 bytes, 3 an element, mask or list cut off, 4 a wrong length;
+// 1 and 2 name run A and offset 0, 3 and 4 the run and the first byte of the innermost element at fault.
 pub fn check_sides(a: &[u8], b: &[u8], c: &[u8]) -> LinkChecked
     ensures { λ r. ⌜ ChecksLink (now (a .entry)) (now (b .entry)) (now (c .entry)) r ⌝ }
 {
@@ -80,23 +72,4 @@ pub fn check_sides(a: &[u8], b: &[u8], c: &[u8]) -> LinkChecked
             Checking::Accepted(y) => return LinkChecked::Accepted(Sides { a: x, b: y }),
         },
     }
-}
-
-// Checks a link before anything is read from it. `a` holds the sub-TLVs of its neighbour entry, `b` its TLVs 238, `c` its legacy SRLG values.
-// Takes any bytes, walks each run once, and keeps nothing.
-// Accepted: every question to the link and its export can be answered from these runs.
-// Refused: the first fault by its number, 1 a run too long, 2 run C no multiple of 4 bytes, 3 an element, mask or list cut off, 4 a wrong length;
-// 1 and 2 name run A and offset 0, 3 and 4 the run and the first byte of the innermost element at fault.
-pub fn check_link(a: &[u8], b: &[u8], c: &[u8]) -> Checked
-    ensures { λ r. ⌜ toldChecked r ≡ linkVerdict (now (a .entry)) (now (b .entry)) (now (c .entry)) ⌝ }
-{
-    if too_long(a.len(), b.len(), c.len()) {
-        return Checked::Refused(replies::refuse_call(1));
-    }
-    if c.len() % 4 != 0 {
-        return Checked::Refused(replies::refuse_call(2));
-    }
-    let of_a = naming::verdict_alone(isis_check_a::check_a(a));
-    let of_b = naming::verdict_alone(isis_check_b::check_b(b));
-    first_refusal(of_a, of_b)
 }

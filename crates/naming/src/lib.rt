@@ -4,10 +4,9 @@ ghost use mathlib.Core.List.{List, []};
 ghost use Prim.Native.Nat.{_<_};
 ghost use Rattle.linkstate.specs.Replies.{fault};
 ghost use Rattle.linkstate.specs.Sides.{Advertisement};
-ghost use Rattle.replies.specs.Told.{toldRun, toldChecked};
-ghost use Rattle.naming.specs.Names.{inBoth, toldChecking, Tells, Joins, Checks, ChecksBehind};
+ghost use Rattle.replies.specs.Told.{toldRun};
+ghost use Rattle.naming.specs.Names.{inBoth, Tells, Joins, Checks, ChecksBehind};
 ghost use Rattle.naming.specs.declared.Names.{Names};
-use replies::Checked;
 use replies::Refusal;
 use replies::Run;
 
@@ -85,14 +84,4 @@ pub fn refuse(number: u8, run: Run, at: usize) -> Checking
     ensures { λ r. ⌜ ((m : Names) (ds : List Advertisement) → ChecksBehind m (fault number (toldRun run) at) ds r) ⌝ }
 {
     Checking::Refused(replies::refuse_at(number, run, at))
-}
-
-// The answer of checks without the names.
-pub fn verdict_alone(c: Checking) -> Checked
-    ensures { λ r. ⌜ toldChecked r ≡ toldChecking c ⌝ }
-{
-    match c {
-        Checking::Refused(r) => Checked::Refused(r),
-        Checking::Accepted(_) => Checked::Accepted,
-    }
 }
