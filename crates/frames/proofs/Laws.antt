@@ -10,7 +10,7 @@ use lib.Dec.{leb}
 use lib.ListN.{length, take, drop, getD}
 use Rattle.linkstate.specs.Bytes.{bytesAt}
 use Rattle.linkstate.specs.Replies.{Run, Verdict, accepted, refused, Refusal, fault}
-use Rattle.linkstate.specs.Elements.{Element, element, cut, faults}
+use Rattle.linkstate.specs.Elements.{element, cut, elements, faults}
 use Rattle.linkstate.proofs.WalkLaws.{left, typeAt, lengthAt, type-one, left-end, left-cut, left-whole, faults-end, faults-cut, faults-pass, faults-stop}
 use Rattle.octets.proofs.Laws.{length-bytesAt, part-is}
 use Rattle.frames.specs.declared.Frame.{Frame}
@@ -63,11 +63,18 @@ module _ (w : ℕ) (s : List ℕ) (at : ℕ) where
 pub type-byte : (s : List ℕ) (at t n : ℕ) → IsWhole 1 s at t n → getD s at 0 ≡ t
 type-byte s at t n f = sym (type-one s at) ∙ f .type
 
+-- The value has as many bytes as its length says.
+pub value-length : (w : ℕ) (s : List ℕ) (at t n : ℕ) → IsWhole w s at t n → length (bytesAt s (at + (w + w)) n) ≡ n
+value-length w s at t n f = length-bytesAt s (at + (w + w)) n (f .within)
+
 -- The part of the code's slice from p to p + n.
 pub part-length : (s : List ℕ) (p n : ℕ) → p + n ≤ length s → length (take (p + n - p) (drop p s)) ≡ n
 part-length s p n h = ap length (part-is s p n) ∙ length-bytesAt s p n h
 
 -- ---- what is left
+
+pub from-start : (w base : ℕ) (s : List ℕ) → left w base s 0 ≡ elements w base s
+from-start w base s = let z : base + 0 ≡ base = omega arith in ap (λ (i : ℕ). elements w i s) z
 
 module _ (w : ℕ) (p : 0 < w) (base : ℕ) (s : List ℕ) (at : ℕ) where
   pub none-left : frameIn w s at ≡ End → left w base s at ≡ []
