@@ -5,6 +5,7 @@ use mathlib.Core.Bool.{Bool, true, false, cond}
 use mathlib.Core.List.{List, [], _∷_}
 use Prim.Native.Nat.{ℕ, _+_, _-_, _≤_, _<_}
 use native.Mathlib.Omega.{arith}
+use native.Mathlib.Nat.{zero-add}
 use borrow.Author.Tests.{le-leb, lt-leb, leb-true, leb-false}
 use lib.Dec.{leb}
 use lib.ListN.{length, take, drop, getD}
@@ -59,9 +60,9 @@ module _ (w : ℕ) (s : List ℕ) (at : ℕ) where
   pub is-whole : (t n : ℕ) → frameIn w s at ≡ Whole t n → IsWhole w s at t n
   is-whole t n e = frame-says (Whole t n) e
 
--- a type of one byte
-pub type-byte : (s : List ℕ) (at t n : ℕ) → IsWhole 1 s at t n → getD s at 0 ≡ t
-type-byte s at t n f = sym (type-one s at) ∙ f .type
+-- Where a type has one byte, it is the byte at the position.
+pub is-whole-one : (s : List ℕ) (at t n : ℕ) → frameIn 1 s at ≡ Whole t n → IsWhole 1 s at (getD s at 0) n
+is-whole-one s at t n e = let f = is-whole 1 s at t n e in record { type = type-one s at; size = f .size; within = f .within }
 
 -- The value has as many bytes as its length says.
 pub value-length : (w : ℕ) (s : List ℕ) (at t n : ℕ) → IsWhole w s at t n → length (bytesAt s (at + (w + w)) n) ≡ n
@@ -75,6 +76,10 @@ part-length s p n h = ap length (part-is s p n) ∙ length-bytesAt s p n h
 
 pub from-start : (w base : ℕ) (s : List ℕ) → left w base s 0 ≡ elements w base s
 from-start w base s = let z : base + 0 ≡ base = omega arith in ap (λ (i : ℕ). elements w i s) z
+
+-- A list that begins at a place of s and ends with it: its places are those of s.
+pub from-place : (w : ℕ) (s : List ℕ) (at : ℕ) → left w 0 s at ≡ elements w at (drop at s)
+from-place w s at = ap (λ (i : ℕ). elements w i (drop at s)) (zero-add at)
 
 module _ (w : ℕ) (p : 0 < w) (base : ℕ) (s : List ℕ) (at : ℕ) where
   pub none-left : frameIn w s at ≡ End → left w base s at ≡ []

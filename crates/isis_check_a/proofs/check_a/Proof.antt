@@ -1,108 +1,114 @@
--- The invariant: what is left decides, and with whom was met names whom the run names.
-use mathlib.Core.Path.{_≡_, sym, _∙_}
-use Prim.Native.Nat.{_≤_, _+_, _-_}
-use native.Mathlib.Omega.{arith}
-use lib.ListN.{length}
-use borrow.Author.Needs.{needs}
-use Rattle.linkstate.specs.Replies.{runA}
-use Rattle.naming.proofs.Laws.{checks-as}
-use Rattle.isis.specs.RunA.{checkA, aslaAdvertisements, sideA}
-use Rattle.isis_check_a.proofs.Naming.{Walked, walked-start, walked-cut, walked-end, walked-on, walked-refused, asla-checks, legacy-wrong, legacy-over}
 use Rattle.isis_check_a.proofs.check_a.Statement.{statement}
 use Rattle.isis_check_a.proofs.check_a.Tie as tie
+use Rattle.isis_check_a.proofs.check_a.Reads as reads
+use Rattle.isis_check_a.proofs.check_a.Lts as lts
+use Rattle.frames.proofs.frame_one.Reads as frame-one-reads
+use Rattle.isis_check_a.proofs.check_asla.Reads as check-asla-reads
+use Rattle.isis_check_a.proofs.wrong_length.Reads as wrong-length-reads
+use Rattle.naming.proofs.nobody.Reads as nobody-reads
+use Rattle.naming.proofs.refuse.Reads as refuse-reads
 
 abbrev Inv-loop : tie.InvT-loop
-Inv-loop a names₀ at₀ names at = (at ≤ length a) × Walked runA checkA aslaAdvertisements a at names
+Inv-loop a names₀ at₀ names at = ?
 
 abbrev μ-loop : tie.MeasureT-loop
-μ-loop a names₀ at₀ names at = length a - at
+μ-loop a names₀ at₀ names at = ?
 
+-- src/lib.rt:199:9
 nobody-requires : tie.Need-nobody-requires Inv-loop μ-loop
-nobody-requires c κs = search needs
+nobody-requires c κs = ?
 
+-- src/lib.rt:201:5
 loop-holds : tie.Need-loop-holds Inv-loop μ-loop
-loop-holds c = (omega arith, walked-start runA checkA aslaAdvertisements _ _ (c .nobody .ensures))
+loop-holds c = ?
 
-add-loop : tie.Need-add-loop Inv-loop μ-loop
-add-loop c = search needs
+-- src/lib.rt:202:15
+frame-one-requires : tie.Need-frame-one-requires Inv-loop μ-loop
+frame-one-requires c κs = ?
 
-add-n : tie.Need-add-n Inv-loop μ-loop
-add-n c = search needs
+-- src/lib.rt:203:27
+enum-told : tie.Need-enum-told Inv-loop μ-loop
+enum-told c = ?
 
-shared-slice-read-n : tie.Need-shared-slice-read-n Inv-loop μ-loop
-shared-slice-read-n c = omega arith
-
-cast-n : tie.Need-cast-n Inv-loop μ-loop
-cast-n c = omega (arith, c .shared-slice-known2 .given (c .before .before .loop .at + 1))
-
-add-next : tie.Need-add-next Inv-loop μ-loop
-add-next c = search needs
-
-add-next-2 : tie.Need-add-next-2 Inv-loop μ-loop
-add-next-2 c = omega (arith, c .shared-slice-known2 .given (c .before .before .loop .at + 1))
-
-refuse-requires : tie.Need-refuse-requires Inv-loop μ-loop
-refuse-requires c κs = search needs
-
+-- src/lib.rt:203:27
 returns : tie.Need-returns Inv-loop μ-loop
-unfolding sideA
-returns c = let l = c .before .before .before .before in checks-as (walked-cut runA checkA aslaAdvertisements _ (l .loop .at) _ (l .loop .inv .1) (omega arith) (omega arith)) (c .refuse .ensures .0 _)
+returns c = ?
 
-shared-slice-read-if2 : tie.Need-shared-slice-read-if2 Inv-loop μ-loop
-shared-slice-read-if2 c = omega arith
+-- src/lib.rt:204:52
+enum-told-2 : tie.Need-enum-told-2 Inv-loop μ-loop
+enum-told-2 c = ?
 
-check-asla-requires : tie.Need-check-asla-requires Inv-loop μ-loop
-check-asla-requires c κs = (omega arith, omega arith, c .before .before .before .before .before .before .before .before .pre)
+-- src/lib.rt:204:27
+refuse-requires : tie.Need-refuse-requires Inv-loop μ-loop
+refuse-requires c κs = ?
 
-enum-known-r : tie.Need-enum-known-r Inv-loop μ-loop
-enum-known-r c = search needs
-
+-- src/lib.rt:204:27
 returns-2 : tie.Need-returns-2 Inv-loop μ-loop
-unfolding sideA
-returns-2 c = let l = c .before .before .before .before .before .before .before .before .before in
-    walked-refused runA checkA aslaAdvertisements _ (l .loop .at) _ (l .loop .inv .1) (omega arith) _ (asla-checks _ _ _ _ _ (omega arith) (c .before .before .before .check-asla .ensures)) _ (c .before .r .given .1)
+returns-2 c = ?
 
-enum-known-all : tie.Need-enum-known-all Inv-loop μ-loop
-enum-known-all c = search needs
+-- src/lib.rt:205:37
+enum-known-len : tie.Need-enum-known-len Inv-loop μ-loop
+enum-known-len c = ?
 
-shared-slice-read-wrong-length : tie.Need-shared-slice-read-wrong-length Inv-loop μ-loop
-shared-slice-read-wrong-length c = omega arith
+-- src/lib.rt:206:28
+add-next : tie.Need-add-next Inv-loop μ-loop
+add-next c = ?
 
-wrong-length-requires : tie.Need-wrong-length-requires Inv-loop μ-loop
-wrong-length-requires c κs = search needs
+-- src/lib.rt:206:28
+add-next-2 : tie.Need-add-next-2 Inv-loop μ-loop
+add-next-2 c = ?
 
-refuse-requires-2 : tie.Need-refuse-requires-2 Inv-loop μ-loop
-refuse-requires-2 c κs = search needs
+-- src/lib.rt:207:20
+shared-slice-read-if1 : tie.Need-shared-slice-read-if1 Inv-loop μ-loop
+shared-slice-read-if1 c = ?
 
+-- src/lib.rt:208:27
+check-asla-requires : tie.Need-check-asla-requires Inv-loop μ-loop
+check-asla-requires c κs = ?
+
+-- src/lib.rt:209:43
+enum-known-r : tie.Need-enum-known-r Inv-loop μ-loop
+enum-known-r c = ?
+
+-- src/lib.rt:209:49
 returns-3 : tie.Need-returns-3 Inv-loop μ-loop
-unfolding sideA
-returns-3 c = let l = c .before .before .before .before .before .before .before .before .before in
-    checks-as (legacy-wrong _ (l .loop .at) _ (l .loop .inv .1) (omega arith) (λ e. omega (arith, e)) (sym (c .before .before .wrong-length .ensures) ∙ c .before .if3 .taken)) (c .refuse2 .ensures .0 _)
+returns-3 c = ?
 
-loop-less : tie.Need-loop-less Inv-loop μ-loop
-loop-less c = omega arith
+-- src/lib.rt:210:44
+enum-known-all : tie.Need-enum-known-all Inv-loop μ-loop
+enum-known-all c = ?
 
-loop-again : tie.Need-loop-again Inv-loop μ-loop
-loop-again c = let l = c .before .before .before .before .before .before .before .before .before in
-    (omega arith, walked-on runA checkA aslaAdvertisements _ (l .loop .at) _ (l .loop .inv .1) (omega arith) _ (asla-checks _ _ _ _ _ (omega arith) (c .before .before .before .check-asla .ensures)) _ (c .before .all .given .1))
+-- src/lib.rt:215:37
+shared-slice-read-wrong-length : tie.Need-shared-slice-read-wrong-length Inv-loop μ-loop
+shared-slice-read-wrong-length c = ?
 
-loop-less-2 : tie.Need-loop-less-2 Inv-loop μ-loop
-loop-less-2 c = omega arith
+-- src/lib.rt:215:24
+wrong-length-requires : tie.Need-wrong-length-requires Inv-loop μ-loop
+wrong-length-requires c κs = ?
 
-loop-again-2 : tie.Need-loop-again-2 Inv-loop μ-loop
-loop-again-2 c = let l = c .before .before .before .before .before .before .before .before in
-    (omega arith, legacy-over _ (l .loop .at) _ (l .loop .inv .1) (omega arith) (λ e. omega (arith, e)) (sym (c .before .wrong-length .ensures) ∙ c .if3 .left))
+-- src/lib.rt:216:25
+refuse-requires-2 : tie.Need-refuse-requires-2 Inv-loop μ-loop
+refuse-requires-2 c κs = ?
 
-refuse-requires-3 : tie.Need-refuse-requires-3 Inv-loop μ-loop
-refuse-requires-3 c κs = search needs
-
+-- src/lib.rt:216:25
 returns-4 : tie.Need-returns-4 Inv-loop μ-loop
-unfolding sideA
-returns-4 c = let l = c .before .before .before in checks-as (walked-cut runA checkA aslaAdvertisements _ (l .loop .at) _ (l .loop .inv .1) (omega arith) (omega arith)) (c .refuse3 .ensures .0 _)
+returns-4 c = ?
 
-returns-5 : tie.Need-returns-5 Inv-loop μ-loop
-unfolding sideA
-returns-5 c = let l = c .before .before in walked-end runA checkA aslaAdvertisements _ (l .loop .at) _ (l .loop .inv .1) (omega arith)
+-- src/lib.rt:201:5
+loop-less : tie.Need-loop-less Inv-loop μ-loop
+loop-less c = ?
+
+-- src/lib.rt:201:5
+loop-again : tie.Need-loop-again Inv-loop μ-loop
+loop-again c = ?
+
+-- src/lib.rt:201:5
+loop-less-2 : tie.Need-loop-less-2 Inv-loop μ-loop
+loop-less-2 c = ?
+
+-- src/lib.rt:201:5
+loop-again-2 : tie.Need-loop-again-2 Inv-loop μ-loop
+loop-again-2 c = ?
 
 pub check-a-spec : {M : Type 1} → statement M
 check-a-spec =
@@ -112,27 +118,25 @@ check-a-spec =
     μ-loop
     nobody-requires
     loop-holds
-    add-loop
-    add-n
-    shared-slice-read-n
-    cast-n
+    frame-one-requires
+    enum-told
+    returns
+    enum-told-2
+    refuse-requires
+    returns-2
+    enum-known-len
     add-next
     add-next-2
-    refuse-requires
-    returns
-    shared-slice-read-if2
+    shared-slice-read-if1
     check-asla-requires
     enum-known-r
-    returns-2
+    returns-3
     enum-known-all
     shared-slice-read-wrong-length
     wrong-length-requires
     refuse-requires-2
-    returns-3
+    returns-4
     loop-less
     loop-again
     loop-less-2
-    loop-again-2
-    refuse-requires-3
-    returns-4
-    returns-5)
+    loop-again-2)

@@ -1,81 +1,80 @@
--- The invariant: what is left decides.
-use mathlib.Core.Path.{_≡_, refl, sym, _∙_}
-use Prim.Native.Nat.{_≤_, _+_, _-_}
-use native.Mathlib.Omega.{arith}
-use borrow.Author.Needs.{needs}
-use lib.ListN.{length, take, drop}
-use denote.Ref.{now}
-use Rattle.linkstate.specs.Elements.{elements, faults}
-use Rattle.linkstate.specs.Replies.{runA}
-use Rattle.isis.specs.RunA.{checkAttribute}
-use Rattle.isis_check_a.proofs.Laws.{leftIn, in-start, in-end, in-short, in-cut, list-on, list-wrong}
 use Rattle.isis_check_a.proofs.check_list.Statement.{statement}
 use Rattle.isis_check_a.proofs.check_list.Tie as tie
+use Rattle.isis_check_a.proofs.check_list.Reads as reads
+use Rattle.isis_check_a.proofs.check_list.Lts as lts
+use Rattle.frames.proofs.frame_one.Reads as frame-one-reads
+use Rattle.isis_check_a.proofs.refused.Reads as refused-reads
+use Rattle.isis_check_a.proofs.wrong_length.Reads as wrong-length-reads
 
 abbrev Inv-loop : tie.InvT-loop
-Inv-loop a from end at₀ at = (from ≤ at) × (at ≤ end) × (leftIn runA checkAttribute a end at ≡ faults runA checkAttribute (elements 1 from (drop from (take end a))))
+Inv-loop s from at₀ at = ?
 
 abbrev μ-loop : tie.MeasureT-loop
-μ-loop a from end at₀ at = end - at
+μ-loop s from at₀ at = ?
 
+-- src/lib.rt:126:5
 loop-holds : tie.Need-loop-holds Inv-loop μ-loop
-loop-holds c = (omega arith, c .before .pre .0, in-start runA checkAttribute _ _ (c .before .pre .1) _)
+loop-holds c = ?
 
-add-loop : tie.Need-add-loop Inv-loop μ-loop
-add-loop c = search needs
+-- src/lib.rt:127:15
+frame-one-requires : tie.Need-frame-one-requires Inv-loop μ-loop
+frame-one-requires c κs = ?
 
-add-n : tie.Need-add-n Inv-loop μ-loop
-add-n c = search needs
+-- src/lib.rt:128:27
+enum-told : tie.Need-enum-told Inv-loop μ-loop
+enum-told c = ?
 
-shared-slice-read-n : tie.Need-shared-slice-read-n Inv-loop μ-loop
-shared-slice-read-n c = omega arith
-
-cast-n : tie.Need-cast-n Inv-loop μ-loop
-cast-n c = omega (arith, c .shared-slice-known2 .given (c .before .before .loop .at + 1))
-
-add-next : tie.Need-add-next Inv-loop μ-loop
-add-next c = search needs
-
-add-next-2 : tie.Need-add-next-2 Inv-loop μ-loop
-add-next-2 c = omega (arith, c .shared-slice-known2 .given (c .before .before .loop .at + 1))
-
-refused-requires : tie.Need-refused-requires Inv-loop μ-loop
-refused-requires c κs = search needs
-
+-- src/lib.rt:128:27
 returns : tie.Need-returns Inv-loop μ-loop
-returns c = let l = c .before .before .before .before in
-    c .refused .ensures ∙ in-cut runA checkAttribute _ _ (l .before .before .pre .1) (l .loop .at) (c .before .before .before .loop-test .taken) (omega arith) ∙ l .loop .inv .2
+returns c = ?
 
-shared-slice-read-wrong-length : tie.Need-shared-slice-read-wrong-length Inv-loop μ-loop
-shared-slice-read-wrong-length c = omega arith
+-- src/lib.rt:129:45
+enum-told-2 : tie.Need-enum-told-2 Inv-loop μ-loop
+enum-told-2 c = ?
 
-wrong-length-requires : tie.Need-wrong-length-requires Inv-loop μ-loop
-wrong-length-requires c κs = search needs
+-- src/lib.rt:129:27
+refused-requires : tie.Need-refused-requires Inv-loop μ-loop
+refused-requires c κs = ?
 
-refused-requires-2 : tie.Need-refused-requires-2 Inv-loop μ-loop
-refused-requires-2 c κs = search needs
-
+-- src/lib.rt:129:27
 returns-2 : tie.Need-returns-2 Inv-loop μ-loop
-returns-2 c = let l = c .before .before .before .before .before .before .before in
-    c .refused2 .ensures
-    ∙ list-wrong _ _ (l .before .before .pre .1) (l .loop .at) (omega arith) (sym (c .before .before .wrong-length .ensures) ∙ c .before .if2 .taken) ∙ l .loop .inv .2
+returns-2 c = ?
 
-loop-less : tie.Need-loop-less Inv-loop μ-loop
-loop-less c = omega arith
+-- src/lib.rt:130:37
+enum-known-len : tie.Need-enum-known-len Inv-loop μ-loop
+enum-known-len c = ?
 
-loop-again : tie.Need-loop-again Inv-loop μ-loop
-loop-again c = let l = c .before .before .before .before .before .before in
-    (omega arith, omega arith, list-on _ _ (l .before .before .pre .1) (l .loop .at) (omega arith) (sym (c .before .wrong-length .ensures) ∙ c .if2 .left) ∙ l .loop .inv .2)
+-- src/lib.rt:131:33
+shared-slice-read-wrong-length : tie.Need-shared-slice-read-wrong-length Inv-loop μ-loop
+shared-slice-read-wrong-length c = ?
 
-refused-requires-3 : tie.Need-refused-requires-3 Inv-loop μ-loop
-refused-requires-3 c κs = search needs
+-- src/lib.rt:131:20
+wrong-length-requires : tie.Need-wrong-length-requires Inv-loop μ-loop
+wrong-length-requires c κs = ?
 
+-- src/lib.rt:132:21
+refused-requires-2 : tie.Need-refused-requires-2 Inv-loop μ-loop
+refused-requires-2 c κs = ?
+
+-- src/lib.rt:132:21
 returns-3 : tie.Need-returns-3 Inv-loop μ-loop
-returns-3 c = let l = c .before .before .before in
-    c .refused3 .ensures ∙ in-short runA checkAttribute _ _ (l .before .before .pre .1) (l .loop .at) (omega arith) (omega arith) ∙ l .loop .inv .2
+returns-3 c = ?
 
-returns-4 : tie.Need-returns-4 Inv-loop μ-loop
-returns-4 c = let l = c .before .before in in-end runA checkAttribute _ _ (l .before .before .pre .1) (l .loop .at) (omega arith) ∙ l .loop .inv .2
+-- src/lib.rt:134:22
+add-at : tie.Need-add-at Inv-loop μ-loop
+add-at c = ?
+
+-- src/lib.rt:134:22
+add-at-2 : tie.Need-add-at-2 Inv-loop μ-loop
+add-at-2 c = ?
+
+-- src/lib.rt:126:5
+loop-less : tie.Need-loop-less Inv-loop μ-loop
+loop-less c = ?
+
+-- src/lib.rt:126:5
+loop-again : tie.Need-loop-again Inv-loop μ-loop
+loop-again c = ?
 
 pub check-list-spec : {M : Type 1} → statement M
 check-list-spec =
@@ -84,20 +83,18 @@ check-list-spec =
     Inv-loop
     μ-loop
     loop-holds
-    add-loop
-    add-n
-    shared-slice-read-n
-    cast-n
-    add-next
-    add-next-2
-    refused-requires
+    frame-one-requires
+    enum-told
     returns
+    enum-told-2
+    refused-requires
+    returns-2
+    enum-known-len
     shared-slice-read-wrong-length
     wrong-length-requires
     refused-requires-2
-    returns-2
-    loop-less
-    loop-again
-    refused-requires-3
     returns-3
-    returns-4)
+    add-at
+    add-at-2
+    loop-less
+    loop-again)
