@@ -114,6 +114,9 @@ module _ (s : List ℕ) (end : ℕ) (fits : end ≤ length s) where
   pub front-is : take (end - 0) s ≡ take end s
   front-is = let z : end - 0 ≡ end = omega arith in ap (λ (i : ℕ). take i s) z
 
+  pub lent-length : length (take (end - 0) s) ≡ end
+  lent-length = ap length front-is ∙ front-length
+
   module _ (at : ℕ) (h : at ≤ end) where
     pub part-in : take (end - at) (drop at s) ≡ drop at (take end s)
     part-in = let e : at + (end - at) ≡ end = omega arith in sym (ap (λ (i : ℕ). drop at (take i s)) (sym e) ∙ drop-take at (end - at) s)

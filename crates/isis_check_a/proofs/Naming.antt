@@ -38,7 +38,7 @@ use Rattle.isis_check_a.specs.declared.Masks.{Masks}
 use Rattle.isis_check_a.specs.declared.Masks.the-variants.{Ignored, Past, End}
 use Rattle.isis_check_a.specs.Headers.{headerOf, tooLong, masksIn, advertisedAt, valueIn}
 use Rattle.isis_check_a.proofs.Laws.{attribute-fits, attribute-wrong}
-use Rattle.isis_check_a.proofs.Laws.{sub-tlv-asla, sub-tlv-other, header-l, header-too-long, header-bytes, drop-take, part-in, part-of-part, part-in-length}
+use Rattle.isis_check_a.proofs.Laws.{sub-tlv-asla, sub-tlv-other, header-l, header-too-long, header-bytes, drop-take, front-is, part-in, part-of-part, part-in-length}
 use Rattle.isis_check_a.proofs.Laws.{Ends, masks-say, asla-ignored, asla-past, asla-l, asla-list}
 
 -- ---- the masks behind a header that stands at a place
@@ -192,10 +192,12 @@ module _ (a : List ℕ) (at end : ℕ) (fits : end ≤ length a) (two : at + 2 +
             names = names-in;
           }
 
-      module _ (l : h .l ≡ false) (c : Checked) (told : toldChecked c ≡ faults runA checkAttribute (elements 1 (at + 2 + list) (drop (at + 2 + list) (take end a)))) where
+      -- the list stands at the end of the run's front, which is lent
+      module _ (l : h .l ≡ false) (c : Checked) (told : toldChecked c ≡ faults runA checkAttribute (elements 1 (at + 2 + list) (drop (at + 2 + list) (take (end - 0) a)))) where
         list-told : toldChecked c ≡ checkAsla at asla
         list-told =
-            told ∙ ap (λ (s : List ℕ). faults runA checkAttribute (elements 1 (at + 2 + list) s)) (sym (drop-drop list (at + 2) (take end a)))
+            told
+            ∙ ap (λ (s : List ℕ). faults runA checkAttribute (elements 1 (at + 2 + list) s)) (ap (drop (at + 2 + list)) (front-is a end fits) ∙ sym (drop-drop list (at + 2) (take end a)))
             ∙ asla-list at asla (omega (arith, asla-length)) short-in list list-is (omega (arith, asla-length, list-in)) (sym (header-l h asla header-in) ∙ l)
 
         pub listed-in : c ≡ Check.Accepted → Answers m (Accepted r)

@@ -1,114 +1,119 @@
+-- The invariant: what is left decides, and with whom was met names whom the run names.
+use mathlib.Core.Path.{_≡_, sym, _∙_}
+use Prim.Native.Nat.{_≤_, _+_, _-_}
+use native.Mathlib.Omega.{arith}
+use lib.ListN.{length, getD}
+use denote.Ref.{now}
+use borrow.Author.Needs.{needs}
+use Rattle.linkstate.specs.Replies.{runA}
+use Rattle.naming.proofs.Laws.{checks-as}
+use Rattle.frames.proofs.Laws.{IsWhole, is-whole-one}
+use Rattle.isis.specs.RunA.{checkA, aslaAdvertisements, sideA}
+use Rattle.isis_check_a.proofs.Naming.{Walked, walked-start, walked-cut, walked-end, walked-on, walked-refused, asla-checks, legacy-wrong, legacy-over}
 use Rattle.isis_check_a.proofs.check_a.Statement.{statement}
 use Rattle.isis_check_a.proofs.check_a.Tie as tie
-use Rattle.isis_check_a.proofs.check_a.Reads as reads
-use Rattle.isis_check_a.proofs.check_a.Lts as lts
-use Rattle.frames.proofs.frame_one.Reads as frame-one-reads
-use Rattle.isis_check_a.proofs.check_asla.Reads as check-asla-reads
-use Rattle.isis_check_a.proofs.wrong_length.Reads as wrong-length-reads
-use Rattle.naming.proofs.nobody.Reads as nobody-reads
-use Rattle.naming.proofs.refuse.Reads as refuse-reads
 
 abbrev Inv-loop : tie.InvT-loop
-Inv-loop a names₀ at₀ names at = ?
+Inv-loop a names₀ at₀ names at = (at ≤ length a) × Walked runA checkA aslaAdvertisements a at names
 
 abbrev μ-loop : tie.MeasureT-loop
-μ-loop a names₀ at₀ names at = ?
+μ-loop a names₀ at₀ names at = length a - at
 
--- src/lib.rt:199:9
 nobody-requires : tie.Need-nobody-requires Inv-loop μ-loop
-nobody-requires c κs = ?
+nobody-requires c κs = search needs
 
--- src/lib.rt:201:5
 loop-holds : tie.Need-loop-holds Inv-loop μ-loop
-loop-holds c = ?
+loop-holds c = (omega arith, walked-start runA checkA aslaAdvertisements _ _ (c .nobody .ensures))
 
--- src/lib.rt:202:15
 frame-one-requires : tie.Need-frame-one-requires Inv-loop μ-loop
-frame-one-requires c κs = ?
+frame-one-requires c κs = search needs
 
--- src/lib.rt:203:27
 enum-told : tie.Need-enum-told Inv-loop μ-loop
-enum-told c = ?
+enum-told c = search needs
 
--- src/lib.rt:203:27
 returns : tie.Need-returns Inv-loop μ-loop
-returns c = ?
+unfolding sideA
+returns c = let l = c .before .before .before in
+    walked-end runA checkA aslaAdvertisements _ _ _ (l .loop .inv .1) (sym (c .before .before .frame-one .ensures) ∙ c .enum-told .given .1)
 
--- src/lib.rt:204:52
 enum-told-2 : tie.Need-enum-told-2 Inv-loop μ-loop
-enum-told-2 c = ?
+enum-told-2 c = search needs
 
--- src/lib.rt:204:27
 refuse-requires : tie.Need-refuse-requires Inv-loop μ-loop
-refuse-requires c κs = ?
+refuse-requires c κs = search needs
 
--- src/lib.rt:204:27
 returns-2 : tie.Need-returns-2 Inv-loop μ-loop
-returns-2 c = ?
+unfolding sideA
+returns-2 c = let l = c .before .before .before .before in
+    checks-as (walked-cut runA checkA aslaAdvertisements _ _ _ (l .loop .inv .1) (sym (c .before .before .before .frame-one .ensures) ∙ c .before .enum-told2 .given .1)) (c .refuse .ensures .0 _)
 
--- src/lib.rt:205:37
 enum-known-len : tie.Need-enum-known-len Inv-loop μ-loop
-enum-known-len c = ?
+enum-known-len c = search needs
 
--- src/lib.rt:206:28
+-- the element is whole
+whole : (k : tie.After-known-told Inv-loop μ-loop) → let l = k .before .before .before .before in
+    let a = now (l .before .before .before .args .a) in IsWhole 1 a (l .loop .at) (getD a (l .loop .at) 0) (k .before .len .given .0 .1 .0)
+whole k = is-whole-one _ _ _ _ (sym (k .before .before .before .frame-one .ensures) ∙ k .before .len .given .1)
+
 add-next : tie.Need-add-next Inv-loop μ-loop
-add-next c = ?
+add-next c = let f = whole c in omega arith
 
--- src/lib.rt:206:28
 add-next-2 : tie.Need-add-next-2 Inv-loop μ-loop
-add-next-2 c = ?
+add-next-2 c = let f = whole c in omega arith
 
--- src/lib.rt:207:20
 shared-slice-read-if1 : tie.Need-shared-slice-read-if1 Inv-loop μ-loop
-shared-slice-read-if1 c = ?
+shared-slice-read-if1 c = let f = whole (c .before) in omega arith
 
--- src/lib.rt:208:27
 check-asla-requires : tie.Need-check-asla-requires Inv-loop μ-loop
-check-asla-requires c κs = ?
+check-asla-requires c κs = let k = c .before .before in
+    let f = whole k in (omega arith, omega arith, k .before .before .before .before .before .before .before .pre)
 
--- src/lib.rt:209:43
 enum-known-r : tie.Need-enum-known-r Inv-loop μ-loop
-enum-known-r c = ?
+enum-known-r c = search needs
 
--- src/lib.rt:209:49
 returns-3 : tie.Need-returns-3 Inv-loop μ-loop
-returns-3 c = ?
+unfolding sideA
+returns-3 c = let k = c .before .before .before .before .before .before in
+    walked-refused runA checkA aslaAdvertisements _ _ _ (k .before .before .before .before .loop .inv .1) _ (whole k) _
+    (asla-checks _ _ _ _ _ (omega arith) (c .before .before .before .check-asla .ensures)) _ (c .before .r .given .1)
 
--- src/lib.rt:210:44
 enum-known-all : tie.Need-enum-known-all Inv-loop μ-loop
-enum-known-all c = ?
+enum-known-all c = search needs
 
--- src/lib.rt:215:37
 shared-slice-read-wrong-length : tie.Need-shared-slice-read-wrong-length Inv-loop μ-loop
-shared-slice-read-wrong-length c = ?
+shared-slice-read-wrong-length c = let f = whole (c .before .before .before) in omega arith
 
--- src/lib.rt:215:24
 wrong-length-requires : tie.Need-wrong-length-requires Inv-loop μ-loop
-wrong-length-requires c κs = ?
+wrong-length-requires c κs = search needs
 
--- src/lib.rt:216:25
 refuse-requires-2 : tie.Need-refuse-requires-2 Inv-loop μ-loop
-refuse-requires-2 c κs = ?
+refuse-requires-2 c κs = search needs
 
--- src/lib.rt:216:25
 returns-4 : tie.Need-returns-4 Inv-loop μ-loop
-returns-4 c = ?
+unfolding sideA
+returns-4 c = let k = c .before .before .before .before .before .before in
+    checks-as
+    (legacy-wrong _ _ _ (k .before .before .before .before .loop .inv .1) _ (whole k) (λ e. omega (arith, e)) (sym (c .before .before .wrong-length .ensures) ∙ c .before .if2 .taken))
+    (c .refuse2 .ensures .0 _)
 
--- src/lib.rt:201:5
 loop-less : tie.Need-loop-less Inv-loop μ-loop
-loop-less c = ?
+loop-less c = let f = whole (c .before .before .before .before .before .before) in omega arith
 
--- src/lib.rt:201:5
 loop-again : tie.Need-loop-again Inv-loop μ-loop
-loop-again c = ?
+loop-again c = let k = c .before .before .before .before .before .before in (
+      whole k .within,
+      walked-on runA checkA aslaAdvertisements _ _ _ (k .before .before .before .before .loop .inv .1) _ (whole k) _
+          (asla-checks _ _ _ _ _ (omega arith) (c .before .before .before .check-asla .ensures)) _ (c .before .all .given .1),
+    )
 
--- src/lib.rt:201:5
 loop-less-2 : tie.Need-loop-less-2 Inv-loop μ-loop
-loop-less-2 c = ?
+loop-less-2 c = let f = whole (c .before .before .before .before .before) in omega arith
 
--- src/lib.rt:201:5
 loop-again-2 : tie.Need-loop-again-2 Inv-loop μ-loop
-loop-again-2 c = ?
+loop-again-2 c = let k = c .before .before .before .before .before in (
+      whole k .within,
+      legacy-over _ _ _ (k .before .before .before .before .loop .inv .1) _ (whole k) (λ e. omega (arith, e)) (sym (c .before .wrong-length .ensures) ∙ c .if2 .left),
+    )
 
 pub check-a-spec : {M : Type 1} → statement M
 check-a-spec =
