@@ -82,8 +82,8 @@ pub from-place : (w : ℕ) (s : List ℕ) (at : ℕ) → left w 0 s at ≡ eleme
 from-place w s at = ap (λ (i : ℕ). elements w i (drop at s)) (zero-add at)
 
 module _ (w : ℕ) (p : 0 < w) (base : ℕ) (s : List ℕ) (at : ℕ) where
-  pub none-left : frameIn w s at ≡ End → left w base s at ≡ []
-  none-left e = left-end w p base s at (frame-says w s at End e)
+  pub end-left : frameIn w s at ≡ End → left w base s at ≡ []
+  end-left e = left-end w p base s at (frame-says w s at End e)
 
   pub cut-left : frameIn w s at ≡ Cut → left w base s at ≡ cut (base + at) ∷ []
   cut-left e = let h = frame-says w s at Cut e in left-cut w p base s at (h .0) (h .1)
