@@ -1,57 +1,72 @@
--- Whether there is one from a position on is whether there is one.
-use native.Mathlib.Omega.{arith}
-use denote.Ref.{now}
-use mathlib.Core.Path.{_≡_, refl, sym, _∙_}
-use Prim.Native.Nat.{_-_, _≤_}
-use lib.ListN.{length}
-use Rattle.linkstate.specs.Lists.{any}
-use Rattle.linkstate.specs.Elements.{elements}
-use Rattle.advertisements.specs.Frames.{widthOf}
-use Rattle.advertisements.specs.Tests.{isOf}
-use Rattle.advertisements.proofs.Frames.{some-width}
-use Rattle.advertisements.proofs.Walks.{some, some-none, some-here, some-later}
-use borrow.Author.Needs.{needs}
 use Rattle.advertisements.proofs.has_kind.Statement.{statement}
 use Rattle.advertisements.proofs.has_kind.Tie as tie
+use Rattle.advertisements.proofs.has_kind.Reads as reads
+use Rattle.advertisements.proofs.has_kind.Lts as lts
+use Rattle.advertisements.proofs.frame_of.Reads as frame-of-reads
+use Rattle.advertisements.proofs.header_of.Reads as header-of-reads
+use Rattle.advertisements.proofs.is_of.Reads as is-of-reads
 
 abbrev Inv-loop : tie.InvT-loop
-Inv-loop s run kind at₀ at = (at ≤ length s) × (some (isOf kind) (widthOf run) s at ≡ any (isOf kind) (elements (widthOf run) 0 s))
+Inv-loop s run kind head at₀ at = ?
 
 abbrev μ-loop : tie.MeasureT-loop
-μ-loop s run kind at₀ at = length s - at
+μ-loop s run kind head at₀ at = ?
 
+-- src/lib.rt:69:9
+header-of-requires : tie.Need-header-of-requires Inv-loop μ-loop
+header-of-requires c κs = ?
+
+-- src/lib.rt:71:5
 loop-holds : tie.Need-loop-holds Inv-loop μ-loop
-unfolding some
-loop-holds c = (omega arith, refl)
+loop-holds c = ?
 
-kind-at-requires : tie.Need-kind-at-requires Inv-loop μ-loop
-kind-at-requires c κs = search needs
+-- src/lib.rt:72:15
+frame-of-requires : tie.Need-frame-of-requires Inv-loop μ-loop
+frame-of-requires c κs = ?
 
+-- src/lib.rt:73:27
+enum-told : tie.Need-enum-told Inv-loop μ-loop
+enum-told c = ?
+
+-- src/lib.rt:73:27
 returns : tie.Need-returns Inv-loop μ-loop
-returns c =
-    let a = c .before .before .before .before .before .args in
-    let l = c .before .before .before .loop in
-    some-here (a .run) (isOf (a .kind)) (widthOf (a .run)) (now (a .s)) (l .at) (some-width (a .run)) (omega arith)
-    (sym (c .before .kind-at .ensures) ∙ c .if1 .taken) ∙ l .inv .1
+returns c = ?
 
-end-of-requires : tie.Need-end-of-requires Inv-loop μ-loop
-end-of-requires c κs = search needs
+-- src/lib.rt:74:27
+enum-told-2 : tie.Need-enum-told-2 Inv-loop μ-loop
+enum-told-2 c = ?
 
-loop-less : tie.Need-loop-less Inv-loop μ-loop
-loop-less c = let e = c .end-of .ensures .0 in omega arith
-
-loop-again : tie.Need-loop-again Inv-loop μ-loop
-loop-again c =
-    let a = c .before .before .before .before .before .before .args in
-    let l = c .before .before .before .before .loop in
-    let e = c .end-of .ensures .0 in
-    (omega arith, some-later (a .run) (isOf (a .kind)) (widthOf (a .run)) (now (a .s)) (l .at) (some-width (a .run)) (omega arith) _ (c .end-of .ensures .1) (sym (c .before .before .kind-at .ensures) ∙ c .before .if1 .left) ∙ l .inv .1)
-
+-- src/lib.rt:74:27
 returns-2 : tie.Need-returns-2 Inv-loop μ-loop
-returns-2 c =
-    let a = c .before .before .before .args in
-    let l = c .before .loop in
-    some-none (a .run) (isOf (a .kind)) (widthOf (a .run)) (now (a .s)) (l .at) (omega arith) ∙ l .inv .1
+returns-2 c = ?
+
+-- src/lib.rt:75:34
+enum-known-own : tie.Need-enum-known-own Inv-loop μ-loop
+enum-known-own c = ?
+
+-- src/lib.rt:76:20
+is-of-requires : tie.Need-is-of-requires Inv-loop μ-loop
+is-of-requires c κs = ?
+
+-- src/lib.rt:77:21
+returns-3 : tie.Need-returns-3 Inv-loop μ-loop
+returns-3 c = ?
+
+-- src/lib.rt:79:22
+add-at : tie.Need-add-at Inv-loop μ-loop
+add-at c = ?
+
+-- src/lib.rt:79:22
+add-at-2 : tie.Need-add-at-2 Inv-loop μ-loop
+add-at-2 c = ?
+
+-- src/lib.rt:71:5
+loop-less : tie.Need-loop-less Inv-loop μ-loop
+loop-less c = ?
+
+-- src/lib.rt:71:5
+loop-again : tie.Need-loop-again Inv-loop μ-loop
+loop-again c = ?
 
 pub has-kind-spec : {M : Type 1} → statement M
 has-kind-spec =
@@ -59,10 +74,17 @@ has-kind-spec =
     (tie.spec
     Inv-loop
     μ-loop
+    header-of-requires
     loop-holds
-    kind-at-requires
+    frame-of-requires
+    enum-told
     returns
-    end-of-requires
+    enum-told-2
+    returns-2
+    enum-known-own
+    is-of-requires
+    returns-3
+    add-at
+    add-at-2
     loop-less
-    loop-again
-    returns-2)
+    loop-again)
