@@ -2,14 +2,16 @@
 use mathlib.Core.Path.{_≡_, sym, ap, _∙_}
 use mathlib.Core.Bool.{Bool, true, false}
 use mathlib.Core.List.{List, _∷_}
-use Prim.Native.Nat.{ℕ, _+_, _<_}
+use Prim.Native.Nat.{ℕ, _+_, _-_, _<_}
 use native.Mathlib.Nat.{zero-add}
+use lib.ListN.{take, drop}
 use Rattle.linkstate.specs.Lists.{any, lookup}
 use Rattle.linkstate.specs.Bytes.{bytesAt}
 use Rattle.linkstate.specs.Replies.{place}
 use Rattle.linkstate.specs.Elements.{Element, element, cut}
 use Rattle.linkstate.specs.Why.{Holder, heldAt, nowhere, offsetOf}
 use Rattle.linkstate.proofs.WalkLaws.{left}
+use Rattle.octets.proofs.Laws.{part-is}
 use Rattle.replies.specs.declared.Run.{Run}
 use Rattle.replies.specs.Told.{toldRun}
 use Rattle.frames.specs.declared.Frame.the-variants.{End, Cut}
@@ -44,25 +46,28 @@ module _ (run : Run) (p : Element → Bool) (w : ℕ) (q : 0 < w) (s : List ℕ)
     unfolding some any
     some-cut = rw (cut-left w q 0 s at e, c)
 
-  module _ (t n : ℕ) (f : IsWhole w s at t n) where
+  -- a whole element, whose value, as it is lent, stands h bytes behind its first; x is whether it passes
+  module _ (t n : ℕ) (f : IsWhole w s at t n) (h : ℕ) (z : h ≡ w + w) where
     abbrev here : Element
-    here = element at t (bytesAt s (at + (w + w)) n)
+    here = element at t (take (at + h + n - (at + h)) (drop (at + h) s))
 
-    turn : left w 0 s at ≡ here ∷ left w 0 s (at + (w + w) + n)
-    turn = whole-left w q 0 s at t n f ∙ ap (λ (o : ℕ). element o t (bytesAt s (at + (w + w)) n) ∷ left w 0 s (at + (w + w) + n)) (zero-add at)
+    turn : left w 0 s at ≡ here ∷ left w 0 s (at + h + n)
+    turn =
+        rw (part-is s (at + h) n, z)
+        (whole-left w q 0 s at t n f ∙ ap (λ (o : ℕ). element o t (bytesAt s (at + (w + w)) n) ∷ left w 0 s (at + (w + w) + n)) (zero-add at))
 
-    pub found-here : p here ≡ true → heldAt (place (toldRun run) at) ≡ found run p w s at
+    pub found-here : (x : Bool) → x ≡ p here → x ≡ true → heldAt (place (toldRun run) at) ≡ found run p w s at
     unfolding found firstWith lookup offsetOf
-    found-here e = rw (turn, e)
+    found-here x i e = rw (turn, sym i, e)
 
-    pub some-here : p here ≡ true → true ≡ some p w s at
+    pub some-here : (x : Bool) → x ≡ p here → x ≡ true → true ≡ some p w s at
     unfolding some any
-    some-here e = rw (turn, e)
+    some-here x i e = rw (turn, sym i, e)
 
-    pub found-later : p here ≡ false → found run p w s (at + (w + w) + n) ≡ found run p w s at
+    pub found-later : (x : Bool) → x ≡ p here → x ≡ false → found run p w s (at + h + n) ≡ found run p w s at
     unfolding found firstWith lookup
-    found-later e = rw (turn, e)
+    found-later x i e = rw (turn, sym i, e)
 
-    pub some-later : p here ≡ false → some p w s (at + (w + w) + n) ≡ some p w s at
+    pub some-later : (x : Bool) → x ≡ p here → x ≡ false → some p w s (at + h + n) ≡ some p w s at
     unfolding some any
-    some-later e = rw (turn, e)
+    some-later x i e = rw (turn, sym i, e)

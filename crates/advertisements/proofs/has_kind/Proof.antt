@@ -1,72 +1,94 @@
+-- Whether there is one from a position on is whether there is one.
+use native.Mathlib.Omega.{arith}
+use denote.Ref.{now}
+use mathlib.Core.Path.{_≡_, refl, sym, _∙_}
+use Prim.Native.Nat.{_+_, _-_, _≤_, _<_}
+use lib.ListN.{length}
+use Rattle.linkstate.specs.Lists.{any}
+use Rattle.linkstate.specs.Elements.{elements}
+use Rattle.frames.proofs.Laws.{IsWhole, is-whole, part-length}
+use Rattle.advertisements.specs.Frames.{widthOf}
+use Rattle.advertisements.specs.Tests.{isOf}
+use Rattle.advertisements.proofs.Frames.{some-width}
+use Rattle.advertisements.proofs.Tests.{of-cut}
+use Rattle.advertisements.proofs.Walks.{some, some-end, some-cut, some-here, some-later}
+use borrow.Author.Needs.{needs}
 use Rattle.advertisements.proofs.has_kind.Statement.{statement}
 use Rattle.advertisements.proofs.has_kind.Tie as tie
-use Rattle.advertisements.proofs.has_kind.Reads as reads
-use Rattle.advertisements.proofs.has_kind.Lts as lts
-use Rattle.advertisements.proofs.frame_of.Reads as frame-of-reads
-use Rattle.advertisements.proofs.header_of.Reads as header-of-reads
-use Rattle.advertisements.proofs.is_of.Reads as is-of-reads
 
 abbrev Inv-loop : tie.InvT-loop
-Inv-loop s run kind head at₀ at = ?
+Inv-loop s run kind head at₀ at = (at ≤ length s) × (some (isOf kind) (widthOf run) s at ≡ any (isOf kind) (elements (widthOf run) 0 s))
 
 abbrev μ-loop : tie.MeasureT-loop
-μ-loop s run kind head at₀ at = ?
+μ-loop s run kind head at₀ at = length s - at
 
--- src/lib.rt:69:9
 header-of-requires : tie.Need-header-of-requires Inv-loop μ-loop
-header-of-requires c κs = ?
+header-of-requires c κs = search needs
 
--- src/lib.rt:71:5
 loop-holds : tie.Need-loop-holds Inv-loop μ-loop
-loop-holds c = ?
+unfolding some
+loop-holds c = (omega arith, refl)
 
--- src/lib.rt:72:15
 frame-of-requires : tie.Need-frame-of-requires Inv-loop μ-loop
-frame-of-requires c κs = ?
+frame-of-requires c κs = search needs
 
--- src/lib.rt:73:27
 enum-told : tie.Need-enum-told Inv-loop μ-loop
-enum-told c = ?
+enum-told c = search needs
 
--- src/lib.rt:73:27
 returns : tie.Need-returns Inv-loop μ-loop
-returns c = ?
+returns c = let l = c .before .before .before in
+    let a = l .before .before .before .args in
+    some-end (a .run) (isOf (a .kind)) (widthOf (a .run)) (some-width (a .run)) _ _ (sym (c .before .before .frame-of .ensures) ∙ c .enum-told .given .1) ∙ l .loop .inv .1
 
--- src/lib.rt:74:27
 enum-told-2 : tie.Need-enum-told-2 Inv-loop μ-loop
-enum-told-2 c = ?
+enum-told-2 c = search needs
 
--- src/lib.rt:74:27
 returns-2 : tie.Need-returns-2 Inv-loop μ-loop
-returns-2 c = ?
+returns-2 c = let l = c .before .before .before in
+    let a = l .before .before .before .args in
+    some-cut (a .run) (isOf (a .kind)) (widthOf (a .run)) (some-width (a .run)) _ _ (sym (c .before .before .frame-of .ensures) ∙ c .enum-told2 .given .1) (of-cut (a .kind) _) ∙ l .loop .inv .1
 
--- src/lib.rt:75:34
 enum-known-own : tie.Need-enum-known-own Inv-loop μ-loop
-enum-known-own c = ?
+enum-known-own c = search needs
 
--- src/lib.rt:76:20
+-- the element is whole
+whole : (k : tie.After-known-told Inv-loop μ-loop) → let l = k .before .before .before .before in
+    let a = l .before .before .before .args in IsWhole (widthOf (a .run)) (now (a .s)) (l .loop .at) (k .before .own .given .0 .0) (k .before .own .given .0 .1 .0)
+whole k = is-whole _ _ _ _ _ (sym (k .before .before .before .frame-of .ensures) ∙ k .before .own .given .1)
+
+-- it lies within the list, and has a header
+within : (k : tie.After-known-told Inv-loop μ-loop) → let l = k .before .before .before .before in
+    (l .loop .at + l .before .header-of .result + k .before .own .given .0 .1 .0 ≤ length (now (l .before .before .before .args .s))) × (0 < l .before .header-of .result)
+within k = let l = k .before .before .before .before in
+    (omega (arith, whole k, l .before .header-of .ensures), omega (arith, some-width (l .before .before .before .args .run), l .before .header-of .ensures))
+
 is-of-requires : tie.Need-is-of-requires Inv-loop μ-loop
-is-of-requires c κs = ?
+is-of-requires c κs = search needs
 
--- src/lib.rt:77:21
 returns-3 : tie.Need-returns-3 Inv-loop μ-loop
-returns-3 c = ?
+returns-3 c = let k = c .before .before in
+    let l = k .before .before .before .before in
+    let a = l .before .before .before .args in
+    some-here (a .run) (isOf (a .kind)) (widthOf (a .run)) (some-width (a .run)) _ _ _ _ (whole k) _ (l .before .header-of .ensures)
+    _ (c .before .is-of .ensures _ _ (part-length (now (a .s)) _ _ (within k .0))) (c .if1 .taken) ∙ l .loop .inv .1
 
--- src/lib.rt:79:22
 add-at : tie.Need-add-at Inv-loop μ-loop
-add-at c = ?
+add-at c = omega (arith, within (c .before .before) .0)
 
--- src/lib.rt:79:22
 add-at-2 : tie.Need-add-at-2 Inv-loop μ-loop
-add-at-2 c = ?
+add-at-2 c = omega (arith, within (c .before .before) .0)
 
--- src/lib.rt:71:5
 loop-less : tie.Need-loop-less Inv-loop μ-loop
-loop-less c = ?
+loop-less c = let w = within (c .before .before) in omega (arith, w .0, w .1)
 
--- src/lib.rt:71:5
 loop-again : tie.Need-loop-again Inv-loop μ-loop
-loop-again c = ?
+loop-again c = let k = c .before .before in
+    let l = k .before .before .before .before in
+    let a = l .before .before .before .args in (
+      within k .0,
+      some-later (a .run) (isOf (a .kind)) (widthOf (a .run)) (some-width (a .run)) _ _ _ _ (whole k) _ (l .before .header-of .ensures)
+          _ (c .before .is-of .ensures _ _ (part-length (now (a .s)) _ _ (within k .0))) (c .if1 .left) ∙ l .loop .inv .1,
+    )
 
 pub has-kind-spec : {M : Type 1} → statement M
 has-kind-spec =
