@@ -7,19 +7,18 @@ use native.Mathlib.Omega.{arith}
 use native.Mathlib.Nat.{zero-add}
 use borrow.Author.Tests.{eqb-true, ne-eqb, eq-eqb, lt-ltb, le-ltb}
 use lib.Dec.{eqb, ltb, leb}
-use lib.ListN.{length, take, drop, getD}
+use lib.ListN.{length, drop, getD, length-drop}
 use Rattle.linkstate.specs.Lists.{any, count}
 use Rattle.linkstate.specs.Bytes.{bytesAt}
 use Rattle.linkstate.specs.Replies.{accepted, fault, runB}
 use Rattle.linkstate.specs.Elements.{Element, element, cut, sizeOf, elementsAfter, elements, faults}
 use Rattle.linkstate.proofs.ElementLaws.{moved, elements-moved}
 use Rattle.linkstate.proofs.ListLaws.{and-false}
-use Rattle.linkstate.proofs.WalkLaws.{left, left-end, left-cut, left-whole, type-one, length-one}
-use Rattle.octets.proofs.Laws.{length-bytesAt}
+use Rattle.linkstate.proofs.WalkLaws.{left}
+use Rattle.frames.specs.declared.Frame.the-variants.{End, Cut}
+use Rattle.frames.specs.Frames.{frameIn}
+use Rattle.frames.proofs.Laws.{IsWhole, value-length, end-left, cut-left, whole-left, turn-passed, turn-refused}
 use Rattle.isis.specs.RunB.{identifier, knownIdentifiers, checkIdentifier, isOfType, times, repeats, identifies}
-use Rattle.isis_check_a.specs.declared.Frame.the-variants.{End, Cut, Whole}
-use Rattle.isis_check_a.specs.Frames.{frameAt}
-use Rattle.isis_check_a.proofs.Laws.{frame-end, frame-says, turn-passed, turn-refused, front-length, part-in-length, leftIn, whole-in, type-in}
 use Rattle.isis_check_b.specs.declared.Known.{Known}
 use Rattle.isis_check_b.specs.Identifiers.{knownOf, tallyOf, identifiedBy, identifiedIn, onceAndPaired, identifiersIn}
 
@@ -183,65 +182,42 @@ once a b c d e ha hb hc hd he =
 
 -- ---- one turn of a walk
 
-module _ (base : ℕ) (s : List ℕ) (at : ℕ) where
-  pub tally-end : frameAt s at ≡ End → tallyOf (left 1 base s at) ≡ 0
-  tally-end e = ap tallyOf (left-end 1 (omega arith) base s at (frame-says s at End e)) ∙ tally-nil
+module _ (s : List ℕ) (at : ℕ) where
+  pub tally-end : frameIn 1 s at ≡ End → tallyOf (left 1 0 s at) ≡ 0
+  tally-end e = ap tallyOf (end-left 1 (omega arith) 0 s at e) ∙ tally-nil
 
-  pub tally-past : frameAt s at ≡ Cut → tallyOf (left 1 base s at) ≡ 0
-  tally-past e = let h = frame-says s at Cut e in ap tallyOf (left-cut 1 (omega arith) base s at (h .0) (omega (arith, h .1, length-one s at))) ∙ tally-cut (base + at)
+  pub tally-past : frameIn 1 s at ≡ Cut → tallyOf (left 1 0 s at) ≡ 0
+  tally-past e = ap tallyOf (cut-left 1 (omega arith) 0 s at e) ∙ tally-cut (0 + at)
 
-  module _ (n : ℕ) (e : frameAt s at ≡ Whole n) where
+  module _ (n : ℕ) (f : IsWhole 1 s at (getD s at 0) n) where
     -- the type's weight, and what is left behind it
-    pub tally-turn : (k : Known) → k ≡ knownOf (getD s at 0) → tallyOf (left 1 base s at) ≡ k .weight + tallyOf (left 1 base s (at + 2 + n))
+    pub tally-turn : (k : Known) → k ≡ knownOf (getD s at 0) → tallyOf (left 1 0 s at) ≡ k .weight + tallyOf (left 1 0 s (at + 2 + n))
     tally-turn k is =
-        ap tallyOf (left-whole 1 (omega arith) base s at n (length-one s at ∙ frame-says s at (Whole n) e .0) (frame-says s at (Whole n) e .1))
-        ∙ tally-element (base + at) (bytesAt s (at + 2) n) (left 1 base s (at + 2 + n)) _
-        ∙ ap (λ (q : Known). q .weight + tallyOf (left 1 base s (at + 2 + n))) (ap knownOf (type-one s at) ∙ sym is)
+        ap tallyOf (whole-left 1 (omega arith) 0 s at _ n f)
+        ∙ tally-element (0 + at) (bytesAt s (at + 2) n) (left 1 0 s (at + 2 + n)) _
+        ∙ ap (λ (q : Known). q .weight + tallyOf (left 1 0 s (at + 2 + n))) (sym is)
 
     -- the length of this identifier
-    identifier-check : (b : Bool) → wrongIdentifier (getD s at 0) n ≡ b → checkIdentifier (base + at) (getD s at 0) (bytesAt s (at + 2) n) ≡ cond b (fault 4 runB (base + at)) accepted
+    identifier-check : (b : Bool) → wrongIdentifier (getD s at 0) n ≡ b → checkIdentifier at (getD s at 0) (bytesAt s (at + 2) n) ≡ cond b (fault 4 runB at) accepted
     unfolding checkIdentifier wrongIdentifier
-    identifier-check b w = rw (length-bytesAt s (at + 2) n (frame-says s at (Whole n) e .1), w)
+    identifier-check b w = rw (value-length 1 s at _ n f, w)
 
-    pub list-passed : wrongIdentifier (getD s at 0) n ≡ false → faults runB checkIdentifier (left 1 base s (at + 2 + n)) ≡ faults runB checkIdentifier (left 1 base s at)
-    list-passed w = turn-passed runB checkIdentifier base s at (base + at) refl n e (identifier-check false w)
+    pub identifier-on : wrongIdentifier (getD s at 0) n ≡ false → faults runB checkIdentifier (left 1 0 s (at + 2 + n)) ≡ faults runB checkIdentifier (left 1 0 s at)
+    identifier-on w = turn-passed runB checkIdentifier 1 (omega arith) 0 s at at (sym (zero-add at)) _ n f (identifier-check false w)
 
-    pub list-refused : wrongIdentifier (getD s at 0) n ≡ true → fault 4 runB (base + at) ≡ faults runB checkIdentifier (left 1 base s at)
+    pub identifier-stop : wrongIdentifier (getD s at 0) n ≡ true → fault 4 runB at ≡ faults runB checkIdentifier (left 1 0 s at)
     unfolding fault
-    list-refused w = turn-refused runB checkIdentifier base s at (base + at) refl n e _ (identifier-check true w)
+    identifier-stop w = turn-refused runB checkIdentifier 1 (omega arith) 0 s at at (sym (zero-add at)) _ n f _ (identifier-check true w)
 
--- ---- the identifiers that stand in run B from one place to another
+-- ---- the identifiers that stand from a place on
 
--- the tally of what is left at a place
-abbrev pub tallyIn : List ℕ → ℕ → ℕ → ℕ
-tallyIn b end at = tallyOf (left 1 0 (take end b) at)
+module _ (s : List ℕ) (from : ℕ) (short : length s < from + 256) where
+  few : from ≤ length s → length (drop from s) < 256
+  few h = omega (arith, length-drop from s)
 
-pub tally-start : (b : List ℕ) (from end : ℕ) → tallyIn b end from ≡ tallyOf (identifiersIn b from end)
-tally-start b from end = ap (λ (o : ℕ). tallyOf (elements 1 o (drop from (take end b)))) (zero-add from)
+  pub tally-fits : from ≤ length s → tallyOf (identifiersIn s from) < 1099511627776
+  tally-fits h = tally-small from (drop from s) (few h)
 
-pub tally-fits : (b : List ℕ) (from end : ℕ) → end ≤ length b → from ≤ end → end < from + 256 → tallyOf (identifiersIn b from end) < 1099511627776
-tally-fits b from end fits h g = tally-small from (drop from (take end b)) (omega (arith, part-in-length b end fits from h))
-
--- a tally of identifiers says whether they identify the link
-pub tally-tells : (b : List ℕ) (from end : ℕ) → end ≤ length b → from ≤ end → end < from + 256 → (n : ℕ) → n ≡ tallyOf (identifiersIn b from end) → identifiedIn n ≡ onceAndPaired (identifiersIn b from end)
-tally-tells b from end fits h g n e =
-    tally-says (drop from (take end b)) n (omega (arith, part-in-length b end fits from h)) (e ∙ tally-anywhere from (drop from (take end b))) from
-
-module _ (b : List ℕ) (end : ℕ) (fits : end ≤ length b) (at : ℕ) where
-  pub tally-over : end ≤ at → tallyIn b end at ≡ 0
-  tally-over h = tally-end 0 (take end b) at (sym (frame-end (take end b) at (omega (arith, front-length b end fits))))
-
-  module _ (g : at + 2 + getD b (at + 1) 0 ≤ end) where
-    pub tally-on : (k : Known) → k ≡ knownOf (getD b at 0) → tallyIn b end at ≡ k .weight + tallyIn b end (at + 2 + getD b (at + 1) 0)
-    tally-on k is = tally-turn 0 (take end b) at (getD b (at + 1) 0) (whole-in b end fits at g) k (is ∙ ap knownOf (sym (type-in b end fits at g)))
-
-    here-wrong : (x : Bool) → wrongIdentifier (getD b at 0) (getD b (at + 1) 0) ≡ x → wrongIdentifier (getD (take end b) at 0) (getD b (at + 1) 0) ≡ x
-    here-wrong x w = ap (λ (t : ℕ). wrongIdentifier t (getD b (at + 1) 0)) (type-in b end fits at g) ∙ w
-
-    pub identifier-on : wrongIdentifier (getD b at 0) (getD b (at + 1) 0) ≡ false
-        → leftIn runB checkIdentifier b end (at + 2 + getD b (at + 1) 0) ≡ leftIn runB checkIdentifier b end at
-    identifier-on w = list-passed 0 (take end b) at (getD b (at + 1) 0) (whole-in b end fits at g) (here-wrong false w)
-
-    pub identifier-stop : wrongIdentifier (getD b at 0) (getD b (at + 1) 0) ≡ true → fault 4 runB at ≡ leftIn runB checkIdentifier b end at
-    identifier-stop w =
-        ap (fault 4 runB) (sym (zero-add at)) ∙ list-refused 0 (take end b) at (getD b (at + 1) 0) (whole-in b end fits at g) (here-wrong true w)
+  -- their tally says whether they identify the link
+  pub tally-tells : from ≤ length s → (n : ℕ) → n ≡ tallyOf (identifiersIn s from) → identifiedIn n ≡ onceAndPaired (identifiersIn s from)
+  tally-tells h n e = tally-says (drop from s) n (few h) (e ∙ tally-anywhere from (drop from s)) from

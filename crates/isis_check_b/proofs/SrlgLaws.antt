@@ -27,7 +27,7 @@ use Rattle.isis.specs.RunB.{liveSrlg, checkSrlg, checkB, afterNeighbour, srlgAd
 use Rattle.isis_check_a.specs.declared.Header.{Header}
 use Rattle.isis_check_a.specs.declared.Masks.the-variants as Masks
 use Rattle.isis_check_a.specs.Headers.{headerOf, masksIn, advertisedAt, valueIn}
-use Rattle.isis_check_a.proofs.Laws.{rest-is, header-l, header-bytes, masks-say, part-in, part-of-part, part-in-length}
+use Rattle.isis_check_a.proofs.Laws.{rest-is, header-l, header-bytes, masks-say, front-is, lent-length, part-in, part-of-part, part-in-length}
 use Rattle.isis_check_a.proofs.Naming.{masks-small, adds-value, adds-read}
 use Rattle.isis_check_b.specs.declared.Judged.{Judged}
 use Rattle.isis_check_b.specs.declared.Judged.the-variants as Judge
@@ -51,10 +51,16 @@ module _ (b : List ℕ) (l : Bool) (from to end at : ℕ) (w : Within b l from t
   v = behindIn b at end
 
   abbrev lent : List Element
-  lent = identifiersIn b from to
+  lent = identifiersIn (take (to - 0) b) from
 
-  pub lent-within : (from ≤ to) × (to < from + 256) × (to ≤ length b)
-  lent-within = (omega (arith, w .values), w .small, omega (arith, w .fits, w .inside))
+  pub lent-within : (from ≤ to) × (to ≤ length b)
+  lent-within = (omega (arith, w .values), omega (arith, w .fits, w .inside))
+
+  lent-size : length (take (to - 0) b) ≡ to
+  lent-size = lent-length b to (lent-within .1)
+
+  pub lent-short : (from ≤ length (take (to - 0) b)) × (length (take (to - 0) b) < from + 256)
+  lent-short = (omega (arith, lent-within .0, lent-size), omega (arith, w .small, lent-size))
 
   lent-is : lent ≡ identifiers at v
   unfolding identifiers
@@ -62,7 +68,7 @@ module _ (b : List ℕ) (l : Bool) (from to end at : ℕ) (w : Within b l from t
       let i : from ≡ at + 2 + 7 + headerLength v + 1 = omega (arith, w .list) in
       let j : from ≡ at + 9 + (headerLength v + 1) = omega (arith, w .list) in
       let k : to - from ≡ identifierBytes v = omega (arith, w .values) in
-      let p : drop from (take to b) ≡ take (to - from) (drop from b) = sym (part-in b to (lent-within .2) from (lent-within .0)) in
+      let p : drop from (take (to - 0) b) ≡ take (to - from) (drop from b) = ap (drop from) (front-is b to (lent-within .1)) ∙ sym (part-in b to (lent-within .1) from (lent-within .0)) in
       let q : take (to - from) (drop from b) ≡ take (to - from) (drop from (take end b))
       = sym (part-of-part b end (w .inside) from (omega (arith, lent-within .0, w .fits)) (to - from) (omega (arith, lent-within .0, w .fits))) in
       let r : drop from (take end b) ≡ drop (headerLength v + 1) v = ap (λ (o : ℕ). drop o (take end b)) j ∙ sym (drop-drop (headerLength v + 1) (at + 9) (take end b)) in
@@ -164,7 +170,7 @@ module _ (b : List ℕ) (l : Bool) (from to end at : ℕ) (w : Within b l from t
 
       says : (t : Bool) → identifiedIn n ≡ t → onceAndPaired lent ≡ t
       says t i =
-          sym (tally-tells b from to (lent-within .2) (lent-within .0) (lent-within .1) n (subst (λ (q : Listed). Tallied q lent) e (read .tally))) ∙ i
+          sym (tally-tells (take (to - 0) b) from (lent-short .1) (lent-short .0) n (subst (λ (q : Listed). Tallied q lent) e (read .tally))) ∙ i
 
       pub unidentified-parts : identifiedIn n ≡ false → Answers Ignored
       unidentified-parts i = parts-ignored all-passed (says false i)

@@ -4,7 +4,7 @@ use mathlib.Core.Bool.{Bool, cond, _&&_, _||_, not}
 use mathlib.Core.List.{List}
 use Prim.Native.Nat.{ℕ, _+_, _*_, _/_, _%_}
 use lib.Dec.{eqb, ltb}
-use lib.ListN.{take, drop}
+use lib.ListN.{drop}
 use Rattle.linkstate.specs.Elements.{Element, elements}
 use Rattle.isis.specs.RunB.{times, repeats, identifies}
 use Rattle.linkstate.specs.Replies.{Verdict, accepted, refused}
@@ -41,9 +41,9 @@ identifiedIn n = identifiedBy (n % 256) (n / 256 % 256) (n / 65536 % 256) (n / 1
 abbrev pub onceAndPaired : List Element → Bool
 onceAndPaired es = not (repeats es) && identifies es
 
--- The identifiers that stand in run B from one place to another.
-abbrev pub identifiersIn : List ℕ → ℕ → ℕ → List Element
-identifiersIn b from end = elements 1 from (drop from (take end b))
+-- The identifiers that stand from a place on.
+abbrev pub identifiersIn : List ℕ → ℕ → List Element
+identifiersIn s from = elements 1 from (drop from s)
 
 -- What reading a list answers: its refusal, or its tally.
 abbrev pub toldListed : Listed → Verdict

@@ -11,7 +11,8 @@ ghost use Rattle.isis_check_a.specs.Headers.{headerOf, advertisedAt, valueIn};
 ghost use Rattle.isis.specs.RunB.{checkIdentifier, checkB, liveSrlg, srlgAdvertisements, sideB};
 ghost use Rattle.isis_check_b.specs.Identifiers.{knownOf, tallyOf, identifiedBy, identifiedIn, onceAndPaired, identifiersIn, Lists};
 ghost use Rattle.isis_check_b.specs.Parts.{partsVerdict, behindIn, Within, Judges};
-use isis_check_a::Frame;
+use frames::Frame;
+use frames::frame_one;
 use isis_check_a::Header;
 use isis_check_a::Masks;
 use naming::Checking;
@@ -62,32 +63,29 @@ pub enum Listed {
     Tally(u64),
 }
 
-// The identifier list that stands in run B from one place to another, in one walk.
-fn read_identifiers(b: &[u8], from: usize, end: usize) -> Listed
-    requires { ⌜ (from ≤ end) × (end < from + 256) × (end ≤ length (now b)) × (length (now b) < 4294967296) ⌝ }
-    ensures { λ r. ⌜ Lists (faults runB checkIdentifier (identifiersIn (now (b .entry)) from end)) (identifiersIn (now (b .entry)) from end) r ⌝ }
+// The identifier list that stands in run B from a place on, as far as s goes, in one walk.
+fn read_identifiers(s: &[u8], from: usize) -> Listed
+    requires { ⌜ (from ≤ length (now s)) × (length (now s) < from + 256) ⌝ }
+    ensures { λ r. ⌜ Lists (faults runB checkIdentifier (identifiersIn (now (s .entry)) from)) (identifiersIn (now (s .entry)) from) r ⌝ }
 {
     let mut tally: u64 = 0;
     let mut at = from;
-    while at + 2 <= end {
-        let n = b[at + 1] as usize;
-        let next = at + 2 + n;
-        if end < next {
-            return Listed::Refused(replies::refuse_at(3, Run::B, at));
-        }
-        let known = known_identifier(b[at]);
-        if known.weight != 0 {
-            if n != known.length {
-                return Listed::Refused(replies::refuse_at(4, Run::B, at));
+    loop {
+        match frame_one(s, at) {
+            Frame::End => return Listed::Tally(tally),
+            Frame::Cut => return Listed::Refused(replies::refuse_at(3, Run::B, at)),
+            Frame::Whole { kind: _, len } => {
+                let known = known_identifier(s[at]);
+                if known.weight != 0 {
+                    if len != known.length {
+                        return Listed::Refused(replies::refuse_at(4, Run::B, at));
+                    }
+                }
+                tally = tally + known.weight;
+                at = at + 2 + len;
             }
         }
-        tally = tally + known.weight;
-        at = next;
     }
-    if at < end {
-        return Listed::Refused(replies::refuse_at(3, Run::B, at));
-    }
-    Listed::Tally(tally)
 }
 
 // How often each known type stands in an identifier list: a byte of the tally for each.
@@ -98,13 +96,13 @@ fn tally_identifiers(s: &[u8]) -> u64
     let mut tally: u64 = 0;
     let mut at = 0;
     loop {
-        match isis_check_a::frame_at(s, at) {
+        match frame_one(s, at) {
             Frame::End => return tally,
             Frame::Cut => return tally,
-            Frame::Whole(n) => {
+            Frame::Whole { kind: _, len } => {
                 let known = known_identifier(s[at]);
                 tally = tally + known.weight;
-                at = at + 2 + n;
+                at = at + 2 + len;
             }
         }
     }
@@ -175,7 +173,7 @@ fn check_parts(b: &[u8], l: bool, list: usize, values: usize, end: usize, at: us
     requires { ⌜ Within (now b) l list values end at × (length (now b) < 4294967296) ⌝ }
     ensures { λ r. ⌜ Judges (partsVerdict at (behindIn (now (b .entry)) at end)) at (behindIn (now (b .entry)) at end) r ⌝ }
 {
-    match read_identifiers(b, list, values) {
+    match read_identifiers(&b[0..values], list) {
         Listed::Refused(r) => return Judged::Refused(r),
         Listed::Tally(tally) => {
             if !tally_identifies(tally) {
@@ -264,26 +262,24 @@ pub fn check_b(b: &[u8]) -> Checking
 {
     let mut names = naming::nobody();
     let mut at = 0;
-    while at + 2 <= b.len() {
-        let n = b[at + 1] as usize;
-        let next = at + 2 + n;
-        if b.len() < next {
-            return naming::refuse(3, Run::B, at);
-        }
-        if b[at] == 238 {
-            match check_tlv(b, at, next, names) {
-                Checking::Refused(r) => return Checking::Refused(r),
-                Checking::Accepted(all) => {
-                    names = all;
+    loop {
+        match frame_one(b, at) {
+            Frame::End => return Checking::Accepted(names),
+            Frame::Cut => return naming::refuse(3, Run::B, at),
+            Frame::Whole { kind: _, len } => {
+                let next = at + 2 + len;
+                if b[at] == 238 {
+                    match check_tlv(b, at, next, names) {
+                        Checking::Refused(r) => return Checking::Refused(r),
+                        Checking::Accepted(all) => {
+                            names = all;
+                        }
+                    }
                 }
+                at = next;
             }
         }
-        at = next;
     }
-    if at < b.len() {
-        return naming::refuse(3, Run::B, at);
-    }
-    Checking::Accepted(names)
 }
 
 fn least(x: usize, y: usize) -> usize

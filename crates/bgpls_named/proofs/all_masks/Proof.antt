@@ -4,7 +4,7 @@ use Rattle.bgpls_find.proofs.SetLaws.{run-passes}
 use Rattle.bgpls_find.proofs.Laws.{Taken, head-fits, whole-here, left-passes, aslas-end, aslas-passed, part-taken, part-sound, rest-passes, is-asla}
 use Rattle.bgpls_find.specs.Walks.{Passes, IsAsla}
 use Rattle.bgpls_find.specs.declared.Set.the-variants.{Every}
-use Rattle.bgpls_check.proofs.Laws.{IsWhole, part-length}
+use Rattle.frames.proofs.Laws.{IsWhole, part-length}
 use Rattle.octets.proofs.Laws.{part-is}
 use Rattle.linkstate.specs.Bytes.{bytesAt}
 use Rattle.linkstate.specs.BgpLs.{notIgnored, aslaHeader, checkTop}
@@ -45,7 +45,7 @@ type k = k .before .read16 .result
 abbrev size : Known → ℕ
 size k = k .read162 .result
 
-whole : (k : Known) → IsWhole (run k) (place k) (type k) (size k)
+whole : (k : Known) → IsWhole 2 (run k) (place k) (type k) (size k)
 whole k =
     whole-here checkTop 0 (run k) (place k) (k .before .before .loop-test .taken) (left-passes (run k) (place k) (k .before .before .before .loop .inv .1)) (type k) (size k) (k .before .read16 .ensures .0) (k .read162 .ensures .0)
 

@@ -1,7 +1,8 @@
 -- `bgpls_named::join_masks` meets its contract: each mask is joined to its number.
 use Rattle.bgpls_named.proofs.Laws.{standard-small, user-small, join-one}
 use Rattle.bgpls_find.proofs.Laws.{standard-part, user-part}
-use Rattle.bgpls_check.proofs.Laws.{header-size, part-length}
+use Rattle.frames.proofs.Laws.{part-length}
+use Rattle.bgpls_check.proofs.Laws.{header-size}
 use Rattle.bgpls_check.specs.declared.AslaHeader.{AslaHeader}
 use Rattle.linkstate.specs.BgpLs.{sabmLength, udabmLength}
 use lib.ListN.{length}

@@ -3,13 +3,11 @@ use mathlib.Core.Path.{_≡_, sym, _∙_}
 use Prim.Native.Nat.{ℕ, _≤_, _+_, _-_}
 use native.Mathlib.Omega.{arith}
 use borrow.Author.Needs.{needs}
-use lib.ListN.{length}
+use lib.ListN.{length, getD}
 use denote.Ref.{now}
 use Rattle.linkstate.specs.Elements.{elements}
 use Rattle.linkstate.proofs.WalkLaws.{left}
-use Rattle.isis_check_a.specs.declared.Frame.the-variants.{Whole}
-use Rattle.isis_check_a.specs.Frames.{frameAt}
-use Rattle.isis_check_a.proofs.Laws.{frame-says}
+use Rattle.frames.proofs.Laws.{IsWhole, is-whole-one}
 use Rattle.isis_check_b.specs.Identifiers.{tallyOf}
 use Rattle.isis_check_b.proofs.Laws.{tally-end, tally-past, tally-turn, tally-small}
 use Rattle.isis_check_b.proofs.tally_identifiers.Statement.{statement}
@@ -24,58 +22,58 @@ abbrev μ-loop : tie.MeasureT-loop
 loop-holds : tie.Need-loop-holds Inv-loop μ-loop
 loop-holds c = (omega arith, omega arith)
 
-frame-at-requires : tie.Need-frame-at-requires Inv-loop μ-loop
-frame-at-requires c κs = search needs
+frame-one-requires : tie.Need-frame-one-requires Inv-loop μ-loop
+frame-one-requires c κs = search needs
 
 enum-told : tie.Need-enum-told Inv-loop μ-loop
 enum-told c = search needs
 
 returns : tie.Need-returns Inv-loop μ-loop
 returns c = let l = c .before .before .before in
-    omega (arith, l .loop .inv .1, tally-end 0 (now (l .before .before .args .s)) (l .loop .at) (sym (c .before .before .frame-at .ensures) ∙ c .enum-told .given .1))
+    omega (arith, l .loop .inv .1, tally-end (now (l .before .before .args .s)) (l .loop .at) (sym (c .before .before .frame-one .ensures) ∙ c .enum-told .given .1))
 
 enum-told-2 : tie.Need-enum-told-2 Inv-loop μ-loop
 enum-told-2 c = search needs
 
 returns-2 : tie.Need-returns-2 Inv-loop μ-loop
 returns-2 c = let l = c .before .before .before in
-    omega (arith, l .loop .inv .1, tally-past 0 (now (l .before .before .args .s)) (l .loop .at) (sym (c .before .before .frame-at .ensures) ∙ c .enum-told2 .given .1))
+    omega (arith, l .loop .inv .1, tally-past (now (l .before .before .args .s)) (l .loop .at) (sym (c .before .before .frame-one .ensures) ∙ c .enum-told2 .given .1))
 
-enum-known-n : tie.Need-enum-known-n Inv-loop μ-loop
-enum-known-n c = search needs
+enum-known-len : tie.Need-enum-known-len Inv-loop μ-loop
+enum-known-len c = search needs
 
 -- the element is whole
-whole : (c : tie.After-known-told Inv-loop μ-loop) → let l = c .before .before .before .before in
-    (frameAt (now (l .before .before .args .s)) (l .loop .at) ≡ Whole (c .before .n .given .0 .0)) × (l .loop .at + 2 + c .before .n .given .0 .0 ≤ length (now (l .before .before .args .s)))
-whole c = let e = sym (c .before .before .before .frame-at .ensures) ∙ c .before .n .given .1 in (e, frame-says _ _ _ e .1)
+whole : (k : tie.After-known-told Inv-loop μ-loop) → let l = k .before .before .before .before in
+    let s = now (l .before .before .args .s) in IsWhole 1 s (l .loop .at) (getD s (l .loop .at) 0) (k .before .len .given .0 .1 .0)
+whole k = is-whole-one _ _ _ _ (sym (k .before .before .before .frame-one .ensures) ∙ k .before .len .given .1)
 
 -- its weight
 weighed : (c : tie.After-struct-known Inv-loop μ-loop) → let l = c .before .before .before .before .before .before .before in
     let left-at : ℕ → ℕ = λ i. tallyOf (left 1 0 (now (l .before .before .args .s)) i) in
-    left-at (l .loop .at) ≡ c .before .known-identifier .result .weight + left-at (l .loop .at + 2 + c .before .before .before .before .n .given .0 .0)
-weighed c = let l = c .before .before .before .before .before .before .before in
-    tally-turn 0 (now (l .before .before .args .s)) (l .loop .at) _ (whole (c .before .before .before) .0) _ (c .before .known-identifier .ensures)
+    left-at (l .loop .at) ≡ c .before .known-identifier .result .weight + left-at (l .loop .at + 2 + c .before .before .before .before .len .given .0 .1 .0)
+weighed c = tally-turn _ _ _ (whole (c .before .before .before)) _ (c .before .known-identifier .ensures)
 
 shared-slice-read-known-identifier : tie.Need-shared-slice-read-known-identifier Inv-loop μ-loop
-shared-slice-read-known-identifier c = omega (arith, whole (c .before) .1)
+shared-slice-read-known-identifier c = omega (arith, whole (c .before))
 
 known-identifier-requires : tie.Need-known-identifier-requires Inv-loop μ-loop
 known-identifier-requires c κs = search needs
 
 add-tally : tie.Need-add-tally Inv-loop μ-loop
-add-tally c = let l = c .before .before .before .before .before .before .before in omega (arith, l .loop .inv .1, weighed c, tally-small 0 (now (l .before .before .args .s)) (omega arith))
+add-tally c = let l = c .before .before .before .before .before .before .before in
+    omega (arith, l .loop .inv .1, weighed c, tally-small 0 (now (l .before .before .args .s)) (omega arith))
 
 add-at : tie.Need-add-at Inv-loop μ-loop
-add-at c = omega (arith, whole (c .before .before .before) .1)
+add-at c = omega (arith, whole (c .before .before .before))
 
 add-at-2 : tie.Need-add-at-2 Inv-loop μ-loop
-add-at-2 c = omega (arith, whole (c .before .before .before) .1)
+add-at-2 c = omega (arith, whole (c .before .before .before))
 
 loop-less : tie.Need-loop-less Inv-loop μ-loop
-loop-less c = omega (arith, whole (c .before .before .before) .1)
+loop-less c = omega (arith, whole (c .before .before .before))
 
 loop-again : tie.Need-loop-again Inv-loop μ-loop
-loop-again c = (whole (c .before .before .before) .1, omega (arith, c .before .before .before .before .before .before .before .loop .inv .1, weighed c))
+loop-again c = (whole (c .before .before .before) .within, omega (arith, c .before .before .before .before .before .before .before .loop .inv .1, weighed c))
 
 pub tally-identifiers-spec : {M : Type 1} → statement M
 tally-identifiers-spec =
@@ -84,12 +82,12 @@ tally-identifiers-spec =
     Inv-loop
     μ-loop
     loop-holds
-    frame-at-requires
+    frame-one-requires
     enum-told
     returns
     enum-told-2
     returns-2
-    enum-known-n
+    enum-known-len
     shared-slice-read-known-identifier
     known-identifier-requires
     add-tally
