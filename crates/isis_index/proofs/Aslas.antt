@@ -154,9 +154,9 @@ module _ {a : List ℕ} {at end : ℕ} (y : Here a at end) (asla : getD a at 0 �
           pub list-told : Told a at end from f
           unfolding listElements
           list-told = record {
-            order = omega (arith, here, masks-there .2);
             listed = record {
-              inside = omega (arith, here, masks-there .2, y .inside, length-take (end - from) (drop from a));
+              order = omega (arith, here, masks-there .2);
+              inside = y .inside;
               small = y .small;
               passed = ap₂ (λ (i : ℕ) (s : List ℕ). faults runA checkAttribute (elements 1 i s)) from-is list-is ∙ list-ok at value asla-ok short plain;
             };

@@ -160,22 +160,24 @@ pub record Ready (run : List ℕ) (owns table have : List (List ℕ)) : Type 0 w
   pub ground : Ground owns table
   pub having : Having table owns have (owning owns)
 
--- A4. An attribute list that stands in run A and has passed its checks.
-pub record Listed (run list : List ℕ) (base : ℕ) : Type 0 where
-  pub inside : base + length list ≤ length run
-  pub small : length run < 65536
-  pub passed : faults runA checkAttribute (elements 1 base list) ≡ accepted
+-- The part of a run between two places.
+abbrev pub partOf : List ℕ → ℕ → ℕ → List ℕ
+partOf a from end = take (end - from) (drop from a)
+
+-- A4. An attribute list that stands in run A from one place to another, and has passed its checks.
+pub record Listed (a : List ℕ) (from end : ℕ) : Type 0 where
+  pub order : from ≤ end
+  pub inside : end ≤ length a
+  pub small : length a < 65536
+  pub passed : faults runA checkAttribute (elements 1 from (partOf a from end)) ≡ accepted
 
 -- W1. What the elements of run A give to a source.
 abbrev pub inRun : List ℕ → Source → List Attribute
 inRun a src = each (takes src) (elements 1 0 a)
 
--- The element at a position of run A, by its length byte; and the part of a run between two places.
+-- The element at a position of run A, by its length byte.
 abbrev pub hereIn : List ℕ → ℕ → Element
 hereIn a at = element at (getD a at 0) (bytesAt a (at + 2) (getD a (at + 1) 0))
-
-abbrev pub partOf : List ℕ → ℕ → ℕ → List ℕ
-partOf a from end = take (end - from) (drop from a)
 
 -- An element of run A that has passed its checks, from its position to its end.
 pub record Here (a : List ℕ) (at end : ℕ) : Type 0 where
@@ -190,8 +192,7 @@ Owning owns ds = (n : ℕ) → n < 128 → any (names n) ds ≡ true → owning 
 
 -- A2. The list of the ASLA at a position, from a place on, and who hears it.
 pub record Told (a : List ℕ) (at end from : ℕ) (h : Source → Bool) : Type 0 where
-  pub order : from ≤ end
-  pub listed : Listed a (partOf a from end) from
+  pub listed : Listed a from end
   pub gives : (w : Which) → selected w (hereIn a at) ≡ told h (each attributesOf (elements 1 from (partOf a from end))) (live w)
 
 -- A3, A7, A8. What the header of an ASLA says: nobody hears its list, all hear it, or those of two masks as sent do, whom it names.

@@ -11,7 +11,7 @@ ghost use Rattle.naming.specs.Names.{inBoth, Tells};
 ghost use Rattle.isis.specs.RunA.{checkA, attributesOf, aslaAdvertisements, sideA};
 ghost use Rattle.grids.specs.Slots.{cell, IsSet};
 ghost use Rattle.set_table.specs.Tables.{first, Table, Given, onlyAt, slotAt, inPair, Within, Owned, Gave};
-ghost use Rattle.isis_index.specs.Index.{owning, Right, Listed, attributeAt, Took, TookFor, Ready, fromLegacy, heardByAll, heard, takes, hereIn, Here, Ground, Owning, ReadAs, Gains, Empty, Walked};
+ghost use Rattle.isis_index.specs.Index.{owning, Right, Listed, attributeAt, Took, TookFor, Ready, fromLegacy, heardByAll, heard, takes, partOf, hereIn, Here, Ground, Owning, ReadAs, Gains, Empty, Walked};
 ghost use Rattle.isis_index.specs.Started.{Started};
 ghost use Rattle.isis_index.specs.Settled.{settled, Settled, fromOld, rsvpTeSlot};
 ghost use Rattle.isis_index.specs.Indexed.{Indexed};
@@ -90,15 +90,15 @@ fn enter_for(
     }
 }
 
-// The list of a general advertisement, whose first byte is at an offset of run A.
-fn general_list(a: &[u8], list: &[u8], base: usize, sets: &mut [[u32; 12]])
-    requires { ⌜ Table (now a) (now sets) × (3 ≤ length (now sets)) × Listed (now a) (now list) base ⌝ }
-    ensures { λ _. ⌜ Took (now (a .entry)) (now (sets .entry)) (now (sets .exit)) heardByAll (each attributesOf (elements 1 base (now (list .entry)))) ⌝ }
+// The list of a general advertisement, which stands in run A from one place to another.
+fn general_list(a: &[u8], from: usize, end: usize, sets: &mut [[u32; 12]])
+    requires { ⌜ Table (now a) (now sets) × (3 ≤ length (now sets)) × Listed (now a) from end ⌝ }
+    ensures { λ _. ⌜ Took (now (a .entry)) (now (sets .entry)) (now (sets .exit)) heardByAll (each attributesOf (elements 1 from (partOf (now (a .entry)) from end))) ⌝ }
 {
-    let mut at = 0;
-    while at < list.len() {
-        let n = list[at + 1] as usize;
-        enter_general(a, sets, list[at], base + at + 2, n);
+    let mut at = from;
+    while at < end {
+        let n = a[at + 1] as usize;
+        enter_general(a, sets, a[at], at + 2, n);
         at = at + 2 + n;
     }
 }
@@ -106,31 +106,21 @@ fn general_list(a: &[u8], list: &[u8], base: usize, sets: &mut [[u32; 12]])
 // The list of an advertisement with two masks as sent.
 fn named_list(
     a: &[u8],
-    list: &[u8],
-    base: usize,
+    from: usize,
+    end: usize,
     sets: &mut [[u32; 12]],
     own: &[[u8; 2]; 128],
     have: &mut [[u64; 2]; 10],
     standard: u64,
     user: u64,
 )
-    requires { ⌜ Ready (now a) (now own) (now sets) (now have) × Listed (now a) (now list) base × Within standard user (owning (now own)) ⌝ }
-    ensures { λ _. ⌜ TookFor (now (a .entry)) (now (own .entry)) (now (sets .entry)) (now (have .entry)) (now (sets .exit)) (now (have .exit)) (heard standard user) (each attributesOf (elements 1 base (now (list .entry)))) ⌝ }
+    requires { ⌜ Ready (now a) (now own) (now sets) (now have) × Listed (now a) from end × Within standard user (owning (now own)) ⌝ }
+    ensures { λ _. ⌜ TookFor (now (a .entry)) (now (own .entry)) (now (sets .entry)) (now (have .entry)) (now (sets .exit)) (now (have .exit)) (heard standard user) (each attributesOf (elements 1 from (partOf (now (a .entry)) from end))) ⌝ }
 {
-    let mut at = 0;
-    while at < list.len() {
-        let n = list[at + 1] as usize;
-        enter_for(
-            a,
-            sets,
-            own,
-            have,
-            list[at],
-            base + at + 2,
-            n,
-            standard,
-            user,
-        );
+    let mut at = from;
+    while at < end {
+        let n = a[at + 1] as usize;
+        enter_for(a, sets, own, have, a[at], at + 2, n, standard, user);
         at = at + 2 + n;
     }
 }
@@ -180,9 +170,9 @@ fn add_asla(
 {
     match read_asla(a, at, end) {
         Asla::Unread => (),
-        Asla::ForAll(from) => general_list(a, &a[from..end], from, sets),
+        Asla::ForAll(from) => general_list(a, from, end, sets),
         Asla::ForNamed(from, standard, user) => {
-            named_list(a, &a[from..end], from, sets, own, have, standard, user)
+            named_list(a, from, end, sets, own, have, standard, user)
         }
     }
 }

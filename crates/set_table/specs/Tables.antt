@@ -62,7 +62,7 @@ pub record Value (run : List ℕ) (place n : ℕ) : Type 0 where
 
 -- A row with a value in a cell, and its mark and size; and a table with such a row.
 abbrev pub enteredRow : List ℕ → ℕ → ℕ → ℕ → ℕ → List ℕ
-enteredRow row k c mark size = set (set (set row k c) 10 ((getD row 10 0 + mark) % 4294967296)) 11 (getD row 11 0 + size)
+enteredRow row k c mark size = set (set (set row 10 ((getD row 10 0 + mark) % 4294967296)) 11 (getD row 11 0 + size)) k c
 
 abbrev pub entered : List (List ℕ) → ℕ → ℕ → ℕ → ℕ → ℕ → List (List ℕ)
 entered sets s k c mark size = set sets s (enteredRow (getD sets s []) k c mark size)

@@ -78,9 +78,9 @@ fn enter_row(row: &mut [u32; 12], k: usize, cell: u32, mark: u32, size: u32)
 {
     let m = row[10];
     let z = row[11];
-    row[k] = cell;
     row[10] = join_marks(m, mark);
     row[11] = z + size;
+    row[k] = cell;
 }
 
 // The same for a slot.
