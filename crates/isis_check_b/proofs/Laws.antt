@@ -2,6 +2,7 @@
 use mathlib.Core.Path.{_≡_, refl, sym, ap, _∙_, subst}
 use mathlib.Core.Bool.{Bool, true, false, cond, _&&_, _||_, not}
 use mathlib.Core.List.{List, [], _∷_, map}
+use mathlib.Core.Logic.{_⊎_, inl, inr}
 use Prim.Native.Nat.{ℕ, zero, suc, pred, _+_, _*_, _/_, _%_, _≤_, _<_}
 use native.Mathlib.Omega.{arith}
 use native.Mathlib.Nat.{zero-add}
@@ -58,6 +59,11 @@ module _ (t n : ℕ) (k : Known) (is : k ≡ knownOf t) where
 
   pub identifier-right : n ≡ k .length → wrongIdentifier t n ≡ false
   identifier-right e = by-known n t ∙ rw (sym is, eq-eqb n (k .length) e) (and-false (not (eqb (k .weight) 0)))
+
+  -- one of two ways led here
+  pub identifier-fits : {A B : Type 0} → A ⊎ B → (A → n ≡ k .length) → (B → k .weight ≡ 0) → wrongIdentifier t n ≡ false
+  identifier-fits (inl x) f g = identifier-right (f x)
+  identifier-fits (inr x) f g = identifier-unknown (g x)
 
   pub identifier-wrong : (k .weight ≡ 0 → ⊥) → (n ≡ k .length → ⊥) → wrongIdentifier t n ≡ true
   identifier-wrong e f = by-known n t ∙ rw (sym is, ne-eqb (k .weight) 0 e, ne-eqb n (k .length) f)
@@ -198,11 +204,13 @@ module _ (s : List ℕ) (at : ℕ) where
         ∙ ap (λ (q : Known). q .weight + tallyOf (left 1 0 s (at + 2 + n))) (sym is)
 
     -- the length of this identifier
-    identifier-check : (b : Bool) → wrongIdentifier (getD s at 0) n ≡ b → checkIdentifier at (getD s at 0) (bytesAt s (at + 2) n) ≡ cond b (fault 4 runB at) accepted
+    identifier-check : (b : Bool) → wrongIdentifier (getD s at 0) n ≡ b
+        → checkIdentifier at (getD s at 0) (bytesAt s (at + 2) n) ≡ cond b (fault 4 runB at) accepted
     unfolding checkIdentifier wrongIdentifier
     identifier-check b w = rw (value-length 1 s at _ n f, w)
 
-    pub identifier-on : wrongIdentifier (getD s at 0) n ≡ false → faults runB checkIdentifier (left 1 0 s (at + 2 + n)) ≡ faults runB checkIdentifier (left 1 0 s at)
+    pub identifier-on : wrongIdentifier (getD s at 0) n ≡ false
+        → faults runB checkIdentifier (left 1 0 s (at + 2 + n)) ≡ faults runB checkIdentifier (left 1 0 s at)
     identifier-on w = turn-passed runB checkIdentifier 1 (omega arith) 0 s at at (sym (zero-add at)) _ n f (identifier-check false w)
 
     pub identifier-stop : wrongIdentifier (getD s at 0) n ≡ true → fault 4 runB at ≡ faults runB checkIdentifier (left 1 0 s at)

@@ -68,7 +68,8 @@ module _ (b : List ℕ) (l : Bool) (from to end at : ℕ) (w : Within b l from t
       let i : from ≡ at + 2 + 7 + headerLength v + 1 = omega (arith, w .list) in
       let j : from ≡ at + 9 + (headerLength v + 1) = omega (arith, w .list) in
       let k : to - from ≡ identifierBytes v = omega (arith, w .values) in
-      let p : drop from (take (to - 0) b) ≡ take (to - from) (drop from b) = ap (drop from) (front-is b to (lent-within .1)) ∙ sym (part-in b to (lent-within .1) from (lent-within .0)) in
+      let p : drop from (take (to - 0) b) ≡ take (to - from) (drop from b)
+      = ap (drop from) (front-is b to (lent-within .1)) ∙ sym (part-in b to (lent-within .1) from (lent-within .0)) in
       let q : take (to - from) (drop from b) ≡ take (to - from) (drop from (take end b))
       = sym (part-of-part b end (w .inside) from (omega (arith, lent-within .0, w .fits)) (to - from) (omega (arith, lent-within .0, w .fits))) in
       let r : drop from (take end b) ≡ drop (headerLength v + 1) v = ap (λ (o : ℕ). drop o (take end b)) j ∙ sym (drop-drop (headerLength v + 1) (at + 9) (take end b)) in

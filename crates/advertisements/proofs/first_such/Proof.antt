@@ -37,7 +37,8 @@ enum-told c = search needs
 returns : tie.Need-returns Inv-loop μ-loop
 returns c = let l = c .before .before .before in
     let a = l .before .before .before .args in
-    found-end (a .run) (suchIn (a .run) (a .test) (a .kind)) (widthOf (a .run)) (some-width (a .run)) _ _ (sym (c .before .before .frame-of .ensures) ∙ c .enum-told .given .1) ∙ l .loop .inv .1
+    let e = sym (c .before .before .frame-of .ensures) ∙ c .enum-told .given .1 in
+    found-end (a .run) (suchIn (a .run) (a .test) (a .kind)) (widthOf (a .run)) (some-width (a .run)) _ _ e ∙ l .loop .inv .1
 
 enum-told-2 : tie.Need-enum-told-2 Inv-loop μ-loop
 enum-told-2 c = search needs
@@ -45,20 +46,23 @@ enum-told-2 c = search needs
 returns-2 : tie.Need-returns-2 Inv-loop μ-loop
 returns-2 c = let l = c .before .before .before in
     let a = l .before .before .before .args in
-    found-cut (a .run) (suchIn (a .run) (a .test) (a .kind)) (widthOf (a .run)) (some-width (a .run)) _ _ (sym (c .before .before .frame-of .ensures) ∙ c .enum-told2 .given .1)
-    (such-cut (a .run) (a .test) (a .kind) _) ∙ l .loop .inv .1
+    let e = sym (c .before .before .frame-of .ensures) ∙ c .enum-told2 .given .1 in
+    found-cut (a .run) (suchIn (a .run) (a .test) (a .kind)) (widthOf (a .run)) (some-width (a .run)) _ _ e (such-cut (a .run) (a .test) (a .kind) _)
+    ∙ l .loop .inv .1
 
 enum-known-own : tie.Need-enum-known-own Inv-loop μ-loop
 enum-known-own c = search needs
 
 -- the element is whole
 whole : (k : tie.After-known-told Inv-loop μ-loop) → let l = k .before .before .before .before in
-    let a = l .before .before .before .args in IsWhole (widthOf (a .run)) (now (a .s)) (l .loop .at) (k .before .own .given .0 .0) (k .before .own .given .0 .1 .0)
+    let a = l .before .before .before .args in
+    IsWhole (widthOf (a .run)) (now (a .s)) (l .loop .at) (k .before .own .given .0 .0) (k .before .own .given .0 .1 .0)
 whole k = is-whole _ _ _ _ _ (sym (k .before .before .before .frame-of .ensures) ∙ k .before .own .given .1)
 
 -- it lies within the list, and has a header
 within : (k : tie.After-known-told Inv-loop μ-loop) → let l = k .before .before .before .before in
-    (l .loop .at + l .before .header-of .result + k .before .own .given .0 .1 .0 ≤ length (now (l .before .before .before .args .s))) × (0 < l .before .header-of .result)
+    let h = l .before .header-of .result in
+    (l .loop .at + h + k .before .own .given .0 .1 .0 ≤ length (now (l .before .before .before .args .s))) × (0 < h)
 within k = let l = k .before .before .before .before in
     (omega (arith, whole k, l .before .header-of .ensures), omega (arith, some-width (l .before .before .before .args .run), l .before .header-of .ensures))
 
@@ -84,8 +88,8 @@ returns-3 : tie.Need-returns-3 Inv-loop μ-loop
 returns-3 c = let k = c .before .before .before in
     let l = k .before .before .before .before in
     let a = l .before .before .before .args in
-    found-here (a .run) (suchIn (a .run) (a .test) (a .kind)) (widthOf (a .run)) (some-width (a .run)) _ (l .loop .at) _ _ (whole k) _ (l .before .header-of .ensures)
-    _ (c .before .is-such .ensures (l .loop .at)) (c .if1 .taken) ∙ l .loop .inv .1
+    found-here (a .run) (suchIn (a .run) (a .test) (a .kind)) (widthOf (a .run)) (some-width (a .run)) _ (l .loop .at) _ _ (whole k)
+    _ (l .before .header-of .ensures) _ (c .before .is-such .ensures (l .loop .at)) (c .if1 .taken) ∙ l .loop .inv .1
 
 loop-less : tie.Need-loop-less Inv-loop μ-loop
 loop-less c = let w = within (c .before .before .before) in omega (arith, w .0, w .1)
@@ -95,8 +99,8 @@ loop-again c = let k = c .before .before .before in
     let l = k .before .before .before .before in
     let a = l .before .before .before .args in (
       within k .0,
-      found-later (a .run) (suchIn (a .run) (a .test) (a .kind)) (widthOf (a .run)) (some-width (a .run)) _ (l .loop .at) _ _ (whole k) _ (l .before .header-of .ensures)
-          _ (c .before .is-such .ensures (l .loop .at)) (c .if1 .left) ∙ l .loop .inv .1,
+      found-later (a .run) (suchIn (a .run) (a .test) (a .kind)) (widthOf (a .run)) (some-width (a .run)) _ (l .loop .at) _ _ (whole k)
+          _ (l .before .header-of .ensures) _ (c .before .is-such .ensures (l .loop .at)) (c .if1 .left) ∙ l .loop .inv .1,
     )
 
 pub first-such-spec : {M : Type 1} → statement M

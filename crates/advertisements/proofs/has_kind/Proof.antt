@@ -38,7 +38,8 @@ enum-told c = search needs
 returns : tie.Need-returns Inv-loop μ-loop
 returns c = let l = c .before .before .before in
     let a = l .before .before .before .args in
-    some-end (a .run) (isOf (a .kind)) (widthOf (a .run)) (some-width (a .run)) _ _ (sym (c .before .before .frame-of .ensures) ∙ c .enum-told .given .1) ∙ l .loop .inv .1
+    let e = sym (c .before .before .frame-of .ensures) ∙ c .enum-told .given .1 in
+    some-end (a .run) (isOf (a .kind)) (widthOf (a .run)) (some-width (a .run)) _ _ e ∙ l .loop .inv .1
 
 enum-told-2 : tie.Need-enum-told-2 Inv-loop μ-loop
 enum-told-2 c = search needs
@@ -46,19 +47,22 @@ enum-told-2 c = search needs
 returns-2 : tie.Need-returns-2 Inv-loop μ-loop
 returns-2 c = let l = c .before .before .before in
     let a = l .before .before .before .args in
-    some-cut (a .run) (isOf (a .kind)) (widthOf (a .run)) (some-width (a .run)) _ _ (sym (c .before .before .frame-of .ensures) ∙ c .enum-told2 .given .1) (of-cut (a .kind) _) ∙ l .loop .inv .1
+    let e = sym (c .before .before .frame-of .ensures) ∙ c .enum-told2 .given .1 in
+    some-cut (a .run) (isOf (a .kind)) (widthOf (a .run)) (some-width (a .run)) _ _ e (of-cut (a .kind) _) ∙ l .loop .inv .1
 
 enum-known-own : tie.Need-enum-known-own Inv-loop μ-loop
 enum-known-own c = search needs
 
 -- the element is whole
 whole : (k : tie.After-known-told Inv-loop μ-loop) → let l = k .before .before .before .before in
-    let a = l .before .before .before .args in IsWhole (widthOf (a .run)) (now (a .s)) (l .loop .at) (k .before .own .given .0 .0) (k .before .own .given .0 .1 .0)
+    let a = l .before .before .before .args in
+    IsWhole (widthOf (a .run)) (now (a .s)) (l .loop .at) (k .before .own .given .0 .0) (k .before .own .given .0 .1 .0)
 whole k = is-whole _ _ _ _ _ (sym (k .before .before .before .frame-of .ensures) ∙ k .before .own .given .1)
 
 -- it lies within the list, and has a header
 within : (k : tie.After-known-told Inv-loop μ-loop) → let l = k .before .before .before .before in
-    (l .loop .at + l .before .header-of .result + k .before .own .given .0 .1 .0 ≤ length (now (l .before .before .before .args .s))) × (0 < l .before .header-of .result)
+    let h = l .before .header-of .result in
+    (l .loop .at + h + k .before .own .given .0 .1 .0 ≤ length (now (l .before .before .before .args .s))) × (0 < h)
 within k = let l = k .before .before .before .before in
     (omega (arith, whole k, l .before .header-of .ensures), omega (arith, some-width (l .before .before .before .args .run), l .before .header-of .ensures))
 

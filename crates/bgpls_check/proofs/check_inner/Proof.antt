@@ -36,7 +36,8 @@ returns : tie.Need-returns Inv-loop μ-loop
 returns c =
     let l = c .before .before .before in
     let a = l .before .before .args in
-    turn-end runBgpLs checkInner 2 (omega arith) (a .base) (now (a .s)) (l .loop .at) (sym (c .before .before .frame-two .ensures) ∙ c .enum-told .given .1) ∙ l .loop .inv .1
+    let e = sym (c .before .before .frame-two .ensures) ∙ c .enum-told .given .1 in
+    turn-end runBgpLs checkInner 2 (omega arith) (a .base) (now (a .s)) (l .loop .at) e ∙ l .loop .inv .1
 
 enum-told-2 : tie.Need-enum-told-2 Inv-loop μ-loop
 enum-told-2 c = search needs
@@ -48,9 +49,8 @@ returns-2 : tie.Need-returns-2 Inv-loop μ-loop
 returns-2 c =
     let l = c .before .before .before .before in
     let a = l .before .before .args in
-    c .refuse .ensures
-    ∙ turn-cut runBgpLs checkInner 2 (omega arith) (a .base) (now (a .s)) (l .loop .at) _ refl (sym (c .before .before .before .frame-two .ensures) ∙ c .before .enum-told2 .given .1)
-    ∙ l .loop .inv .1
+    let e = sym (c .before .before .before .frame-two .ensures) ∙ c .before .enum-told2 .given .1 in
+    c .refuse .ensures ∙ turn-cut runBgpLs checkInner 2 (omega arith) (a .base) (now (a .s)) (l .loop .at) _ refl e ∙ l .loop .inv .1
 
 enum-known-kind : tie.Need-enum-known-kind Inv-loop μ-loop
 enum-known-kind c = search needs
@@ -69,7 +69,8 @@ refuse-requires-2 c κs = search needs
 returns-3 : tie.Need-returns-3 Inv-loop μ-loop
 returns-3 c =
     let k = c .before .before .before in
-    c .refuse2 .ensures ∙ inner-stop _ _ _ _ _ (whole k) (sym (c .before .before .wrong-inside .ensures) ∙ c .before .if1 .taken) ∙ k .before .before .before .before .loop .inv .1
+    let e = sym (c .before .before .wrong-inside .ensures) ∙ c .before .if1 .taken in
+    c .refuse2 .ensures ∙ inner-stop _ _ _ _ _ (whole k) e ∙ k .before .before .before .before .loop .inv .1
 
 add-at : tie.Need-add-at Inv-loop μ-loop
 add-at c = let f = whole (c .before .before) in omega arith

@@ -54,9 +54,8 @@ refuse-requires c κs = search needs
 returns-3 : tie.Need-returns-3 Inv-loop μ-loop
 returns-3 c =
     let l = c .before .before .before .before in
-    c .refuse .ensures
-    ∙ turn-cut runBgpLs checkTop 2 (omega arith) 0 _ (l .loop .at) _ (omega arith) (sym (c .before .before .before .frame-two .ensures) ∙ c .before .enum-told2 .given .1)
-    ∙ l .loop .inv .2
+    let e = sym (c .before .before .before .frame-two .ensures) ∙ c .before .enum-told2 .given .1 in
+    c .refuse .ensures ∙ turn-cut runBgpLs checkTop 2 (omega arith) 0 _ (l .loop .at) _ (omega arith) e ∙ l .loop .inv .2
 
 enum-known-kind : tie.Need-enum-known-kind Inv-loop μ-loop
 enum-known-kind c = search needs
@@ -101,7 +100,8 @@ loop-again c =
       whole k .within,
       l .loop .inv .1,
       turn-passed runBgpLs checkTop 2 (omega arith) 0 _ (l .loop .at) (l .loop .at) (omega arith) _ _ (whole k)
-          (ap (checkTop (l .loop .at) _) (sym (part-is _ (l .loop .at + 4) _)) ∙ sym (c .before .before .check-top .ensures) ∙ ap toldChecked (c .enum-told3 .given .1))
+          (ap (checkTop (l .loop .at) _) (sym (part-is _ (l .loop .at + 4) _))
+          ∙ sym (c .before .before .check-top .ensures) ∙ ap toldChecked (c .enum-told3 .given .1))
           ∙ l .loop .inv .2,
     )
 
@@ -113,7 +113,8 @@ returns-4 c =
     let k = c .before .before .before .before .before in
     let l = k .before .before .before .before in
     turn-refused runBgpLs checkTop 2 (omega arith) 0 _ (l .loop .at) (l .loop .at) (omega arith) _ _ (whole k) (toldRefusal (c .before .x .given .0 .0))
-    (ap (checkTop (l .loop .at) _) (sym (part-is _ (l .loop .at + 4) _)) ∙ sym (c .before .before .before .check-top .ensures) ∙ ap toldChecked (c .before .x .given .1))
+    (ap (checkTop (l .loop .at) _) (sym (part-is _ (l .loop .at + 4) _))
+    ∙ sym (c .before .before .before .check-top .ensures) ∙ ap toldChecked (c .before .x .given .1))
     ∙ l .loop .inv .2
 
 pub check-run-spec : {M : Type 1} → statement M

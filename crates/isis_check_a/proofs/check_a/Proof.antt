@@ -45,7 +45,8 @@ refuse-requires c κs = search needs
 returns-2 : tie.Need-returns-2 Inv-loop μ-loop
 unfolding sideA
 returns-2 c = let l = c .before .before .before .before in
-    checks-as (walked-cut runA checkA aslaAdvertisements _ _ _ (l .loop .inv .1) (sym (c .before .before .before .frame-one .ensures) ∙ c .before .enum-told2 .given .1)) (c .refuse .ensures .0 _)
+    let e = sym (c .before .before .before .frame-one .ensures) ∙ c .before .enum-told2 .given .1 in
+    checks-as (walked-cut runA checkA aslaAdvertisements _ _ _ (l .loop .inv .1) e) (c .refuse .ensures .0 _)
 
 enum-known-len : tie.Need-enum-known-len Inv-loop μ-loop
 enum-known-len c = search needs
@@ -92,28 +93,28 @@ refuse-requires-2 c κs = search needs
 returns-4 : tie.Need-returns-4 Inv-loop μ-loop
 unfolding sideA
 returns-4 c = let k = c .before .before .before .before .before .before in
-    checks-as
-    (legacy-wrong _ _ _ (k .before .before .before .before .loop .inv .1) _ (whole k) (λ e. omega (arith, e)) (sym (c .before .before .wrong-length .ensures) ∙ c .before .if2 .taken))
-    (c .refuse2 .ensures .0 _)
+    let e = sym (c .before .before .wrong-length .ensures) ∙ c .before .if2 .taken in
+    checks-as (legacy-wrong _ _ _ (k .before .before .before .before .loop .inv .1) _ (whole k) (λ i. omega (arith, i)) e) (c .refuse2 .ensures .0 _)
 
 loop-less : tie.Need-loop-less Inv-loop μ-loop
 loop-less c = let f = whole (c .before .before .before .before .before .before) in omega arith
 
 loop-again : tie.Need-loop-again Inv-loop μ-loop
 loop-again c = let k = c .before .before .before .before .before .before in (
-      whole k .within,
-      walked-on runA checkA aslaAdvertisements _ _ _ (k .before .before .before .before .loop .inv .1) _ (whole k) _
-          (asla-checks _ _ _ _ _ (omega arith) (c .before .before .before .check-asla .ensures)) _ (c .before .all .given .1),
-    )
+  whole k .within,
+  walked-on runA checkA aslaAdvertisements _ _ _ (k .before .before .before .before .loop .inv .1) _ (whole k) _
+      (asla-checks _ _ _ _ _ (omega arith) (c .before .before .before .check-asla .ensures)) _ (c .before .all .given .1),
+)
 
 loop-less-2 : tie.Need-loop-less-2 Inv-loop μ-loop
 loop-less-2 c = let f = whole (c .before .before .before .before .before) in omega arith
 
 loop-again-2 : tie.Need-loop-again-2 Inv-loop μ-loop
 loop-again-2 c = let k = c .before .before .before .before .before in (
-      whole k .within,
-      legacy-over _ _ _ (k .before .before .before .before .loop .inv .1) _ (whole k) (λ e. omega (arith, e)) (sym (c .before .wrong-length .ensures) ∙ c .if2 .left),
-    )
+  whole k .within,
+  legacy-over _ _ _ (k .before .before .before .before .loop .inv .1) _ (whole k) (λ e. omega (arith, e))
+      (sym (c .before .wrong-length .ensures) ∙ c .if2 .left),
+)
 
 pub check-a-spec : {M : Type 1} → statement M
 check-a-spec =

@@ -72,14 +72,15 @@ names-with-requires c κs = let q = c .before .before .before .before .before .b
 returns-4 : tie.Need-returns-4
 returns-4 c = let k = c .before .before in
     let q = k .before .before .before .before .before .before .before .before in
-    flagged-in _ _ _ (q .pre .1) (omega arith) _ (k .before .before .before .before .read-header .ensures .0) _
-    (sym (k .before .before .before .masks-within .ensures) ∙ k .before .list .given .1) _ _ (c .before .names-with .ensures) (c .if2 .taken)
+    let e = sym (k .before .before .before .masks-within .ensures) ∙ k .before .list .given .1 in
+    flagged-in _ _ _ (q .pre .1) (omega arith) _ (k .before .before .before .before .read-header .ensures .0) _ e _ _ (c .before .names-with .ensures) (c .if2 .taken)
 
 -- the list begins within the ASLA
 begins : (k : tie.After-known-told) → let a = k .before .before .before .before .before .before .before .before .args in
     a .at + 2 + k .before .list .given .0 .0 ≤ a .end
 begins k = let q = k .before .before .before .before .before .before .before .before in
-    list-in _ _ _ (q .pre .1) (omega arith) _ (k .before .before .before .before .read-header .ensures .0) _ (sym (k .before .before .before .masks-within .ensures) ∙ k .before .list .given .1)
+    let e = sym (k .before .before .before .masks-within .ensures) ∙ k .before .list .given .1 in
+    list-in _ _ _ (q .pre .1) (omega arith) _ (k .before .before .before .before .read-header .ensures .0) _ e
 
 sub-check-list : tie.Need-sub-check-list
 sub-check-list c = search needs
@@ -104,8 +105,10 @@ enum-known-r c = search needs
 returns-5 : tie.Need-returns-5
 returns-5 c = let k = c .before .before .before .before .before .before .before in
     let q = k .before .before .before .before .before .before .before .before in
-    refused-in _ _ _ (q .pre .1) (omega arith) _ (k .before .before .before .before .read-header .ensures .0) _ (sym (k .before .before .before .masks-within .ensures) ∙ k .before .list .given .1) _ _
-    (c .before .before .before .before .before .before .names-with .ensures) (c .before .before .before .before .before .if2 .left) _ (c .before .before .before .check-list .ensures) _ (c .before .r .given .1)
+    let e = sym (k .before .before .before .masks-within .ensures) ∙ k .before .list .given .1 in
+    refused-in _ _ _ (q .pre .1) (omega arith) _ (k .before .before .before .before .read-header .ensures .0) _ e _ _
+    (c .before .before .before .before .before .before .names-with .ensures) (c .before .before .before .before .before .if2 .left)
+    _ (c .before .before .before .check-list .ensures) _ (c .before .r .given .1)
 
 enum-told-3 : tie.Need-enum-told-3
 enum-told-3 c = search needs
@@ -113,8 +116,10 @@ enum-told-3 c = search needs
 returns-6 : tie.Need-returns-6
 returns-6 c = let k = c .before .before .before .before .before .before in
     let q = k .before .before .before .before .before .before .before .before in
-    listed-in _ _ _ (q .pre .1) (omega arith) _ (k .before .before .before .before .read-header .ensures .0) _ (sym (k .before .before .before .masks-within .ensures) ∙ k .before .list .given .1) _ _
-    (c .before .before .before .before .before .names-with .ensures) (c .before .before .before .before .if2 .left) _ (c .before .before .check-list .ensures) (c .enum-told3 .given .1)
+    let e = sym (k .before .before .before .masks-within .ensures) ∙ k .before .list .given .1 in
+    listed-in _ _ _ (q .pre .1) (omega arith) _ (k .before .before .before .before .read-header .ensures .0) _ e _ _
+    (c .before .before .before .before .before .names-with .ensures) (c .before .before .before .before .if2 .left)
+    _ (c .before .before .check-list .ensures) (c .enum-told3 .given .1)
 
 pub check-asla-spec : {M : Type 1} → statement M
 check-asla-spec =

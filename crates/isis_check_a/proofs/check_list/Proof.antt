@@ -44,9 +44,8 @@ refused-requires c κs = search needs
 returns-2 : tie.Need-returns-2 Inv-loop μ-loop
 returns-2 c =
     let l = c .before .before .before .before in
-    c .refused .ensures
-    ∙ turn-cut runA checkAttribute 1 (omega arith) 0 _ _ _ (sym (zero-add (l .loop .at))) (sym (c .before .before .before .frame-one .ensures) ∙ c .before .enum-told2 .given .1)
-    ∙ l .loop .inv .1
+    let e = sym (c .before .before .before .frame-one .ensures) ∙ c .before .enum-told2 .given .1 in
+    c .refused .ensures ∙ turn-cut runA checkAttribute 1 (omega arith) 0 _ _ _ (sym (zero-add (l .loop .at))) e ∙ l .loop .inv .1
 
 enum-known-len : tie.Need-enum-known-len Inv-loop μ-loop
 enum-known-len c = search needs
@@ -68,7 +67,8 @@ refused-requires-2 c κs = search needs
 returns-3 : tie.Need-returns-3 Inv-loop μ-loop
 returns-3 c =
     let k = c .before .before .before .before in
-    c .refused2 .ensures ∙ list-wrong _ _ _ (whole k) (sym (c .before .before .wrong-length .ensures) ∙ c .before .if1 .taken) ∙ k .before .before .before .before .loop .inv .1
+    let e = sym (c .before .before .wrong-length .ensures) ∙ c .before .if1 .taken in
+    c .refused2 .ensures ∙ list-wrong _ _ _ (whole k) e ∙ k .before .before .before .before .loop .inv .1
 
 add-at : tie.Need-add-at Inv-loop μ-loop
 add-at c = let f = whole (c .before .before .before) in omega arith

@@ -46,7 +46,8 @@ refuse-requires c κs = search needs
 returns-2 : tie.Need-returns-2 Inv-loop μ-loop
 unfolding sideB
 returns-2 c = λ d. let l = c .before .before .before .before in
-    checks-as (walked-cut runB checkB srlgAdvertisements _ _ _ (l .loop .inv .1) (sym (c .before .before .before .frame-one .ensures) ∙ c .before .enum-told2 .given .1)) (c .refuse .ensures .0 _)
+    let e = sym (c .before .before .before .frame-one .ensures) ∙ c .before .enum-told2 .given .1 in
+    checks-as (walked-cut runB checkB srlgAdvertisements _ _ _ (l .loop .inv .1) e) (c .refuse .ensures .0 _)
 
 enum-known-len : tie.Need-enum-known-len Inv-loop μ-loop
 enum-known-len c = search needs
@@ -86,20 +87,20 @@ loop-less c = let f = whole (c .before .before .before .before .before .before) 
 
 loop-again : tie.Need-loop-again Inv-loop μ-loop
 loop-again c = let k = c .before .before .before .before .before .before in (
-      whole k .within,
-      walked-on runB checkB srlgAdvertisements _ _ _ (k .before .before .before .before .loop .inv .1) _ (whole k) _
-          (tlv-checks _ _ _ _ _ (omega arith) (c .before .before .before .check-tlv .ensures)) _ (c .before .all .given .1),
-    )
+  whole k .within,
+  walked-on runB checkB srlgAdvertisements _ _ _ (k .before .before .before .before .loop .inv .1) _ (whole k) _
+      (tlv-checks _ _ _ _ _ (omega arith) (c .before .before .before .check-tlv .ensures)) _ (c .before .all .given .1),
+)
 
 loop-less-2 : tie.Need-loop-less-2 Inv-loop μ-loop
 loop-less-2 c = let f = whole (c .before .before) in omega arith
 
 loop-again-2 : tie.Need-loop-again-2 Inv-loop μ-loop
 loop-again-2 c = let k = c .before .before in (
-      whole k .within,
-      walked-over runB checkB srlgAdvertisements _ _ _ (k .before .before .before .before .loop .inv .1) _ (whole k)
-          (tlv-other _ _ _ (λ e. omega (arith, e))) (other-nobody _ _ _ (λ e. omega (arith, e))),
-    )
+  whole k .within,
+  walked-over runB checkB srlgAdvertisements _ _ _ (k .before .before .before .before .loop .inv .1) _ (whole k)
+      (tlv-other _ _ _ (λ e. omega (arith, e))) (other-nobody _ _ _ (λ e. omega (arith, e))),
+)
 
 pub check-b-spec : {M : Type 1} → statement M
 check-b-spec =

@@ -1,6 +1,5 @@
 -- The invariant: what is left decides, and the tally so far and that of what is left sum up.
 use mathlib.Core.Path.{_≡_, sym, ap, _∙_}
-use mathlib.Core.Logic.{⊎-elim}
 use Prim.Native.Nat.{ℕ, _≤_, _+_, _-_}
 use native.Mathlib.Omega.{arith}
 use native.Mathlib.Nat.{zero-add}
@@ -13,13 +12,15 @@ use Rattle.linkstate.proofs.WalkLaws.{left}
 use Rattle.frames.proofs.Laws.{IsWhole, is-whole-one, from-place, turn-end, turn-cut}
 use Rattle.isis.specs.RunB.{checkIdentifier}
 use Rattle.isis_check_b.specs.Identifiers.{tallyOf, identifiersIn}
-use Rattle.isis_check_b.proofs.Laws.{tally-end, tally-turn, tally-fits, identifier-on, identifier-stop, identifier-wrong, identifier-unknown, identifier-right}
+use Rattle.isis_check_b.proofs.Laws.{tally-end, tally-turn, tally-fits, identifier-on, identifier-stop}
+use Rattle.isis_check_b.proofs.Laws.{identifier-wrong, identifier-fits}
 use Rattle.isis_check_b.proofs.read_identifiers.Statement.{statement}
 use Rattle.isis_check_b.proofs.read_identifiers.Tie as tie
 
 abbrev Inv-loop : tie.InvT-loop
 Inv-loop s from tally₀ at₀ tally at =
-    (at ≤ length s) × (faults runB checkIdentifier (left 1 0 s at) ≡ faults runB checkIdentifier (identifiersIn s from)) × (tally + tallyOf (left 1 0 s at) ≡ tallyOf (identifiersIn s from))
+    (at ≤ length s) × (faults runB checkIdentifier (left 1 0 s at) ≡ faults runB checkIdentifier (identifiersIn s from))
+    × (tally + tallyOf (left 1 0 s at) ≡ tallyOf (identifiersIn s from))
 
 abbrev μ-loop : tie.MeasureT-loop
 μ-loop s from tally₀ at₀ tally at = length s - at
@@ -51,11 +52,9 @@ refuse-at-requires c κs = search needs
 returns-2 : tie.Need-returns-2 Inv-loop μ-loop
 unfolding fault
 returns-2 c = let l = c .before .before .before .before in
+    let e = sym (c .before .before .before .frame-one .ensures) ∙ c .before .enum-told2 .given .1 in
     record {
-      told =
-          ap refused (c .refuse-at .ensures)
-          ∙ turn-cut runB checkIdentifier 1 (omega arith) 0 _ _ _ (sym (zero-add (l .loop .at))) (sym (c .before .before .before .frame-one .ensures) ∙ c .before .enum-told2 .given .1)
-          ∙ l .loop .inv .1;
+      told = ap refused (c .refuse-at .ensures) ∙ turn-cut runB checkIdentifier 1 (omega arith) 0 _ _ _ (sym (zero-add (l .loop .at))) e ∙ l .loop .inv .1;
       tally = tt;
     }
 
@@ -115,7 +114,7 @@ loop-again c = let w = c .before .before in
     let l = k .before .before .before .before in
     let known = w .before .known-identifier .ensures in (
       whole k .within,
-      identifier-on _ _ _ (whole k) (⊎-elim (λ x. identifier-right _ _ _ known (x .2 .left)) (λ x. identifier-unknown _ _ _ known (x .left)) (c .before .if1 .came)) ∙ l .loop .inv .1,
+      identifier-on _ _ _ (whole k) (identifier-fits _ _ _ known (c .before .if1 .came) (λ x. x .2 .left) (λ x. x .left)) ∙ l .loop .inv .1,
       omega (arith, l .loop .inv .2, weighed w),
     )
 

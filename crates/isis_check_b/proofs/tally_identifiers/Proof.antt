@@ -30,14 +30,16 @@ enum-told c = search needs
 
 returns : tie.Need-returns Inv-loop μ-loop
 returns c = let l = c .before .before .before in
-    omega (arith, l .loop .inv .1, tally-end (now (l .before .before .args .s)) (l .loop .at) (sym (c .before .before .frame-one .ensures) ∙ c .enum-told .given .1))
+    let e = sym (c .before .before .frame-one .ensures) ∙ c .enum-told .given .1 in
+    omega (arith, l .loop .inv .1, tally-end (now (l .before .before .args .s)) (l .loop .at) e)
 
 enum-told-2 : tie.Need-enum-told-2 Inv-loop μ-loop
 enum-told-2 c = search needs
 
 returns-2 : tie.Need-returns-2 Inv-loop μ-loop
 returns-2 c = let l = c .before .before .before in
-    omega (arith, l .loop .inv .1, tally-past (now (l .before .before .args .s)) (l .loop .at) (sym (c .before .before .frame-one .ensures) ∙ c .enum-told2 .given .1))
+    let e = sym (c .before .before .frame-one .ensures) ∙ c .enum-told2 .given .1 in
+    omega (arith, l .loop .inv .1, tally-past (now (l .before .before .args .s)) (l .loop .at) e)
 
 enum-known-len : tie.Need-enum-known-len Inv-loop μ-loop
 enum-known-len c = search needs
