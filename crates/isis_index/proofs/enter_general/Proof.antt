@@ -65,14 +65,17 @@ returns-3 c = let s = c .before .before .before .before .before .before .before 
     λ v. took-only (now (a .a)) (now (a .sets)) _ heardByAll (a .t) (a .place) (a .n) v 0 _ (omega arith) (r .0) (r .1) (λ owns x w. general-grid owns (codeOfType (a .t)) (cellOf (a .place) (a .n)) _ (k .0) (k .1) x w)
 
 returns-4 : tie.Need-returns-4
-returns-4 c = let a = c .before .before .before .before .args in absurd (kind-read (a .t) _ _ (c .before .before .classify-type .ensures) (c .enum-told .given .1))
+returns-4 c = let a = c .before .before .before .before .args in
+    absurd (kind-read (a .t) _ _ (c .before .before .classify-type .ensures) (c .enum-told .given .1))
 
 returns-5 : tie.Need-returns-5
-returns-5 c = let s = c .before .before .before .before in let a = s .args in let k = kind-read (a .t) _ _ (c .before .before .classify-type .ensures) (c .enum-told2 .given .1) in
+returns-5 c = let s = c .before .before .before .before in let a = s .args in
+    let k = kind-read (a .t) _ _ (c .before .before .classify-type .ensures) (c .enum-told2 .given .1) in
     λ v. took-none (now (a .a)) (now (a .sets)) heardByAll (a .t) (a .place) (a .n) v (s .pre .0) (λ owns x w. nothing owns (codeOfType (a .t)) (cellOf (a .place) (a .n)) heardByAll k x w)
 
 returns-6 : tie.Need-returns-6
-returns-6 c = let s = c .before .before .before .before in let a = s .args in let k = kind-read (a .t) _ _ (c .before .before .classify-type .ensures) (c .enum-told3 .given .1) in
+returns-6 c = let s = c .before .before .before .before in let a = s .args in
+    let k = kind-read (a .t) _ _ (c .before .before .classify-type .ensures) (c .enum-told3 .given .1) in
     λ v. took-none (now (a .a)) (now (a .sets)) heardByAll (a .t) (a .place) (a .n) v (s .pre .0) (λ owns x w. nothing owns (codeOfType (a .t)) (cellOf (a .place) (a .n)) heardByAll k x w)
 
 pub enter-general-spec : {M : Type 1} → statement M

@@ -1,5 +1,4 @@
 -- `isis_index::read_asla` meets its contract, test by test. Assumes nothing.
-use Prim.Native.Nat.{_+_}
 use mathlib.Core.Path.{_∙_, sym, refl}
 use native.Mathlib.Omega.{arith}
 use Rattle.isis_index.proofs.Aslas.{header-there, unread-l, unread-long, masks-there, told-all, told-named, named-here}
