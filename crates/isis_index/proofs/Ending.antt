@@ -233,7 +233,7 @@ module _ {a : List ℕ} {m : Names} {begun own middle ended given : List (List �
   own-cell : (n : ℕ) → n < 128 → isNamed n ≡ true → (k : ℕ) → k < 10 → cell walked (slot n) k ≡ cellIn (getD gridCodes k 0) (ofLive (names n) side)
   own-cell n h e k g =
       d .walk .walk .cells (I.own n k) (h, le-leb 3 (slot n) (d .started .slots n h e .0), g)
-          ∙ ap (cellIn (getD gridCodes k 0)) (live-source a (Naming n) ∙ of-naming side n)
+      ∙ ap (cellIn (getD gridCodes k 0)) (live-source a (Naming n) ∙ of-naming side n)
 
   all-naming : (n : ℕ) → All (Stands a) (ofLive (names n) side)
   all-naming n = subst (All (Stands a)) (of-naming side n) (all-live (Naming n))

@@ -62,7 +62,7 @@ module _ (owns table : List (List ℕ)) (g : Ground owns table) (standard user :
   named-grid k h e (bandwidth j) v = none-in (eqb j k) _ c (low-unreached owns standard user w 2 (omega arith))
   named-grid k h e maximum v =
       none-in (eqb 3 k) _ c (low-unreached owns standard user w 2 (omega arith))
-          ∙ sym (ap (λ (b : Bool). cond b c 0) (ap₂ eqb (sym link-first) e ∙ link-grid 0 k (omega arith) h))
+      ∙ sym (ap (λ (b : Bool). cond b c 0) (ap₂ eqb (sym link-first) e ∙ link-grid 0 k (omega arith) h))
   named-grid k h e (alone j) v =
       none-in (eqb (4 + j) k) _ c (low-unreached owns standard user w 2 (omega arith))
       ∙ sym (none-in (eqb standard 128 && eqb user 0) _ c (ap (eqb (getD linkCodes (1 + j) 0)) e ∙ link-grid (1 + j) k (omega arith) h))

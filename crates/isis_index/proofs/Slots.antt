@@ -78,9 +78,10 @@ module _ {a : List ℕ} (small : length a < 65536) {table : List (List ℕ)} whe
 
       go : (b : Bool) → ltb k 10 ≡ b → Alike (getD (slotGrid table s) k []) (getD (slotGrid table t) k [])
       go true e =
-          let h = ltb-true k 10 e in
-          (λ p q. differ h (kind-right y k h 3 p (λ i. omega arith)) (kind-right z k h 4 q (λ i. omega arith)),
-          λ p q. differ h (kind-right z k h 3 q (λ i. omega arith)) (kind-right y k h 4 p (λ i. omega arith)))
+          let h = ltb-true k 10 e in (
+            λ p q. differ h (kind-right y k h 3 p (λ i. omega arith)) (kind-right z k h 4 q (λ i. omega arith)),
+            λ p q. differ h (kind-right z k h 3 q (λ i. omega arith)) (kind-right y k h 4 p (λ i. omega arith)),
+          )
       go false e = let h = ltb-false k 10 e in (λ p q. omega (arith, no-row h s), λ p q. omega (arith, no-row h s))
 
 -- ---- the link's bandwidths
