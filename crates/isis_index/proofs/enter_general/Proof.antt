@@ -29,7 +29,7 @@ enum-known-kind-2 c = search needs
 enter-one-requires : tie.Need-enter-one-requires
 enter-one-requires c κs = let s = c .before .before .before .before .before .before in
     let k = kind-read (s .args .t) _ _ (c .before .before .before .before .classify-type .ensures) (c .before .before .kind2 .given .1) in
-    (s .pre .0, a-set 0 (s .pre .1) (omega arith), k .0, value-grid (s .pre .2) _ (k .0) (k .1))
+    (s .pre .0, a-set _ (s .pre .1) (omega arith), k .0, value-grid (s .pre .2) _ (k .0) (k .1))
 
 enum-told : tie.Need-enum-told
 enum-told c = search needs
