@@ -1,17 +1,17 @@
 -- An ASLA of an accepted run: who hears its list, by its header and its two masks as sent. Assumes nothing.
 use mathlib.Core.Path.{_≡_, refl, sym, ap, ap₂, _∙_, subst}
-use mathlib.Core.Bool.{Bool, true, false, cond, _&&_, _||_, not, and-false, false≢true}
-use mathlib.Core.List.{List, [], _∷_}
-use Prim.Native.Nat.{ℕ, _+_, _-_, _*_, _^_, _≤_, _<_}
+use mathlib.Core.Bool.{Bool, true, false, cond, _&&_, _||_, not}
+use mathlib.Core.List.{List, []}
+use Prim.Native.Nat.{ℕ, _+_, _-_, _^_, _≤_, _<_}
 use native.Mathlib.Omega.{arith}
-use borrow.Author.Tests.{eqb-true, eqb-false, eq-eqb, ne-eqb, ltb-false}
+use borrow.Author.Tests.{eqb-true, eq-eqb, ltb-false}
 use lib.Dec.{eqb, ltb}
 use lib.ListN.{length, take, drop, getD, length-take, length-drop}
 use Rattle.linkstate.specs.Lists.{any, each}
 use Rattle.linkstate.specs.Bytes.{bytesAt}
 use Rattle.linkstate.specs.Masks.{bit, inMasks, others}
 use Rattle.linkstate.specs.Replies.{accepted, runA}
-use Rattle.linkstate.specs.Elements.{element, elements, faults}
+use Rattle.linkstate.specs.Elements.{elements, faults}
 use Rattle.linkstate.specs.Attributes.{Attribute}
 use Rattle.linkstate.specs.Sides.{Advertisement, names, general, rsvpTeAlone}
 use Rattle.linkstate.proofs.ListLaws.{or-l, or-r}
@@ -20,7 +20,7 @@ use Rattle.octets.proofs.Laws.{part-is, length-bytesAt}
 use Rattle.masks.specs.Sets.{turnedPlace, inSent}
 use Rattle.masks.proofs.Laws.{bit-beyond}
 use Rattle.isis.specs.MaskHeader.{lFlag, sabmLength, udabmLength, headerLength, maskTooLong, lForNobody, advertisement}
-use Rattle.isis.specs.RunA.{checkAttribute, checkAsla, checkA, attributesOf, listElements, liveAsla, aslaAdvertisements}
+use Rattle.isis.specs.RunA.{checkAttribute, checkAsla, attributesOf, listElements, liveAsla, aslaAdvertisements}
 use Rattle.isis_check_a.specs.declared.Header.{Header}
 use Rattle.isis_check_a.specs.Headers.{headerOf, tooLong}
 use Rattle.isis_check_a.proofs.Laws.{header-l, header-too-long, header-bytes, sub-tlv-asla}
@@ -29,7 +29,7 @@ use Rattle.isis_grids.specs.declared.Which.the-variants.{Naming, General, RsvpT
 use Rattle.isis_grids.specs.Selected.{selects, selected, Headed}
 use Rattle.isis_grids.proofs.Aslas.{headed, list-ok, list-behind, selected-flagged, selected-too-long, selected-read}
 use Rattle.set_table.specs.Tables.{inPair}
-use Rattle.isis_index.specs.Index.{Source, live, heardByAll, heard, told, Listed, hereIn, partOf, Here, Told}
+use Rattle.isis_index.specs.Index.{Source, live, heardByAll, heard, hereIn, partOf, Here, Told}
 use Rattle.isis_index.proofs.Pairs.{read-alone, pair-names, alone-is}
 
 -- ---- the tests of an advertisement without L, by its masks

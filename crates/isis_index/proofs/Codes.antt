@@ -1,15 +1,15 @@
 -- The kind of a type and its code: what the arms of a match know. Assumes nothing.
 use mathlib.Core.Path.{_≡_, refl, sym, ap, _∙_, subst}
-use mathlib.Core.Bool.{Bool, true, false, cond, _&&_, _||_, not, false≢true}
+use mathlib.Core.Bool.{Bool, true, false, cond, _&&_, not, false≢true}
 use mathlib.Core.List.{List, [], _∷_}
-use Prim.Native.Nat.{ℕ, zero, suc, _+_, _≤_, _<_}
+use Prim.Native.Nat.{ℕ, zero, suc, _<_}
 use native.Mathlib.Omega.{arith}
-use borrow.Author.Tests.{eqb-true, eqb-false, eq-eqb, ne-eqb, ltb-true, lt-ltb}
-use lib.Dec.{T, eqb, ltb, eqb→eq}
-use lib.ListN.{length, getD}
-use Rattle.linkstate.specs.Lists.{all, lookup}
+use borrow.Author.Tests.{eqb-true, eqb-false}
+use lib.Dec.{eqb}
+use lib.ListN.{getD}
+use Rattle.linkstate.specs.Lists.{lookup}
 use Rattle.linkstate.specs.Kinds as K
-use Rattle.linkstate.specs.Kinds.{kinds, linkCodes, hasType, codeOfType, wrongInA}
+use Rattle.linkstate.specs.Kinds.{kinds, linkCodes, hasType, codeOfType}
 use Rattle.kinds.specs.declared.Kind.{Kind}
 use Rattle.kinds.specs.declared.Kind.the-variants.{Link, Application, Srlg, Asla, Unknown}
 use Rattle.kinds.specs.declared.Size.the-variants.{Any}
@@ -17,7 +17,7 @@ use Rattle.kinds.specs.declared.Rule.{Rule}
 use Rattle.kinds.specs.Rules.{rule, ruleWith, ruleOfType, gridCodes}
 use Rattle.kinds.proofs.Computing.{computing}
 use Rattle.isis_grids.specs.Grid.{wrongOfCode}
-use Rattle.isis_grids.proofs.Types.{right-code, all-at, ten-codes, three-codes}
+use Rattle.isis_grids.proofs.Types.{right-code}
 use Rattle.set_table.specs.Tables.{Value}
 use Rattle.isis_index.specs.Index.{Right}
 
@@ -35,12 +35,14 @@ module _ (t : ℕ) where
   Rows [] = Unit {0}
   Rows (q ∷ qs) = (hasType t q ≡ true → TypeOf ((ruleWith (λ q. q .isisSize) q) .kind) (q .code)) × Rows qs
 
-  found : (qs : List K.Kind) → Rows qs → TypeOf ((lookup (hasType t) (ruleWith (λ q. q .isisSize)) (rule Unknown Any 0) qs) .kind) (lookup (hasType t) (λ q. q .code) 0 qs)
+  found : (qs : List K.Kind) → Rows qs
+      → TypeOf ((lookup (hasType t) (ruleWith (λ q. q .isisSize)) (rule Unknown Any 0) qs) .kind) (lookup (hasType t) (λ q. q .code) 0 qs)
   unfolding lookup
   found [] h = refl
   found (q ∷ qs) h = go (hasType t q) (h .0) (found qs (h .1))
     where
-      go : (b : Bool) → (b ≡ true → TypeOf ((ruleWith (λ q. q .isisSize) q) .kind) (q .code)) → TypeOf ((lookup (hasType t) (ruleWith (λ q. q .isisSize)) (rule Unknown Any 0) qs) .kind) (lookup (hasType t) (λ q. q .code) 0 qs)
+      go : (b : Bool) → (b ≡ true → TypeOf ((ruleWith (λ q. q .isisSize) q) .kind) (q .code))
+          → TypeOf ((lookup (hasType t) (ruleWith (λ q. q .isisSize)) (rule Unknown Any 0) qs) .kind) (lookup (hasType t) (λ q. q .code) 0 qs)
           → TypeOf ((cond b (ruleWith (λ q. q .isisSize) q) (lookup (hasType t) (ruleWith (λ q. q .isisSize)) (rule Unknown Any 0) qs)) .kind) (cond b (q .code) (lookup (hasType t) (λ q. q .code) 0 qs))
       go true f r = f refl
       go false f r = r
@@ -49,7 +51,8 @@ module _ (t : ℕ) where
   unfolding computing
   type-of = go (eqb t 16) refl
     where
-      go : (b : Bool) → eqb t 16 ≡ b → TypeOf ((cond b (rule Asla Any 1122) (lookup (hasType t) (ruleWith (λ q. q .isisSize)) (rule Unknown Any 0) kinds)) .kind) (lookup (hasType t) (λ q. q .code) 0 kinds)
+      go : (b : Bool) → eqb t 16 ≡ b
+          → TypeOf ((cond b (rule Asla Any 1122) (lookup (hasType t) (ruleWith (λ q. q .isisSize)) (rule Unknown Any 0) kinds)) .kind) (lookup (hasType t) (λ q. q .code) 0 kinds)
       go true e = ap codeOfType (eqb-true t 16 e)
       go false e = found kinds (
         λ h. (omega arith, refl),

@@ -1,8 +1,8 @@
 -- The table and the slots when all is done: every subject has the slot of its set. Assumes nothing.
 use mathlib.Core.Path.{_≡_, refl, sym, ap, ap₂, _∙_, subst}
-use mathlib.Core.Bool.{Bool, true, false, cond, _&&_, _||_, not, false≢true}
-use mathlib.Core.List.{List, [], _∷_, _++_, map}
-use Prim.Native.Nat.{ℕ, zero, suc, _+_, _≤_, _<_}
+use mathlib.Core.Bool.{Bool, true, false, cond, not}
+use mathlib.Core.List.{List, [], _∷_, _++_}
+use Prim.Native.Nat.{ℕ, zero, suc, _+_, _<_}
 use native.Mathlib.Omega.{arith}
 use borrow.Author.Tests.{eqb-true, eqb-false, eq-eqb, ne-eqb, ltb-true, ltb-false, le-leb}
 use lib.Dec.{eqb, ltb}
@@ -13,10 +13,10 @@ use Rattle.linkstate.specs.Replies.{accepted, runA}
 use Rattle.linkstate.specs.Elements.{Element, elements, faults}
 use Rattle.linkstate.specs.Kinds.{linkCodes}
 use Rattle.linkstate.specs.Attributes.{Attribute, valueOf}
-use Rattle.linkstate.specs.Sides.{Side, names, named, namedWithL, ofLive, generalSet, applicationSet, rsvpTeKind, rsvpTeAlone, maximumBandwidth, reservableBandwidth, bandwidthKind}
+use Rattle.linkstate.specs.Sides.{Side, names, named, namedWithL, ofLive, generalSet, applicationSet, rsvpTeKind, rsvpTeAlone, maximumBandwidth}
+use Rattle.linkstate.specs.Sides.{reservableBandwidth, bandwidthKind}
 use Rattle.masks.specs.Sets.{turnedPlace}
 use Rattle.kinds.specs.Rules.{gridCodes}
-use Rattle.kinds.proofs.Computing.{computing}
 use Rattle.naming.specs.declared.Names.{Names}
 use Rattle.naming.specs.Names.{inBoth, Tells}
 use Rattle.naming.proofs.Laws.{side-named, side-flagged}
@@ -35,9 +35,9 @@ use Rattle.isis_grids.proofs.Grids.{All, all-append}
 use Rattle.isis_grids.proofs.Places.{Stands, legacy-stands, live-stands}
 use Rattle.isis_grids.proofs.Aslas.{live-all}
 use Rattle.isis_index.specs.Index as I
-use Rattle.isis_index.specs.Index.{cellIn, Source, legacy, live, takes, Spot, sourceOf, slotIn, cellAt, codeOf, Valid, inRun, Walked}
+use Rattle.isis_index.specs.Index.{cellIn, legacy, live, takes, inRun}
 use Rattle.isis_index.specs.Started.{Started}
-use Rattle.isis_index.specs.Settled.{withMaximum, settled, Settled, fromOld, slotBy, rsvpTeSlot}
+use Rattle.isis_index.specs.Settled.{settled, Settled, fromOld, slotBy, ruleBy, rsvpTeSlot}
 use Rattle.isis_index.specs.Indexed.{Holds, Indexed}
 use Rattle.isis_index.proofs.Codes.{link-first, link-same}
 use Rattle.isis_index.proofs.Cells.{cell-append, place-low}
@@ -103,19 +103,25 @@ filled-as {a} e y = record {
 
 -- Where RSVP-TE's slot is: legacy's, or its own, since those that name it come first.
 data Slot (named : Names) (own : List (List ℕ)) (r : ℕ) : Type 0 where
-  old : r ≡ 1 → ((k : ℕ) (s : Side) → takenBy (rsvpTeRule (inBoth (named .lstandard) (named .luser) 0) (inBoth (named .standard) (named .user) 0)) k s ≡ s .legacy) → Slot named own r
+  old : r ≡ 1
+      → ((k : ℕ) (s : Side) → takenBy (ruleBy named) k s ≡ s .legacy)
+      → Slot named own r
   first-own : r ≡ slotAt own 7 → inBoth (named .standard) (named .user) 0 ≡ true
-      → ((k : ℕ) (s : Side) → takenBy (rsvpTeRule (inBoth (named .lstandard) (named .luser) 0) (inBoth (named .standard) (named .user) 0)) k s ≡ cond (empty (valueOf k (ofLive (names 0) s))) (s .legacy) (ofLive (names 0) s))
+      → ((k : ℕ) (s : Side) → takenBy (ruleBy named) k s ≡ cond (empty (valueOf k (ofLive (names 0) s))) (s .legacy) (ofLive (names 0) s))
       → Slot named own r
 
 slot-is : (named : Names) (own : List (List ℕ)) (r : ℕ) → r ≡ rsvpTeSlot named own → Slot named own r
 unfolding rsvpTeRule takenBy
 slot-is named own r e = go (inBoth (named .lstandard) (named .luser) 0) refl (inBoth (named .standard) (named .user) 0) refl
   where
+    -- by whether it is named with L and named
+    rule : Bool → Bool → Rule
+    rule l n = cond l ByL (cond n NamingFirst Legacy)
+
     go : (l : Bool) → inBoth (named .lstandard) (named .luser) 0 ≡ l → (n : Bool) → inBoth (named .standard) (named .user) 0 ≡ n → Slot named own r
-    go true i n j = old (e ∙ ap (λ (b : Bool). slotBy (cond b ByL (cond (inBoth (named .standard) (named .user) 0) NamingFirst Legacy)) (slotAt own 7)) i) (λ k s. ap (λ (b : Bool). takenBy (cond b ByL (cond (inBoth (named .standard) (named .user) 0) NamingFirst Legacy)) k s) i)
-    go false i true j = first-own (e ∙ ap₂ (λ (b d : Bool). slotBy (cond b ByL (cond d NamingFirst Legacy)) (slotAt own 7)) i j) j (λ k s. ap₂ (λ (b d : Bool). takenBy (cond b ByL (cond d NamingFirst Legacy)) k s) i j)
-    go false i false j = old (e ∙ ap₂ (λ (b d : Bool). slotBy (cond b ByL (cond d NamingFirst Legacy)) (slotAt own 7)) i j) (λ k s. ap₂ (λ (b d : Bool). takenBy (cond b ByL (cond d NamingFirst Legacy)) k s) i j)
+    go true i n j = old (e ∙ ap₂ (λ (b d : Bool). slotBy (rule b d) (slotAt own 7)) i j) (λ k s. ap₂ (λ (b d : Bool). takenBy (rule b d) k s) i j)
+    go false i true j = first-own (e ∙ ap₂ (λ (b d : Bool). slotBy (rule b d) (slotAt own 7)) i j) j (λ k s. ap₂ (λ (b d : Bool). takenBy (rule b d) k s) i j)
+    go false i false j = old (e ∙ ap₂ (λ (b d : Bool). slotBy (rule b d) (slotAt own 7)) i j) (λ k s. ap₂ (λ (b d : Bool). takenBy (rule b d) k s) i j)
 
 zero-place : turnedPlace 0 ≡ 7
 unfolding turnedPlace
@@ -177,7 +183,8 @@ module _ {a : List ℕ} {m : Names} {begun own middle ended given : List (List �
   -- ---- the cells of the slots
 
   middle-cell : (s k : ℕ) → (s ≡ 2 → ⊥) → cell middle s k ≡ cell walked s k
-  middle-cell s k n = ap (λ (table : List (List ℕ)). cell table s k) middle-is ∙ ap (λ (row : List ℕ). getD row k 0) (getD-set-other walked 2 s (settled (getD walked 2 []) l) [] n)
+  middle-cell s k n = ap (λ (table : List (List ℕ)). cell table s k) middle-is
+      ∙ ap (λ (row : List ℕ). getD row k 0) (getD-set-other walked 2 s (settled (getD walked 2 []) l) [] n)
 
   end-cell : (s k : ℕ) → IsSet ended s → k < 10 → cell ended s k ≡ first (cell walked s k) (cond (eqb s r) (cell walked 1 k) 0)
   end-cell s k i h =
@@ -185,7 +192,8 @@ module _ {a : List ℕ} {m : Names} {begun own middle ended given : List (List �
       ∙ ap₂ (λ (x y : ℕ). first x (cond (eqb s r) y 0)) (middle-cell s k (i .other)) (middle-cell 1 k (λ z. omega arith))
 
   kept-cell : (s k : ℕ) → IsSet ended s → k < 10 → (s ≡ r → ⊥) → cell ended s k ≡ cell walked s k
-  kept-cell s k i h n = end-cell s k i h ∙ ap (λ (b : Bool). first (cell walked s k) (cond b (cell walked 1 k) 0)) (ne-eqb s r n) ∙ first-none (cell walked s k) 0 0
+  kept-cell s k i h n = end-cell s k i h ∙ ap (λ (b : Bool). first (cell walked s k) (cond b (cell walked 1 k) 0)) (ne-eqb s r n)
+      ∙ first-none (cell walked s k) 0 0
 
   all-live : (w : Which) → All (Stands a) (ofLive (selects w) side)
   all-live = live-stands a (d .ok)
@@ -224,7 +232,8 @@ module _ {a : List ℕ} {m : Names} {begun own middle ended given : List (List �
 
   own-cell : (n : ℕ) → n < 128 → isNamed n ≡ true → (k : ℕ) → k < 10 → cell walked (slot n) k ≡ cellIn (getD gridCodes k 0) (ofLive (names n) side)
   own-cell n h e k g =
-      d .walk .walk .cells (I.own n k) (h, le-leb 3 (slot n) (d .started .slots n h e .0), g) ∙ ap (cellIn (getD gridCodes k 0)) (live-source a (Naming n) ∙ of-naming side n)
+      d .walk .walk .cells (I.own n k) (h, le-leb 3 (slot n) (d .started .slots n h e .0), g)
+      ∙ ap (cellIn (getD gridCodes k 0)) (live-source a (Naming n) ∙ of-naming side n)
 
   all-naming : (n : ℕ) → All (Stands a) (ofLive (names n) side)
   all-naming n = subst (All (Stands a)) (of-naming side n) (all-live (Naming n))
@@ -233,7 +242,8 @@ module _ {a : List ℕ} {m : Names} {begun own middle ended given : List (List �
   filled-own n h e i = record { is = own-set n h e; cells = λ k g. kept-cell (slot n) k (own-set n h e) g i ∙ own-cell n h e k g; stands = λ c. all-naming n }
 
   -- RSVP-TE's: those that name it, and legacy's where they have none.
-  filled-first : r ≡ slotAt own 7 → isNamed 0 ≡ true → Filled a ended r (λ c. cond (empty (valueOf c (ofLive (names 0) side))) (side .legacy) (ofLive (names 0) side))
+  filled-first : r ≡ slotAt own 7 → isNamed 0 ≡ true
+      → Filled a ended r (λ c. cond (empty (valueOf c (ofLive (names 0) side))) (side .legacy) (ofLive (names 0) side))
   filled-first i j = record {
     is = r-inside;
     cells = λ k h.
@@ -251,10 +261,13 @@ module _ {a : List ℕ} {m : Names} {begun own middle ended given : List (List �
           is-empty : empty (valueOf (getD gridCodes k 0) (ofLive (names 0) side)) ≡ eqb (cellIn (getD gridCodes k 0) (ofLive (names 0) side)) 0
           is-empty = cell-empty a (getD gridCodes k 0) (ofLive (names 0) side) (all-naming 0) (grid-code k h)
 
-          go : (b : Bool) → eqb (cellIn (getD gridCodes k 0) (ofLive (names 0) side)) 0 ≡ b → first (cellIn (getD gridCodes k 0) (ofLive (names 0) side)) (cellIn (getD gridCodes k 0) (side .legacy))
+          go : (b : Bool) → eqb (cellIn (getD gridCodes k 0) (ofLive (names 0) side)) 0 ≡ b
+              → first (cellIn (getD gridCodes k 0) (ofLive (names 0) side)) (cellIn (getD gridCodes k 0) (side .legacy))
               ≡ cellIn (getD gridCodes k 0) (cond (empty (valueOf (getD gridCodes k 0) (ofLive (names 0) side))) (side .legacy) (ofLive (names 0) side))
-          go true e = first-free _ _ 0 (eqb-true _ 0 e) ∙ sym (ap (λ (b : Bool). cellIn (getD gridCodes k 0) (cond b (side .legacy) (ofLive (names 0) side))) (is-empty ∙ e))
-          go false e = first-taken _ _ 0 (eqb-false _ 0 e) ∙ sym (ap (λ (b : Bool). cellIn (getD gridCodes k 0) (cond b (side .legacy) (ofLive (names 0) side))) (is-empty ∙ e))
+          go true e = first-free _ _ 0 (eqb-true _ 0 e)
+              ∙ sym (ap (λ (b : Bool). cellIn (getD gridCodes k 0) (cond b (side .legacy) (ofLive (names 0) side))) (is-empty ∙ e))
+          go false e = first-taken _ _ 0 (eqb-false _ 0 e)
+              ∙ sym (ap (λ (b : Bool). cellIn (getD gridCodes k 0) (cond b (side .legacy) (ofLive (names 0) side))) (is-empty ∙ e))
 
       pick : (b : Bool) → All (Stands a) (cond b (side .legacy) (ofLive (names 0) side))
       pick true = all-old
@@ -306,7 +319,8 @@ module _ {a : List ℕ} {m : Names} {begun own middle ended given : List (List �
   link-cell k h =
       d .gets .cells 2 k (omega (arith, two-inside, middle-long)) h
       ∙ ap (λ (b : Bool). first (cell middle 2 k) (cond b (cell middle 1 k) 0)) (ne-eqb 2 r (r-low 2 (omega arith) (λ z. omega arith)))
-      ∙ first-none (cell middle 2 k) 0 0 ∙ ap (λ (table : List (List ℕ)). cell table 2 k) middle-is ∙ ap (λ (x : List ℕ). getD x k 0) (getD-set-same walked 2 (settled row l) [] two-inside)
+      ∙ first-none (cell middle 2 k) 0 0 ∙ ap (λ (table : List (List ℕ)). cell table 2 k) middle-is
+      ∙ ap (λ (x : List ℕ). getD x k 0) (getD-set-same walked 2 (settled row l) [] two-inside)
 
   old-link : (k : ℕ) → k < 3 → getD row k 0 ≡ cellIn (getD linkCodes k 0) (side .legacy)
   old-link k h = d .walk .walk .cells (I.bandwidth k) h ∙ ap (cellIn (getD linkCodes k 0)) (old-source a)
@@ -337,9 +351,11 @@ module _ {a : List ℕ} {m : Names} {begun own middle ended given : List (List �
       not-maximum : eqb (getD linkCodes (1 + k) 0) 1089 ≡ false
       not-maximum = ap (eqb (getD linkCodes (1 + k) 0)) (sym link-first) ∙ link-same (1 + k) 0 (omega arith) (omega arith) ∙ ne-eqb (1 + k) 0 (λ z. omega arith)
 
-      by-l : (b : Bool) → cond b (getD row (1 + k) 0) (first (getD row (4 + k) 0) (getD row (1 + k) 0)) ≡ cellIn (getD linkCodes (1 + k) 0) (cond b (side .legacy) (ofLive rsvpTeAlone side ++ side .legacy))
+      by-l : (b : Bool)
+          → cond b (getD row (1 + k) 0) (first (getD row (4 + k) 0) (getD row (1 + k) 0)) ≡ cellIn (getD linkCodes (1 + k) 0) (cond b (side .legacy) (ofLive rsvpTeAlone side ++ side .legacy))
       by-l true = old-link (1 + k) (omega arith)
-      by-l false = ap₂ first (alone-link k h) (old-link (1 + k) (omega arith)) ∙ sym (cell-append (getD linkCodes (1 + k) 0) (ofLive rsvpTeAlone side) (side .legacy))
+      by-l false = ap₂ first (alone-link k h) (old-link (1 + k) (omega arith))
+          ∙ sym (cell-append (getD linkCodes (1 + k) 0) (ofLive rsvpTeAlone side) (side .legacy))
 
   link-cells : (k : ℕ) → k < 3 → cell ended 2 k ≡ cellIn (getD linkCodes k 0) (bandwidthKind (getD linkCodes k 0) side)
   link-cells zero h = first-link
@@ -351,7 +367,8 @@ module _ {a : List ℕ} {m : Names} {begun own middle ended given : List (List �
   unfolding bandwidthKind maximumBandwidth reservableBandwidth
   link-stands c = go (eqb c 1089) (namedWithL 0 side)
     where
-      go : (b x : Bool) → All (Stands a) (cond b (side .legacy ++ ofLive (λ x. not (x .L)) side) (cond x (side .legacy) (ofLive rsvpTeAlone side ++ side .legacy)))
+      go : (b x : Bool)
+          → All (Stands a) (cond b (side .legacy ++ ofLive (λ x. not (x .L)) side) (cond x (side .legacy) (ofLive rsvpTeAlone side ++ side .legacy)))
       go true x = all-append (Stands a) (side .legacy) _ all-old (subst (All (Stands a)) (of-all side) (all-live WithoutL))
       go false true = all-old
       go false false = all-append (Stands a) (ofLive rsvpTeAlone side) _ (subst (All (Stands a)) (of-alone side) (all-live RsvpTeAlone)) all-old
@@ -379,7 +396,8 @@ module _ {a : List ℕ} {m : Names} {begun own middle ended given : List (List �
       subst (λ (s : ℕ). Holds a ended s (λ c. applicationSet n side)) (sym (given-slot n h))
       (go (namedWithL n side) refl (named n side) refl)
     where
-      go : (x : Bool) → namedWithL n side ≡ x → (y : Bool) → named n side ≡ y → Holds a ended (cond x 1 (slot n)) (λ c. cond x (side .legacy) (cond y (ofLive (names n) side) (generalSet side)))
+      go : (x : Bool) → namedWithL n side ≡ x → (y : Bool) → named n side ≡ y
+          → Holds a ended (cond x 1 (slot n)) (λ c. cond x (side .legacy) (cond y (ofLive (names n) side) (generalSet side)))
       go true e y f = filled-holds (d .small) filled-old
       go false e true f = let i = side-named side m (d .tells) n ∙ f in filled-holds (d .small) (filled-own n h i (λ z. r-other n p h i z))
       go false e false f = subst (λ (s : ℕ). Holds a ended s (λ c. generalSet side)) (sym (d .started .others n h (side-named side m (d .tells) n ∙ f))) (filled-holds (d .small) filled-general)

@@ -5,21 +5,30 @@ use mathlib.Core.List.{List, [], _∷_, _++_, append-assoc, append-nil}
 use Prim.Native.Nat.{ℕ, _+_, _-_, _≤_, _<_}
 use native.Mathlib.Omega.{arith}
 use lib.Dec.{eqb}
-use lib.ListN.{length, take, drop, getD}
+use lib.ListN.{length, getD}
 use Rattle.linkstate.specs.Lists.{each}
 use Rattle.linkstate.specs.Bytes.{bytesAt}
 use Rattle.linkstate.specs.Replies.{accepted, runA, fault}
-use Rattle.linkstate.specs.Elements.{Element, element, elements, faults}
+use Rattle.linkstate.specs.Elements.{elements, faults}
 use Rattle.linkstate.specs.Kinds.{codeOfType, wrongInA}
 use Rattle.linkstate.specs.Attributes.{Attribute, attribute}
 use Rattle.linkstate.proofs.WalkLaws.{left, each-end, not-accepted}
 use Rattle.octets.proofs.Laws.{length-bytesAt, getD-bytesAt}
 use Rattle.isis.specs.RunA.{checkAttribute, attributesOf}
-use Rattle.isis_grids.proofs.Walks.{left-all, elementAt, inside, passed, rest-ok, turn}
-use Rattle.set_table.specs.Tables.{Table, Having, Within}
-use Rattle.isis_index.specs.Index.{Source, Spot, sourceOf, Valid, Ground, Adds, Kept, Right, partOf, Listed, owning, told, attributeAt, Took, TookFor, Ready}
+use Rattle.isis_grids.proofs.Walks.{left-all, inside, passed, rest-ok, turn}
+use Rattle.set_table.specs.Tables.{Table}
+use Rattle.isis_index.specs.Index.{Source, sourceOf, Right, partOf, Listed, told, attributeAt, Took, TookFor, Ready}
 use Rattle.isis_index.proofs.Cells.{adds-then, adds-as, adds-none, kept-none, kept-then}
 use Rattle.isis_index.proofs.Heard.{ground-same}
+
+-- An attribute that has passed its check.
+pub right-of : (at t : ℕ) (v : List ℕ) → checkAttribute at t v ≡ accepted → wrongInA t (length v) ≡ false
+unfolding checkAttribute
+right-of at t v h = go (wrongInA t (length v)) h
+  where
+    go : (b : Bool) → cond b (fault 4 runA at) accepted ≡ accepted → b ≡ false
+    go true e = absurd (not-accepted 4 runA at e)
+    go false e = refl
 
 -- ---- the attribute at a position of a list that stands in run A
 
@@ -69,13 +78,7 @@ module _ {a : List ℕ} {from end : ℕ} (l : Listed a from end) where
     value-size = length-bytesAt list (i + 2) (getD list (i + 1) 0) inside-list ∙ size-is
 
     right-length : wrongInA kind size ≡ false
-    unfolding checkAttribute
-    right-length =
-        ap₂ wrongInA (sym kind-is) (sym value-size) ∙ go (wrongInA (getD list i 0) (length (bytesAt list (i + 2) (getD list (i + 1) 0)))) (passed checkAttribute from list i inner ok)
-      where
-        go : (b : Bool) → cond b (fault 4 runA (from + i)) accepted ≡ accepted → b ≡ false
-        go true e = absurd (not-accepted 4 runA (from + i) e)
-        go false e = refl
+    right-length = ap₂ wrongInA (sym kind-is) (sym value-size) ∙ right-of (from + i) (getD list i 0) _ (passed checkAttribute from list i inner ok)
 
     pub list-right : size < 256 → Right a kind (at + 2) size
     list-right b = record {
@@ -115,7 +118,8 @@ told-none h src = go (h src)
     go false = refl
 
 -- Attributes after attributes.
-pub took-then : {run : List ℕ} {table mid after : List (List ℕ)} {h : Source → Bool} {ts us : List Attribute} → Took run table mid h ts → Took run mid after h us → Took run table after h (ts ++ us)
+pub took-then : {run : List ℕ} {table mid after : List (List ℕ)} {h : Source → Bool} {ts us : List Attribute} → Took run table mid h ts
+    → Took run mid after h us → Took run table after h (ts ++ us)
 took-then {run} {table} {mid} {after} {h} {ts} {us} a b = record {
   holds = b .holds;
   kept = kept-then (a .kept) (b .kept);
@@ -177,7 +181,8 @@ module _ {a : List ℕ} {from end : ℕ} (l : Listed a from end) where
     pub reading-right : getD a (at + 1) 0 < 256 → Right a (getD a at 0) (at + 2) (getD a (at + 1) 0)
     reading-right b = list-right l at (r .low) here (r .ok) b
 
-    pub reading-next : {Q : List Attribute → Type 0} → ((v : List ℕ) → Q (r .gone ++ (attributeAt (getD a at 0) (at + 2) (getD a (at + 1) 0) v ∷ []))) → Reading a from end (at + 2 + getD a (at + 1) 0) Q
+    pub reading-next : {Q : List Attribute → Type 0} → ((v : List ℕ) → Q (r .gone ++ (attributeAt (getD a at 0) (at + 2) (getD a (at + 1) 0) v ∷ [])))
+        → Reading a from end (at + 2 + getD a (at + 1) 0) Q
     reading-next q =
         let v = valueHere l at (r .low) here (r .ok) in
         let t = attributeAt (getD a at 0) (at + 2) (getD a (at + 1) 0) v in
@@ -193,8 +198,10 @@ module _ {a : List ℕ} {from end : ℕ} (l : Listed a from end) where
 
 -- ---- the turns, as the code has them
 
-pub general-ready : {run : List ℕ} {table sets : List (List ℕ)} {h : Source → Bool} {from end at : ℕ} → 3 ≤ length table → Reading run from end at (Took run table sets h) → Table run sets × (3 ≤ length sets)
+pub general-ready : {run : List ℕ} {table sets : List (List ℕ)} {h : Source → Bool} {from end at : ℕ} → 3 ≤ length table
+    → Reading run from end at (Took run table sets h) → Table run sets × (3 ≤ length sets)
 general-ready m r = (r .done .holds, omega (arith, r .done .kept .same))
 
-pub named-ready : {run : List ℕ} {owns table have sets had : List (List ℕ)} {h : Source → Bool} {from end at : ℕ} → Ready run owns table have → Reading run from end at (TookFor run owns table have sets had h) → Ready run owns sets had
+pub named-ready : {run : List ℕ} {owns table have sets had : List (List ℕ)} {h : Source → Bool} {from end at : ℕ} → Ready run owns table have
+    → Reading run from end at (TookFor run owns table have sets had h) → Ready run owns sets had
 named-ready y r = record { holds = r .done .holds; ground = ground-same (r .done .adds .same) (y .ground); having = r .done .having }

@@ -1,19 +1,19 @@
 -- Two masks as sent, and whom an advertisement with such masks names. Assumes nothing.
 use mathlib.Core.Path.{_≡_, refl, sym, ap, ap₂, _∙_}
-use mathlib.Core.Bool.{Bool, true, false, cond, _&&_, _||_, not, and-false, false≢true}
-use mathlib.Core.List.{List, []}
+use mathlib.Core.Bool.{Bool, true, false, cond, _&&_, _||_, not, false≢true}
+use mathlib.Core.List.{List}
 use Prim.Native.Nat.{ℕ, _+_, _-_, _^_, _≤_, _<_}
 use native.Mathlib.Omega.{arith}
-use borrow.Author.Tests.{eqb-true, eqb-false, eq-eqb, ne-eqb, ltb-true, ltb-false, lt-ltb, le-ltb}
+use borrow.Author.Tests.{eqb-true, eqb-false, ne-eqb, ltb-true, ltb-false}
 use lib.Dec.{eqb, ltb}
 use Rattle.linkstate.specs.Lists.{any, numbers}
-use Rattle.linkstate.specs.Masks.{bit, inMasks, inNumber, others}
+use Rattle.linkstate.specs.Masks.{bit, inMasks, others}
 use Rattle.linkstate.specs.Sides.{Advertisement, names, rsvpTeAlone}
 use Rattle.linkstate.proofs.Computing.{computing}
-use Rattle.linkstate.proofs.ListLaws.{and-l, and-r, any-no, mem-any, numbers-mem, mem-numbers}
+use Rattle.linkstate.proofs.ListLaws.{any-no, mem-any, numbers-mem, mem-numbers}
 use Rattle.masks.specs.Sets.{turnedPlace, inSent}
 use Rattle.masks.proofs.Laws.{same-members}
-use Rattle.masks.proofs.Steps.{turned-back, zero-none}
+use Rattle.masks.proofs.Steps.{turned-back, turned-below, zero-none}
 use Rattle.naming.specs.Names.{inBoth}
 use Rattle.set_table.specs.Tables.{inPair}
 use Rattle.set_table.proofs.Named.{pair-low, pair-high}
@@ -21,10 +21,6 @@ use Rattle.isis_index.proofs.Codes.{every, every-at, same, same-eq}
 use Rattle.isis_index.proofs.Cells.{place-low}
 
 -- ---- the place of an application
-
-turned-small : (n : ℕ) → n < 64 → turnedPlace n < 64
-unfolding turnedPlace
-turned-small n h = omega arith
 
 turned-large : (n : ℕ) → 64 ≤ n → 64 + turnedPlace (n - 64) ≡ turnedPlace n
 unfolding turnedPlace
@@ -35,7 +31,7 @@ unfolding inBoth
 pair-both s u n = go (ltb n 64) refl
   where
     go : (b : Bool) → ltb n 64 ≡ b → inPair s u (turnedPlace n) ≡ cond b (inSent s n) (inSent u (n - 64))
-    go true e = pair-low s u (turnedPlace n) (turned-small n (ltb-true n 64 e))
+    go true e = pair-low s u (turnedPlace n) (turned-below n (ltb-true n 64 e))
     go false e = ap (inPair s u) (sym (turned-large n (ltb-false n 64 e))) ∙ pair-high s u (turnedPlace (n - 64))
 
 -- A place is that of an application.
@@ -47,7 +43,8 @@ place-of s u p = ap (inPair s u) (turned-back p)
 pub read-alone : (r : ℕ) (m : List ℕ) → ((k : ℕ) → inSent r k ≡ inSent 0 k || bit m k) → (k : ℕ) → inSent r k ≡ bit m k
 read-alone r m h k = h k ∙ ap (λ (b : Bool). b || bit m k) (zero-none (turnedPlace k))
 
-pub pair-names : (s u : ℕ) (x y : List ℕ) → ((k : ℕ) → inSent s k ≡ bit x k) → ((k : ℕ) → inSent u k ≡ bit y k) → (n : ℕ) → inPair s u (turnedPlace n) ≡ inMasks x y n
+pub pair-names : (s u : ℕ) (x y : List ℕ) → ((k : ℕ) → inSent s k ≡ bit x k) → ((k : ℕ) → inSent u k ≡ bit y k) → (n : ℕ)
+    → inPair s u (turnedPlace n) ≡ inMasks x y n
 unfolding inBoth inMasks
 pair-names s u x y p q n = pair-both s u n ∙ ap₂ (λ (a b : Bool). cond (ltb n 64) a b) (p n) (q (n - 64))
 
@@ -96,7 +93,8 @@ module _ (s u : ℕ) (small : s < 2 ^ 64) (low : u < 2 ^ 64) (d : Advertisement)
   unfolding rsvpTeAlone
   alone-is = go (eqb s 128) refl (eqb u 0) refl (names 0 d) refl (any (λ a. names a d) others) refl
     where
-      go : (x : Bool) → eqb s 128 ≡ x → (y : Bool) → eqb u 0 ≡ y → (b : Bool) → names 0 d ≡ b → (c : Bool) → any (λ a. names a d) others ≡ c → b && not c ≡ x && y
+      go : (x : Bool) → eqb s 128 ≡ x → (y : Bool) → eqb u 0 ≡ y → (b : Bool) → names 0 d ≡ b → (c : Bool) → any (λ a. names a d) others ≡ c
+          → b && not c ≡ x && y
       go true p true q b e c f =
           let i = eqb-true s 128 p in
           let j = eqb-true u 0 q in

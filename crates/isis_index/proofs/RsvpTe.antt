@@ -1,6 +1,6 @@
 -- The slot of RSVP-TE's set, by its rule. Assumes nothing.
 use mathlib.Core.Path.{_≡_, refl, sym, ap, ap₂, _∙_}
-use mathlib.Core.Bool.{Bool, true, false, cond}
+use mathlib.Core.Bool.{Bool, true, false}
 use mathlib.Core.Logic.{⊎-elim}
 use mathlib.Core.List.{List, [], _∷_}
 use Prim.Native.Nat.{ℕ}
@@ -14,7 +14,7 @@ use Rattle.rules.specs.declared.Rule.the-variants.{ByL, Naming, General, Legacy
 use Rattle.rules.specs.Rules.{rsvpTeRule}
 use Rattle.rules.proofs.Rule.{the-type}
 use Rattle.set_table.specs.Tables.{slotAt}
-use Rattle.isis_index.specs.Settled.{slotBy, rsvpTeSlot}
+use Rattle.isis_index.specs.Settled.{slotBy, ruleBy, rsvpTeSlot}
 
 -- Every other rule takes legacy's.
 slot-other : (r : Rule) (s : ℕ) → OneOf (0 ∷ 1 ∷ 2 ∷ 3 ∷ 5 ∷ 6 ∷ []) (tagOf the-type r) → 1 ≡ slotBy r s
@@ -36,7 +36,7 @@ first-named false false e = let z : _≡_ {A = ℕ} 0 1 = cc in absurd (omega ar
 
 -- As the code asks for the rule.
 module _ (named : Names) (owns : List (List ℕ)) (l n : Bool) (is : l ≡ inBoth (named .lstandard) (named .luser) 0) (iu : n ≡ inBoth (named .standard) (named .user) 0) (r : Rule) (e : r ≡ rsvpTeRule l n) where
-  rule-is : r ≡ rsvpTeRule (inBoth (named .lstandard) (named .luser) 0) (inBoth (named .standard) (named .user) 0)
+  rule-is : r ≡ ruleBy named
   rule-is = e ∙ ap₂ rsvpTeRule is iu
 
   pub own-slot : r ≡ NamingFirst → slotAt owns 7 ≡ rsvpTeSlot named owns

@@ -1,19 +1,19 @@
 -- What is done when run A has been walked: the link's bandwidths, and legacy's values and slot for others. Assumes nothing.
 use mathlib.Core.Path.{_≡_, refl, sym, ap, ap₂, _∙_, subst}
-use mathlib.Core.Bool.{Bool, true, false, cond, _&&_, _||_, not, and-false, false≢true}
-use mathlib.Core.List.{List, [], _∷_}
-use Prim.Native.Nat.{ℕ, zero, suc, _+_, _-_, _*_, _/_, _%_, _^_, _≤_, _<_}
+use mathlib.Core.Bool.{Bool, true, false, cond, _&&_, _||_, and-false}
+use mathlib.Core.List.{List}
+use Prim.Native.Nat.{ℕ, _+_, _-_, _/_, _%_, _^_, _≤_, _<_}
 use native.Mathlib.Omega.{arith}
 use native.Mathlib.Nat.{div-eq-of-lt, lt-of-lt-of-le}
 use lib.Pow.{pow-mono}
-use borrow.Author.Tests.{eqb-true, eqb-false, eq-eqb, ne-eqb, ltb-true, ltb-false, lt-ltb, le-ltb, leb-true, leb-false, le-leb, lt-leb}
+use borrow.Author.Tests.{eqb-true, eqb-false, ltb-true, ltb-false, lt-ltb, le-ltb, le-leb, lt-leb}
 use lib.Dec.{eqb, ltb, leb}
-use lib.ListN.{length, getD, set, length-set}
-use lib.Seq.{getD-set-same, getD-set-other}
+use lib.ListN.{length, getD, set}
+use lib.Seq.{getD-set-other}
 use Rattle.linkstate.specs.Masks.{inNumber}
 use Rattle.grids.specs.Slots.{cell, cellRow, IsSet}
-use Rattle.set_table.specs.Tables.{cellOf, first, CellFits, Fitting, Table, Value, Given, onlyAt, slotAt, inPair, Owned, hasPlace, Gave}
-use Rattle.set_table.proofs.Tables.{first-taken, first-free, first-none, given-none, given-then, given-as}
+use Rattle.set_table.specs.Tables.{cellOf, first, CellFits, Table, Value, Given, onlyAt, inPair, hasPlace, Gave}
+use Rattle.set_table.proofs.Tables.{first-none, given-none, given-then, given-as}
 use Rattle.set_table.proofs.Owns.{gave-then, gave-as}
 use Rattle.isis_index.specs.Settled.{withMaximum, settled, fromOld}
 
@@ -21,7 +21,8 @@ use Rattle.isis_index.specs.Settled.{withMaximum, settled, fromOld}
 
 module _ (row : List ℕ) (x : ℕ) (is : x ≡ first (getD row 0 0) (getD row 3 0)) where
   pub settled-l : (l : Bool) → l ≡ true → set row 0 x ≡ settled row l
-  settled-l l e = ap (set row 0) is ∙ ap (λ (b : Bool). cond b (withMaximum row) (set (set (withMaximum row) 1 (first (getD row 4 0) (getD row 1 0))) 2 (first (getD row 5 0) (getD row 2 0)))) (sym e)
+  settled-l l e = ap (set row 0) is
+      ∙ ap (λ (b : Bool). cond b (withMaximum row) (set (set (withMaximum row) 1 (first (getD row 4 0) (getD row 1 0))) 2 (first (getD row 5 0) (getD row 2 0)))) (sym e)
 
   pub settled-plain : (l : Bool) → l ≡ false → (y z : ℕ) → y ≡ first (getD (set row 0 x) 4 0) (getD (set row 0 x) 1 0)
       → z ≡ first (getD (set (set row 0 x) 1 y) 5 0) (getD (set (set row 0 x) 1 y) 2 0) → set (set (set row 0 x) 1 y) 2 z ≡ settled row l
@@ -82,7 +83,8 @@ abbrev upTo : List (List ℕ) → ℕ → ℕ → ℕ → ℕ → ℕ
 upTo table s k t j = cond (eqb t s && ltb j k) (cell table 1 j) 0
 
 -- The kinds below k, and then k.
-up-next : (f : ℕ → ℕ) (k : ℕ) (x : Bool) (j : ℕ) (y : Bool) → eqb j k ≡ y → (z : Bool) → ltb j k ≡ z → first (cond (x && z) (f j) 0) (cond (x && y) (f k) 0) ≡ cond (x && ltb j (k + 1)) (f j) 0
+up-next : (f : ℕ → ℕ) (k : ℕ) (x : Bool) (j : ℕ) (y : Bool) → eqb j k ≡ y → (z : Bool) → ltb j k ≡ z
+    → first (cond (x && z) (f j) 0) (cond (x && y) (f k) 0) ≡ cond (x && ltb j (k + 1)) (f j) 0
 unfolding first
 up-next f k false j y e z g = refl
 up-next f k true j true e true g = let p = eqb-true j k e in absurd (omega (arith, ltb-true j k g))
@@ -116,7 +118,8 @@ module _ {run : List ℕ} {begun table : List (List ℕ)} {s k : ℕ} (c : Copyi
       ∙ ap (first (cell begun 1 k)) (ap (λ (b : Bool). cond (eqb 1 s && b) (cell begun 1 k) 0) (le-ltb k k (omega arith)) ∙ ap (λ (b : Bool). cond b (cell begun 1 k) 0) (and-false (eqb 1 s)))
       ∙ first-none (cell begun 1 k) 0 0
 
-  pub copying-next : {after : List (List ℕ)} → 1 < length begun → k < 10 → Table run after → Given table after (onlyAt s k (cell table 1 k)) → Copying run begun after s (k + 1)
+  pub copying-next : {after : List (List ℕ)} → 1 < length begun → k < 10 → Table run after → Given table after (onlyAt s k (cell table 1 k))
+      → Copying run begun after s (k + 1)
   copying-next {after} i l t g = record {
     low = omega arith;
     holds = t;
@@ -159,7 +162,8 @@ both-places standard user f p = go (ltb p 64) refl
     all : leb 0 p && inNumber standard (p - 0) ≡ inNumber standard p
     all = let e : p - 0 ≡ p = omega arith in rw (le-leb 0 p (omega arith), e)
 
-    go : (b : Bool) → ltb p 64 ≡ b → (leb 0 p && inNumber standard (p - 0)) || (leb 64 p && inNumber user (p - 64)) ≡ cond b (inNumber standard p) (inNumber user (p - 64))
+    go : (b : Bool) → ltb p 64 ≡ b
+        → (leb 0 p && inNumber standard (p - 0)) || (leb 64 p && inNumber user (p - 64)) ≡ cond b (inNumber standard p) (inNumber user (p - 64))
     go true e = ap₂ (λ (x y : Bool). x || (y && inNumber user (p - 64))) all (lt-leb 64 p (ltb-true p 64 e)) ∙ or-false (inNumber standard p)
       where
         or-false : (b : Bool) → b || false ≡ b
@@ -167,5 +171,6 @@ both-places standard user f p = go (ltb p 64) refl
         or-false false = refl
     go false e = let h = ltb-false p 64 e in ap₂ (λ (x y : Bool). x || (y && inNumber user (p - 64))) (all ∙ beyond standard p f h) (le-leb 64 p h)
 
-pub gave-both : {own mid after : List (List ℕ)} {s : ℕ} (standard user : ℕ) → standard < 2 ^ 64 → Gave own mid (hasPlace 0 standard) s → Gave mid after (hasPlace 64 user) s → Gave own after (inPair standard user) s
+pub gave-both : {own mid after : List (List ℕ)} {s : ℕ} (standard user : ℕ) → standard < 2 ^ 64 → Gave own mid (hasPlace 0 standard) s
+    → Gave mid after (hasPlace 64 user) s → Gave own after (inPair standard user) s
 gave-both standard user f a b = gave-as (λ p h. both-places standard user f p) (gave-then a b)

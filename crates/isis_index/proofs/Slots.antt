@@ -2,7 +2,7 @@
 use mathlib.Core.Path.{_≡_, refl, sym, ap, ap₂, _∙_, subst}
 use mathlib.Core.Bool.{Bool, true, false, cond, false≢true}
 use mathlib.Core.List.{List, [], _∷_, map}
-use Prim.Native.Nat.{ℕ, zero, suc, _+_, _/_, _%_, _≤_, _<_}
+use Prim.Native.Nat.{ℕ, zero, suc, _+_, _/_, _≤_, _<_}
 use native.Mathlib.Omega.{arith}
 use borrow.Author.Tests.{ltb-true, ltb-false}
 use lib.Dec.{eqb, ltb}
@@ -17,10 +17,10 @@ use Rattle.kinds.proofs.Computing.{computing}
 use Rattle.naming.specs.declared.Names.{Names}
 use Rattle.naming.specs.Names.{inBoth}
 use Rattle.grids.specs.Grids.{rowValue, gridValue, bandwidthOf, Alike}
-use Rattle.grids.specs.Slots.{cell, cellRow, slotGrid, linkRows, slotValues, IsSet, Slots}
+use Rattle.grids.specs.Slots.{cell, cellRow, slotGrid, linkRows, IsSet}
 use Rattle.grids.proofs.Laws.{grid-at, row-numbers, slot-row, length-slot}
 use Rattle.set_table.specs.Tables.{first, CellFits, Fitting, Table, slotAt}
-use Rattle.set_table.proofs.Tables.{set-fitting, row-table, slots-of}
+use Rattle.set_table.proofs.Tables.{set-fitting, row-table}
 use Rattle.isis_grids.specs.Grid.{wrongOfCode}
 use Rattle.isis_grids.proofs.Types.{ten-codes, three-codes}
 use Rattle.isis_grids.proofs.Grids.{All}
@@ -59,13 +59,15 @@ module _ {a : List ℕ} (small : length a < 65536) {table : List (List ℕ)} whe
           ∙ cell-means a c (f c) (y .stands c) (grid-code k h) small
 
   -- A length of a kind is right.
-  kind-right : {s : ℕ} {f : ℕ → List Attribute} → Filled a table s f → (k : ℕ) → k < 10 → (n : ℕ) → getD (getD (slotGrid table s) k []) 1 0 ≡ n → (n ≡ 0 → ⊥) → wrongOfCode (getD gridCodes k 0) n ≡ false
+  kind-right : {s : ℕ} {f : ℕ → List Attribute} → Filled a table s f → (k : ℕ) → k < 10 → (n : ℕ) → getD (getD (slotGrid table s) k []) 1 0 ≡ n → (n ≡ 0 → ⊥)
+      → wrongOfCode (getD gridCodes k 0) n ≡ false
   kind-right {s} {f} y k h n e d =
       let c = getD gridCodes k 0 in
       cell-right a c (f c) (y .stands c) (grid-code k h) small n (ap (λ (x : ℕ). x / 65536) (sym (y .cells k h)) ∙ sym (ap (λ (r : List ℕ). getD r 1 0) (slot-row table s k h)) ∙ e) d
 
   -- So no kind has a value of three bytes and one of four.
-  pub filled-alike : {s t : ℕ} {f g : ℕ → List Attribute} → Filled a table s f → Filled a table t g → (k : ℕ) → Alike (getD (slotGrid table s) k []) (getD (slotGrid table t) k [])
+  pub filled-alike : {s t : ℕ} {f g : ℕ → List Attribute} → Filled a table s f → Filled a table t g → (k : ℕ)
+      → Alike (getD (slotGrid table s) k []) (getD (slotGrid table t) k [])
   filled-alike {s} {t} y z k = go (ltb k 10) refl
     where
       differ : k < 10 → wrongOfCode (getD gridCodes k 0) 3 ≡ false → wrongOfCode (getD gridCodes k 0) 4 ≡ false → ⊥
@@ -76,9 +78,10 @@ module _ {a : List ℕ} (small : length a < 65536) {table : List (List ℕ)} whe
 
       go : (b : Bool) → ltb k 10 ≡ b → Alike (getD (slotGrid table s) k []) (getD (slotGrid table t) k [])
       go true e =
-          let h = ltb-true k 10 e in
-          (λ p q. differ h (kind-right y k h 3 p (λ i. omega arith)) (kind-right z k h 4 q (λ i. omega arith)),
-          λ p q. differ h (kind-right z k h 3 q (λ i. omega arith)) (kind-right y k h 4 p (λ i. omega arith)))
+          let h = ltb-true k 10 e in (
+            λ p q. differ h (kind-right y k h 3 p (λ i. omega arith)) (kind-right z k h 4 q (λ i. omega arith)),
+            λ p q. differ h (kind-right z k h 3 q (λ i. omega arith)) (kind-right y k h 4 p (λ i. omega arith)),
+          )
       go false e = let h = ltb-false k 10 e in (λ p q. omega (arith, no-row h s), λ p q. omega (arith, no-row h s))
 
 -- ---- the link's bandwidths
@@ -91,7 +94,8 @@ link-row (suc (suc zero)) h = refl
 link-row (suc (suc (suc k))) h = absurd (omega arith)
 
 module _ (a : List ℕ) (small : length a < 65536) (table : List (List ℕ)) (f : ℕ → List Attribute) (stands : (c : ℕ) → All (Stands a) (f c)) where
-  pub link-values : ((k : ℕ) → k < 3 → cell table 2 k ≡ cellIn (getD linkCodes k 0) (f (getD linkCodes k 0))) → map (bandwidthOf a (linkRows table)) linkCodes ≡ map (λ c. valueOf c (f c)) linkCodes
+  pub link-values : ((k : ℕ) → k < 3 → cell table 2 k ≡ cellIn (getD linkCodes k 0) (f (getD linkCodes k 0)))
+      → map (bandwidthOf a (linkRows table)) linkCodes ≡ map (λ c. valueOf c (f c)) linkCodes
   unfolding bandwidthOf linkRows
   link-values e = map-by (bandwidthOf a (linkRows table)) (λ c. valueOf c (f c)) linkCodes (λ k l. value k (omega (arith, three-codes)))
     where
@@ -124,7 +128,8 @@ module _ (run row : List ℕ) (f : Fitting run row) where
       (set-fitting run (withMaximum row) maximum-fits 1 _ (omega arith) (fits-first run (getD row 4 0) (getD row 1 0) (f .fits 4 (omega arith)) (f .fits 1 (omega arith))))
       2 _ (omega arith) (fits-first run (getD row 5 0) (getD row 2 0) (f .fits 5 (omega arith)) (f .fits 2 (omega arith)))
 
-pub settled-table : {run : List ℕ} {table : List (List ℕ)} → Table run table → 2 < length table → (l : Bool) → Table run (set table 2 (settled (getD table 2 []) l))
+pub settled-table : {run : List ℕ} {table : List (List ℕ)} → Table run table → 2 < length table → (l : Bool)
+    → Table run (set table 2 (settled (getD table 2 []) l))
 settled-table {run} {table} t h l = row-table table 2 h (settled (getD table 2 []) l) run t (settled-fits run (getD table 2 []) (t .rows 2 h) l) (λ d. absurd (d refl))
 
 -- Its three cells.
@@ -133,7 +138,8 @@ module _ (row : List ℕ) (twelve : length row ≡ 12) where
   one = set (withMaximum row) 1 (first (getD row 4 0) (getD row 1 0))
 
   sizes : (length (withMaximum row) ≡ 12) × (length one ≡ 12)
-  sizes = let s = length-set row 0 (first (getD row 0 0) (getD row 3 0)) ∙ twelve in (s, length-set (withMaximum row) 1 (first (getD row 4 0) (getD row 1 0)) ∙ s)
+  sizes = let s = length-set row 0 (first (getD row 0 0) (getD row 3 0)) ∙ twelve in
+      (s, length-set (withMaximum row) 1 (first (getD row 4 0) (getD row 1 0)) ∙ s)
 
   maximum-cell : getD (withMaximum row) 0 0 ≡ first (getD row 0 0) (getD row 3 0)
   maximum-cell = getD-set-same row 0 _ 0 (omega arith)
@@ -152,7 +158,8 @@ module _ (row : List ℕ) (twelve : length row ≡ 12) where
 
 -- ---- the table with the settled row
 
-pub settled-of : {a : List ℕ} {own begun walked table : List (List ℕ)} {l : Bool} → length walked ≡ length begun → Walked a own walked → (b : Bool) → b ≡ l → table ≡ set walked 2 (settled (getD walked 2 []) b) → Settled a own begun table l
+pub settled-of : {a : List ℕ} {own begun walked table : List (List ℕ)} {l : Bool} → length walked ≡ length begun → Walked a own walked → (b : Bool) → b ≡ l
+    → table ≡ set walked 2 (settled (getD walked 2 []) b) → Settled a own begun table l
 settled-of {a} {own} {begun} {walked} h w b e i = record { walked = walked; same = h; walk = w; settles = i ∙ ap (λ (x : Bool). set walked 2 (settled (getD walked 2 []) x)) e }
 
 pub settled-ready : {a : List ℕ} {named : Names} {own begun table : List (List ℕ)} {l : Bool} → Started named begun own → Settled a own begun table l

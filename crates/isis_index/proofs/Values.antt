@@ -1,17 +1,16 @@
 -- Cells of attributes that stand in run A, and the values that they stand for. Assumes nothing.
-use mathlib.Core.Path.{_≡_, refl, sym, ap, ap₂, _∙_, subst}
+use mathlib.Core.Path.{_≡_, refl, sym, ap, ap₂, _∙_}
 use mathlib.Core.Bool.{Bool, true, false, cond, _&&_, _||_, not, false≢true}
-use mathlib.Core.List.{List, [], _∷_, _++_, map}
-use Prim.Native.Nat.{ℕ, zero, suc, _+_, _*_, _/_, _%_, _≤_, _<_}
+use mathlib.Core.List.{List, [], _∷_, _++_}
+use Prim.Native.Nat.{ℕ, zero, suc, _/_, _%_, _<_}
 use native.Mathlib.Omega.{arith}
-use borrow.Author.Tests.{eqb-true, eqb-false, eq-eqb, ne-eqb}
-use lib.Dec.{eqb, leb, ltb}
+use borrow.Author.Tests.{eqb-true, eq-eqb, ne-eqb}
+use lib.Dec.{eqb, leb}
 use lib.ListN.{length, getD}
 use Rattle.linkstate.specs.Lists.{keep, empty}
 use Rattle.linkstate.specs.Bytes.{bytesAt}
 use Rattle.linkstate.specs.Kinds.{linkCodes}
 use Rattle.linkstate.specs.Attributes.{Attribute, ofKind, firstValue, valueOf}
-use Rattle.linkstate.proofs.ListLaws.{and-l}
 use Rattle.kinds.specs.Rules.{gridCodes}
 use Rattle.kinds.proofs.Computing.{computing}
 use Rattle.tlv_bytes.specs.Tlvs.{front, valueAt}
@@ -47,7 +46,8 @@ fours n e = go (eqb (n % 4) 0) refl e
     go true i e = eqb-true (n % 4) 0 i
     go false i e = absurd (false≢true (sym e))
 
-sized-by : (c k : ℕ) → ((n : ℕ) → wrongOfCode c n ≡ not (eqb n k) || false) → (k ≡ 3 → ⊥) → wrongOfCode c 0 ≡ true → eqb c 1096 ≡ false → eqb c 1092 ≡ false → Sized c
+sized-by : (c k : ℕ) → ((n : ℕ) → wrongOfCode c n ≡ not (eqb n k) || false) → (k ≡ 3 → ⊥) → wrongOfCode c 0 ≡ true → eqb c 1096 ≡ false → eqb c 1092 ≡ false
+    → Sized c
 sized-by c k e d s m t = record { single = m; some = s; three = λ n h. let i = exact k n (sym (e n) ∙ h) in ne-eqb n 3 (λ z. d (omega arith)) ∙ sym t }
 
 grid-sized : All Sized gridCodes

@@ -1,31 +1,31 @@
 -- The turns of the walk over run A. Assumes nothing.
 use mathlib.Core.Path.{_≡_, refl, sym, ap, ap₂, _∙_, subst}
 use mathlib.Core.Bool.{Bool, true, false, cond, _||_, not}
-use mathlib.Core.List.{List, [], _∷_, _++_, append-assoc, append-nil}
+use mathlib.Core.List.{List, [], _++_, append-assoc, append-nil}
 use Prim.Native.Nat.{ℕ, zero, suc, _+_, _-_, _≤_, _<_}
 use native.Mathlib.Omega.{arith}
 use native.Mathlib.Nat.{zero-add}
 use borrow.Author.Tests.{eq-eqb}
-use lib.Dec.{eqb, ltb}
+use lib.Dec.{ltb}
 use lib.ListN.{length, getD, replicate}
 use Rattle.linkstate.specs.Lists.{any, each}
 use Rattle.linkstate.specs.Bytes.{bytesAt}
 use Rattle.linkstate.specs.Replies.{accepted, runA}
 use Rattle.linkstate.specs.Elements.{Element, element, elements, faults}
 use Rattle.linkstate.specs.Attributes.{Attribute}
-use Rattle.linkstate.specs.Sides.{Advertisement, names}
+use Rattle.linkstate.specs.Sides.{names}
 use Rattle.linkstate.proofs.ListLaws.{any-append}
 use Rattle.linkstate.proofs.WalkLaws.{left, each-end}
-use Rattle.masks.specs.Sets.{turnedPlace}
 use Rattle.masks.proofs.Steps.{zero-none}
 use Rattle.isis.specs.RunA.{checkA, aslaAdvertisements, sideA}
 use Rattle.isis_grids.proofs.Walks.{left-all, inside, passed, rest-ok, turn}
 use Rattle.grids.specs.Slots.{cell}
-use Rattle.set_table.specs.Tables.{first, Table, slotAt, inPair, Having, emptyRow}
+use Rattle.set_table.specs.Tables.{slotAt, inPair, Having}
 use Rattle.set_table.proofs.Tables.{first-free}
 use Rattle.set_table.proofs.Assigns.{empty-cell, empty-table}
-use Rattle.isis_index.specs.Index.{cellIn, Source, Spot, takes, sourceOf, slotIn, cellAt, codeOf, owning, Valid, Ground, Adds, Ready, inRun, hereIn, Here, Owning, Gains, Empty, Walked}
-use Rattle.isis_index.proofs.Cells.{spot-inside, adds-then, adds-as, adds-none}
+use Rattle.isis_index.specs.Index.{cellIn, Source, takes, sourceOf, slotIn, cellAt, codeOf, owning, Ground, Ready, inRun, hereIn, Here, Owning, Gains}
+use Rattle.isis_index.specs.Index.{Empty, Walked}
+use Rattle.isis_index.proofs.Cells.{spot-inside, adds-then, adds-none}
 use Rattle.isis_index.proofs.Heard.{ground-same}
 
 -- ---- where the walk begins
@@ -34,7 +34,7 @@ use Rattle.isis_index.proofs.Heard.{ground-same}
 abbrev pub nobody : List (List ℕ)
 nobody = replicate 10 (replicate 2 0)
 
-no-mask : (n k i : ℕ) → getD (getD (replicate n (replicate {A = ℕ} 2 0)) k []) i 0 ≡ 0
+pub no-mask : (n k i : ℕ) → getD (getD (replicate n (replicate {A = ℕ} 2 0)) k []) i 0 ≡ 0
 no-mask zero k i = refl
 no-mask (suc n) zero zero = refl
 no-mask (suc n) zero (suc zero) = refl
@@ -77,7 +77,8 @@ pub record Walking (a : List ℕ) (owns begun table have : List (List ℕ)) (at 
   pub parts : (src : Source) → gone src ++ each (takes src) (left 1 0 a at) ≡ inRun a src
   pub done : Gains a owns begun table have gone
 
-pub walking-begin : {a : List ℕ} {owns table : List (List ℕ)} → faults runA checkA (elements 1 0 a) ≡ accepted → Ground owns table → Empty table → Owning owns ((sideA a) .live)
+pub walking-begin : {a : List ℕ} {owns table : List (List ℕ)} → faults runA checkA (elements 1 0 a) ≡ accepted → Ground owns table → Empty table
+    → Owning owns ((sideA a) .live)
     → Walking a owns table table nobody 0
 unfolding sideA
 walking-begin {a} {owns} {table} p g e o = record {
@@ -116,7 +117,8 @@ module _ {a : List ℕ} {owns begun table have : List (List ℕ)} {at : ℕ} (w 
     pub walking-named : Owning owns (aslaAdvertisements (hereIn a at))
     walking-named n l e = w .named n l (names-split n ∙ ap (λ (b : Bool). b || any (names n) (each aslaAdvertisements (left 1 0 a (at + 2 + getD a (at + 1) 0)))) e)
 
-    pub walking-next : {after had : List (List ℕ)} → Gains a owns table after had (λ src. takes src (hereIn a at)) → Walking a owns begun after had (at + 2 + getD a (at + 1) 0)
+    pub walking-next : {after had : List (List ℕ)} → Gains a owns table after had (λ src. takes src (hereIn a at))
+        → Walking a owns begun after had (at + 2 + getD a (at + 1) 0)
     walking-next g = record {
       bound = walking-inside;
       ok = rest-ok checkA 0 a at here (w .ok);

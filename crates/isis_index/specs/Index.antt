@@ -38,7 +38,8 @@ unfoldable pub takes : Source → Element → List Attribute
 takes legacy e = attributesOf e
 takes (live w) e = selected w e
 
--- The cells that are filled: of the general set and of legacy; of the link's bandwidths from legacy, from any advertisement without L, and from those for RSVP-TE alone;
+-- The cells that are filled: of the general set and of legacy; of the link's bandwidths from legacy, from any advertisement without L, and from those for
+-- RSVP-TE alone;
 -- and of an application's own set.
 pub data Spot : Type 0 where
   general : (k : ℕ) → Spot
@@ -100,7 +101,8 @@ pub record Ground (owns table : List (List ℕ)) : Type 0 where
 -- What a table has become where attributes came to its cells, by their source.
 pub record Adds (owns table after : List (List ℕ)) (new : Source → List Attribute) : Type 0 where
   pub same : length after ≡ length table
-  pub cells : (x : Spot) → Valid owns x → cell after (slotIn owns x) (cellAt x) ≡ first (cell table (slotIn owns x) (cellAt x)) (cellIn (codeOf x) (new (sourceOf x)))
+  pub cells : (x : Spot) → Valid owns x
+      → cell after (slotIn owns x) (cellAt x) ≡ first (cell table (slotIn owns x) (cellAt x)) (cellIn (codeOf x) (new (sourceOf x)))
 
 -- The slots of applications are as they were.
 pub record Kept (table after : List (List ℕ)) : Type 0 where
@@ -114,7 +116,8 @@ pub record Right (run : List ℕ) (t place n : ℕ) : Type 0 where
   pub short : n ≤ mostBytes
   pub right : wrongInA t n ≡ false
 
--- Who hears the list of an advertisement without L: that of a general one, and that of two masks as sent, which are not both empty. RSVP-TE alone is bit 7 of the standard mask.
+-- Who hears the list of an advertisement without L: that of a general one, and that of two masks as sent, which are not both empty. RSVP-TE alone is bit 7 of
+-- the standard mask.
 unfoldable pub heardByAll : Source → Bool
 heardByAll legacy = false
 heardByAll (live (Naming n)) = false

@@ -17,7 +17,8 @@ pub record Holds (run : List ℕ) (sets : List (List ℕ)) (s : ℕ) (f : ℕ �
   pub stands : IsSet sets s
   pub values : slotValues run sets s ≡ map (λ c. valueOf c (f c)) gridCodes
 
--- W2 to W13. Slots of applications by `own`, whether they are named or not; slot 0 the general set, slot r RSVP-TE's, slot 2 the link's bandwidths. No class is given yet.
+-- W2 to W13. Slots of applications by `own`, whether they are named or not; slot 0 the general set, slot r RSVP-TE's, slot 2 the link's bandwidths. No class is
+-- given yet.
 pub record Indexed (a : List ℕ) (sets own : List (List ℕ)) (r : ℕ) : Type 0 where
   pub slots : Slots a sets
   pub owned : Owned own

@@ -43,5 +43,9 @@ slotBy NamingFirst s = s
 slotBy AloneFirst s = 1
 slotBy LegacyFirst s = 1
 
+-- RSVP-TE's rule, by four masks.
+abbrev pub ruleBy : Names → Rule
+ruleBy named = rsvpTeRule (inBoth (named .lstandard) (named .luser) 0) (inBoth (named .standard) (named .user) 0)
+
 abbrev pub rsvpTeSlot : Names → List (List ℕ) → ℕ
-rsvpTeSlot named owns = slotBy (rsvpTeRule (inBoth (named .lstandard) (named .luser) 0) (inBoth (named .standard) (named .user) 0)) (slotAt owns 7)
+rsvpTeSlot named owns = slotBy (ruleBy named) (slotAt owns 7)

@@ -303,12 +303,7 @@ fn walk_and_settle(a: &[u8], named: Names, sets: &mut [[u32; 12]], own: &[[u8; 2
 }
 
 // Run A, accepted, whose applications have their slots: the table of its sets, and the slot of every subject. The answer is the slot of RSVP-TE's set.
-pub fn index_a(
-    a: &[u8],
-    named: Names,
-    sets: &mut [[u32; 12]],
-    own: &mut [[u8; 2]; 128],
-) -> usize
+pub fn index_a(a: &[u8], named: Names, sets: &mut [[u32; 12]], own: &mut [[u8; 2]; 128]) -> usize
     requires { ⌜ (faults runA checkA (elements 1 0 (now a)) ≡ accepted) × (length (now a) < 65536) × Tells ((sideA (now a)) .live) named × Started named (now sets) (now own) ⌝ }
     ensures { λ r. ⌜ Indexed (now (a .entry)) (now (sets .exit)) (now (own .exit)) r ⌝ }
 {

@@ -28,7 +28,8 @@ named-list-requires c κs = let s = c .before .before .before .before .before .b
     (s .pre .0, t .0 .listed, named-within (s .pre .1) _ _ (now (s .args .own)) (t .1) (s .pre .3))
 
 returns : tie.Need-returns
-returns c = let s = c .before .before .before .before in gains-none (s .pre .1) (s .pre .2) (s .pre .0) (read-unread (s .pre .1) _ (c .before .before .read-asla .ensures) (c .enum-told .given .1))
+returns c = let s = c .before .before .before .before in
+    gains-none (s .pre .1) (s .pre .2) (s .pre .0) (read-unread (s .pre .1) _ (c .before .before .read-asla .ensures) (c .enum-told .given .1))
 
 same-length : tie.Need-same-length
 same-length c = search needs

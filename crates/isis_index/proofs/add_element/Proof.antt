@@ -1,6 +1,5 @@
 -- `isis_index::add_element` meets its contract: an ASLA, or a legacy attribute. Assumes nothing.
 use Prim.Native.Nat.{_+_}
-use denote.Ref.{now}
 use native.Mathlib.Omega.{arith}
 use Rattle.isis_index.proofs.Taking.{legacy-right, gains-legacy}
 use borrow.Author.Needs.{needs}
@@ -36,7 +35,8 @@ same-length-2 : tie.Need-same-length-2
 same-length-2 c = search needs
 
 returns-2 : tie.Need-returns-2
-returns-2 c = let s = c .before .before .before .before .before .before .before in gains-legacy (s .pre .1) (c .before .before .before .before .if1 .left) (s .pre .0) (c .before .enter-legacy .ensures)
+returns-2 c = let s = c .before .before .before .before .before .before .before in
+    gains-legacy (s .pre .1) (c .before .before .before .before .if1 .left) (s .pre .0) (c .before .enter-legacy .ensures)
 
 pub add-element-spec : {M : Type 1} → statement M
 add-element-spec =

@@ -1,7 +1,6 @@
 -- `isis_index::first_of` meets its contract. Assumes nothing.
 use mathlib.Core.Path.{sym}
 use Rattle.set_table.proofs.Tables.{first-free, first-taken}
-use borrow.Author.Needs.{needs}
 use Rattle.isis_index.proofs.first_of.Statement.{statement}
 use Rattle.isis_index.proofs.first_of.Tie as tie
 

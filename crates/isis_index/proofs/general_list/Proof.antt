@@ -3,7 +3,7 @@ use Prim.Native.Nat.{_+_, _-_}
 use native.Mathlib.Omega.{arith}
 use denote.Ref.{now}
 use Rattle.isis_index.specs.Index.{Took, heardByAll}
-use Rattle.isis_index.proofs.Lists.{Reading, reading-begin, reading-end, reading-right, reading-inside, reading-room, reading-next, took-then, took-empty, general-ready}
+use Rattle.isis_index.proofs.Lists.{Reading, reading-begin, reading-end, reading-right, reading-room, reading-next, took-then, took-empty, general-ready}
 use borrow.Author.Needs.{needs}
 use Rattle.isis_index.proofs.general_list.Statement.{statement}
 use Rattle.isis_index.proofs.general_list.Tie as tie
@@ -33,7 +33,8 @@ add-enter-general : tie.Need-add-enter-general Inv-loop μ-loop
 add-enter-general c = search needs
 
 enter-general-requires : tie.Need-enter-general-requires Inv-loop μ-loop
-enter-general-requires c κs = let p = c .before .before .before .before .before .before .pre in let l = c .before .before .before .before .loop in let g = general-ready (p .1) (l .inv) in
+enter-general-requires c κs = let p = c .before .before .before .before .before .before .pre in let l = c .before .before .before .before .loop in
+    let g = general-ready (p .1) (l .inv) in
     (g .0, g .1, reading-right (p .2) (l .inv) (c .before .before .before .loop-test .taken) (omega (arith, c .before .before .shared-slice-known2 .given (l .at + 1))))
 
 add-at : tie.Need-add-at Inv-loop μ-loop

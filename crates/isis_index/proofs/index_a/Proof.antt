@@ -19,7 +19,8 @@ same-length : tie.Need-same-length
 same-length c = search needs
 
 returns : tie.Need-returns
-returns c = let p = c .before .before .before .before .before .before .before .before .before .before .before .pre in let r = c .before .before .before .rsvp-te-slot .ensures in
+returns c = let p = c .before .before .before .before .before .before .before .before .before .before .before .pre in
+    let r = c .before .before .before .rsvp-te-slot .ensures in
     indexed (record {
       ok = p .0;
       small = p .1;

@@ -1,5 +1,4 @@
 -- `isis_index::read_asla` meets its contract, test by test. Assumes nothing.
-use Prim.Native.Nat.{_+_}
 use mathlib.Core.Path.{_∙_, sym, refl}
 use native.Mathlib.Omega.{arith}
 use Rattle.isis_index.proofs.Aslas.{header-there, unread-l, unread-long, masks-there, told-all, told-named, named-here}
@@ -63,9 +62,10 @@ returns-4 c = let s = c .before .before .before .before .before .before .before 
     let q = c .before .before .before .before .before .before .before .before .read-header .ensures .0 in
     let l = c .before .before .before .before .before .before .before .if1 .left in
     let m = sym (c .before .before .before .before .before .before .mask-too-long .ensures) ∙ c .before .before .before .before .before .if2 .left in
-    let d = c .before .before .if3 .left in
-    (told-named (s .pre .0) (s .pre .1) _ q l m _ _ (search needs) (search needs) (λ z. d (omega arith)) (c .before .with-sent .ensures) (c .with-sent2 .ensures) _ refl,
-    named-here (s .pre .0) (s .pre .1) _ q l m _ _ (search needs) (search needs) (λ z. d (omega arith)) (c .before .with-sent .ensures) (c .with-sent2 .ensures))
+    let d = c .before .before .if3 .left in (
+      told-named (s .pre .0) (s .pre .1) _ q l m _ _ (search needs) (search needs) (λ z. d (omega arith)) (c .before .with-sent .ensures) (c .with-sent2 .ensures) _ refl,
+      named-here (s .pre .0) (s .pre .1) _ q l m _ _ (search needs) (search needs) (λ z. d (omega arith)) (c .before .with-sent .ensures) (c .with-sent2 .ensures),
+    )
 
 pub read-asla-spec : {M : Type 1} → statement M
 read-asla-spec =

@@ -1,9 +1,7 @@
 -- `isis_index::rsvp_te_slot` meets its contract: by the rule its own slot, filled up, or legacy's. Assumes nothing.
-use Prim.Native.Nat.{ℕ}
 use mathlib.Core.Path.{_∙_, sym, subst}
 use denote.Ref.{now}
 use Rattle.grids.specs.Slots.{IsSet}
-use Rattle.set_table.specs.Tables.{slotAt}
 use Rattle.isis_index.proofs.Settling.{old-given}
 use Rattle.isis_index.proofs.RsvpTe.{own-slot, own-named, old-slot}
 use borrow.Author.Needs.{needs}

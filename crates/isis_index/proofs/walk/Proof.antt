@@ -32,7 +32,8 @@ add-end-3 : tie.Need-add-end-3 Inv-loop μ-loop
 add-end-3 c = omega (arith, walking-inside (c .before .before .loop .inv) (c .before .loop-test .taken), c .before .before .before .before .pre .1)
 
 add-element-requires : tie.Need-add-element-requires Inv-loop μ-loop
-add-element-requires c κs = let w = c .before .before .before .before .loop .inv in let here = c .before .before .before .loop-test .taken in let p = c .before .before .before .before .before .before .pre in
+add-element-requires c κs = let w = c .before .before .before .before .loop .inv in let here = c .before .before .before .loop-test .taken in
+    let p = c .before .before .before .before .before .before .pre in
     (walking-ready w (p .2), walking-here w here (p .1), walking-named w here)
 
 loop-less : tie.Need-loop-less Inv-loop μ-loop

@@ -17,7 +17,8 @@ same-length : tie.Need-same-length
 same-length c = search needs
 
 returns : tie.Need-returns
-returns c = let w = c .before .before .before .before .before .walk .ensures in settled-of (w .0) (w .1) _ (c .before .before .is-named-with-l .ensures) (c .before .settle .ensures)
+returns c = let w = c .before .before .before .before .before .walk .ensures in
+    settled-of (w .0) (w .1) _ (c .before .before .is-named-with-l .ensures) (c .before .settle .ensures)
 
 pub walk-and-settle-spec : {M : Type 1} → statement M
 walk-and-settle-spec =
