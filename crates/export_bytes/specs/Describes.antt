@@ -1,16 +1,18 @@
--- When the sets that an export is written from are those of a meaning.
+-- When the tables that an export is written from are those of a meaning.
 use mathlib.Core.Path.{_≡_}
-use mathlib.Core.List.{List, map}
+use mathlib.Core.List.{List, [], map}
 use Prim.Native.Nat.{ℕ}
+use lib.ListN.{length, getD}
 use Rattle.linkstate.specs.Kinds.{codes}
 use Rattle.linkstate.specs.Meaning.{Meaning, row}
 use Rattle.linkstate.specs.Export.{topValue}
-use Rattle.set_bytes.specs.Sets.{setOf, topOf}
 use Rattle.set_groups.specs.Groups.{groupsBelow}
-use Rattle.set_groups.specs.Table.{tableGroups}
+use Rattle.set_groups.specs.Table.{word, slotIn, classIn, tableGroups}
+use Rattle.export_bytes.specs.Whole.{slotSet, topSet}
 
--- Bandwidths and the RSVP-TE set (l, r, rs), the general set (g, gs), and the table of the groups of all named applications.
-pub record Describes (m : Meaning) (a : List ℕ) (l r : List (List ℕ)) (rs : List ℕ) (g : List (List ℕ)) (gs values : List ℕ) (count : ℕ) (grids : List (List (List ℕ))) (bits heads : List (List ℕ)) : Type 0 where
-  pub top : map (topOf a l r rs) codes ≡ map (topValue m) codes
-  pub general : row (setOf a g gs) ≡ row (m .general)
-  pub groups : tableGroups a values count grids bits heads ≡ groupsBelow m 128
+-- Bandwidths and RSVP-TE's set (slot s, class c), the general set (entry 0, with no member), and the groups of all named applications.
+pub record Describes (m : Meaning) (run : List ℕ) (sets : List (List ℕ)) (srlgs : ℕ → List ℕ) (groups : List (List ℕ)) (s c : ℕ) : Type 0 where
+  pub top : map (topSet run sets srlgs s c) codes ≡ map (topValue m) codes
+  pub general : row (slotSet run sets srlgs (slotIn (word groups 0)) (classIn (word groups 0))) ≡ row (m .general)
+  pub nobody : (getD (getD groups 0 []) 0 0 ≡ 0) × (getD (getD groups 0 []) 1 0 ≡ 0)
+  pub members : tableGroups run sets srlgs groups (length groups) ≡ groupsBelow m 128

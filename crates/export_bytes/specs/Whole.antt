@@ -1,26 +1,65 @@
--- The bytes of an export, by the sets that it is written from (rules L2, L3).
-use mathlib.Core.Bool.{cond}
+-- The bytes of an export, by the tables that it is written from (rules L2, L3), and what it answers.
+use mathlib.Core.Path.{_≡_}
+use mathlib.Core.Bool.{Bool, cond}
 use mathlib.Core.List.{List, [], _++_}
-use Prim.Native.Nat.{ℕ}
-use Rattle.linkstate.specs.Lists.{all, empty}
-use Rattle.linkstate.specs.Meaning.{row}
+use Prim.Native.Nat.{ℕ, _-_, _≤_, _<_}
+use lib.ListN.{length, getD}
+use Rattle.linkstate.specs.Lists.{numbers, each}
+use Rattle.linkstate.specs.Replies.{accepted, bytes, Exported}
+use Rattle.linkstate.specs.Questions.{write}
 use Rattle.linkstate.specs.Export.{tlv, bytesOf, aslaValue}
-use Rattle.set_bytes.specs.Sets.{setOf, topOf, inTlvs, lowCodes, highCodes}
-use Rattle.asla_bytes.specs.Applications.{inNumbers}
-use Rattle.group_bytes.specs.Groups.{groupsBytes}
+use Rattle.naming.specs.Names.{inBoth}
+use Rattle.tlv_bytes.specs.Tlvs.{inTlvs}
+use Rattle.srlg_bytes.specs.Standing.{numbersIn, Classes, Standing}
+use Rattle.grids.specs.Grids.{setOf, topOf}
+use Rattle.grids.specs.Slots.{slotGrid, linkRows, IsSet, Slots}
+use Rattle.set_bytes.specs.Sets.{lowCodes, highCodes}
+use Rattle.set_groups.specs.Table.{word, slotIn, classIn}
+use Rattle.export_sizes.specs.declared.Asla.{Asla}
+use Rattle.export_sizes.specs.Sizes.{aslaOf}
 
--- L3. The TLV of the general set, none where it is empty.
-unfoldable pub generalBytes : List ℕ → List (List ℕ) → List ℕ → List ℕ
-generalBytes a g ns = cond (all empty (row (setOf a g ns))) [] (bytesOf (tlv 1122 (aslaValue (inNumbers 0 0) (setOf a g ns))))
+-- The set of a slot and a class.
+abbrev pub slotSet : List ℕ → List (List ℕ) → (ℕ → List ℕ) → ℕ → ℕ → ℕ → List ℕ
+slotSet run sets srlgs s c = setOf run (slotGrid sets s) (srlgs c)
 
--- L2. What stands at the top before the ASLA TLVs and after them.
-abbrev pub lowBytes : List ℕ → List (List ℕ) → List (List ℕ) → List ℕ → List ℕ
-lowBytes a l g ns = inTlvs (topOf a l g ns) lowCodes
+-- L3 to L6. An ASLA TLV; those of entries from one on.
+unfoldable pub aslaTlv : List ℕ → List (List ℕ) → (ℕ → List ℕ) → Asla → List ℕ
+aslaTlv run sets srlgs e = bytesOf (tlv 1122 (aslaValue (inBoth (e .standard) (e .user)) (slotSet run sets srlgs (e .slot) (e .class))))
 
-abbrev pub highBytes : List ℕ → List (List ℕ) → List (List ℕ) → List ℕ → List ℕ
-highBytes a l g ns = inTlvs (topOf a l g ns) highCodes
+abbrev pub entryTlv : List ℕ → List (List ℕ) → (ℕ → List ℕ) → List (List ℕ) → ℕ → List ℕ
+entryTlv run sets srlgs groups i = aslaTlv run sets srlgs (aslaOf (getD groups i []))
 
--- All of it, ascending by type: bandwidths and the RSVP-TE set (l, r, rs), the general set (g, gs), and the groups of a table.
-unfoldable pub wholeBytes : List ℕ → List (List ℕ) → List (List ℕ) → List ℕ → List (List ℕ) → List ℕ → List ℕ → ℕ → List (List (List ℕ)) → List (List ℕ) → List (List ℕ) → List ℕ
-wholeBytes a l r rs g gs values count grids bits heads =
-    lowBytes a l r rs ++ generalBytes a g gs ++ groupsBytes a values count grids bits heads ++ highBytes a l r rs
+abbrev pub aslaTlvs : List ℕ → List (List ℕ) → (ℕ → List ℕ) → List (List ℕ) → ℕ → ℕ → List ℕ
+aslaTlvs run sets srlgs groups from n = each (entryTlv run sets srlgs groups) (numbers from n)
+
+-- L2. What stands at the top: the link's bandwidths, and RSVP-TE's set by slot and class.
+abbrev pub topSet : List ℕ → List (List ℕ) → (ℕ → List ℕ) → ℕ → ℕ → ℕ → List ℕ
+topSet run sets srlgs s c = topOf run (linkRows sets) (slotGrid sets s) (srlgs c)
+
+-- All of it, ascending by type, with the ASLA TLVs from an entry on.
+unfoldable pub wholeBytes : List ℕ → List (List ℕ) → (ℕ → List ℕ) → List (List ℕ) → ℕ → ℕ → ℕ → List ℕ
+wholeBytes run sets srlgs groups from s c =
+    inTlvs (topSet run sets srlgs s c) lowCodes ++ aslaTlvs run sets srlgs groups from (length groups - from) ++ inTlvs (topSet run sets srlgs s c) highCodes
+
+-- Tables of sets and of SRLGs that an export can be written from.
+pub record Tables (run : List ℕ) (sets : List (List ℕ)) (values : List ℕ) (rows classes : List (List ℕ)) : Type 0 where
+  pub slots : Slots run sets
+  pub link : 2 < length sets
+  pub known : Classes values rows classes
+
+-- Groups whose entries, from 0 on, have slots and classes of these tables.
+pub record Entered (sets classes groups : List (List ℕ)) : Type 0 where
+  pub some : 1 ≤ length groups
+  pub most : length groups ≤ 128
+  pub slot : (i : ℕ) → i < length groups → IsSet sets (slotIn (word groups i))
+  pub class : (i : ℕ) → i < length groups → classIn (word groups i) < length classes
+
+-- A place of a buffer up to which such tables are written: the classes that were written stand before it.
+pub record Open (run : List ℕ) (sets : List (List ℕ)) (values : List ℕ) (rows classes : List (List ℕ)) (places buffer : List ℕ) (at : ℕ) : Type 0 where
+  pub tables : Tables run sets values rows classes
+  pub placed : length classes ≤ length places
+  pub standing : Standing (numbersIn values rows classes) places buffer at
+
+-- K5, R5. What an export answers: the length alone, with nothing written; or the third service, of a link that was accepted.
+unfoldable pub answered : Bool → List ℕ → List ℕ → Exported
+answered measuring result buffer = cond measuring (record { reply = bytes (length result); buffer = buffer }) (write accepted result buffer)

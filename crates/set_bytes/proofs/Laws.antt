@@ -1,11 +1,13 @@
 -- Laws of the TLVs of a set, piece by piece: of one kind by its row, of kinds in turn, and of three pieces with the SRLGs of a class among them. Assumes nothing.
 use Prim.Native.Nat.{ℕ, zero, suc, _+_, _-_, _≤_, _<_}
 use mathlib.Core.Path.{_≡_, refl, sym, _∙_, ap, ap₂}
+use mathlib.Core.Bool.{Bool, true, false, cond}
 use mathlib.Core.Logic.{⊎-elim}
 use mathlib.Core.List.{List, [], _∷_, _++_, map}
 use types.Run.{OneOf}
 use denote.Enum.Declared.{tagOf}
 use native.Mathlib.Omega.{arith}
+use lib.Dec.{eqb}
 use lib.ListN.{length, getD, take, drop, length-append, take-append-drop}
 use Rattle.linkstate.specs.Kinds.{linkCodes, applicationCodes}
 use Rattle.linkstate.specs.Export.{tlv, bytesOf}
@@ -15,8 +17,8 @@ use Rattle.kinds.specs.declared.Rule.{Rule}
 use Rattle.kinds.proofs.Kind.{the-type}
 use Rattle.kinds.specs.Rules.{gridCodes, ruleOfCode, rowIn}
 use Rattle.kinds.proofs.Computing.{computing}
-use Rattle.tlv_bytes.specs.Tlvs.{inTlvs, valueAt, Wrote}
-use Rattle.tlv_bytes.proofs.Laws.{tlvs-none, tlvs-append, tlv-absent, tlv-present, tlvs-same, in-three, length-value, no-write, same-room, same-write, behind-room, behind-write, Three, first-room, second-room, third-room}
+use Rattle.tlv_bytes.specs.Tlvs.{inTlvs, valueAt, valueSize, Wrote}
+use Rattle.tlv_bytes.proofs.Laws.{tlvs-none, tlvs-append, tlv-absent, tlv-present, tlvs-same, in-three, length-value, size-value, no-write, same-room, same-write, behind-room, behind-write, Three, length-three, first-room, second-room, third-room}
 use Rattle.grids.specs.Grids.{rowValue, gridValue, setOf, bandwidthOf, topOf, RowFits, Fits, rowRead}
 use Rattle.grids.specs.Slots.{linkRows, cell, cellRow}
 use Rattle.grids.specs.declared.Row.the-variants.{Present, Absent}
@@ -108,7 +110,7 @@ link-row (suc (suc zero)) h = refl
 link-row (suc (suc (suc k))) h = absurd (omega arith)
 
 module _ (run : List ℕ) (sets : List (List ℕ)) where
-  link-at : (k : ℕ) → k < 3 → getD (linkRows sets) k [] ≡ cellRow (cell sets 2 k)
+  pub link-at : (k : ℕ) → k < 3 → getD (linkRows sets) k [] ≡ cellRow (cell sets 2 k)
   unfolding linkRows
   link-at k h = let z : 0 + k ≡ k = omega arith in row-numbers (λ j. cellRow (cell sets 2 j)) 3 0 k h ∙ ap (λ (j : ℕ). cellRow (cell sets 2 j)) z
 
@@ -134,6 +136,16 @@ module _ (run r : List ℕ) (f : ℕ → List ℕ) (c : ℕ) (is : f c ≡ rowVa
         let s = row-is r p n e in
         ap (λ (x : ℕ). bytesOf (tlv x (valueAt run p n))) q
         ∙ sym (tlv-present f c (valueAt run p n) (is ∙ row-present r run p n e) (omega (arith, length-value run p n (kind-fits .0), s .2)))
+
+-- How many bytes the TLV of a kind has, by its row.
+pub kind-size : (run r : List ℕ) (f : ℕ → List ℕ) (c : ℕ) → f c ≡ rowValue run r → RowFits run r → length (inTlvs f (c ∷ [])) ≡ cond (eqb (getD r 1 0) 0) 0 (valueSize (getD r 1 0))
+kind-size run r f c is fits = go (eqb (getD r 1 0) 0) refl
+  where
+    go : (b : Bool) → eqb (getD r 1 0) 0 ≡ b → length (inTlvs f (c ∷ [])) ≡ cond b 0 (valueSize (getD r 1 0))
+    go true e = ap length (kind-none run r f c is (ap (λ (b : Bool). cond b Absent (Present (getD r 0 0) (getD r 1 0))) e))
+    go false e =
+        ap length (sym (kind-some run r f c is (getD r 0 0) (getD r 1 0) (ap (λ (b : Bool). cond b Absent (Present (getD r 0 0) (getD r 1 0))) e) fits c refl))
+        ∙ size-value run (getD r 0 0) (getD r 1 0) c (fits .within)
 
 -- ---- codes and their places
 
@@ -245,6 +257,46 @@ module _ (run : List ℕ) (g : List (List ℕ)) (ns : List ℕ) where
   pub set-is : Three (inTlvs set applicationCodes) (inTlvs (gridValue run g) (1088 ∷ [])) (inTlvs set middleCodes) (inTlvs (gridValue run g) (1173 ∷ []))
   unfolding computing setOf
   set-is = record { are = in-three set (1088 ∷ []) middleCodes (1173 ∷ []) }
+
+  -- How many bytes they have: those of the grid's kinds, and the SRLGs.
+  grid-is : Three (inTlvs (gridValue run g) gridCodes) (inTlvs (gridValue run g) (1088 ∷ [])) (inTlvs (gridValue run g) (1092 ∷ extendedCodes)) (inTlvs (gridValue run g) (1173 ∷ []))
+  unfolding computing
+  grid-is = record { are = in-three (gridValue run g) (1088 ∷ []) (1092 ∷ extendedCodes) (1173 ∷ []) }
+
+  metric-is : inTlvs (gridValue run g) (1092 ∷ extendedCodes) ≡ inTlvs (gridValue run g) (1092 ∷ []) ++ inTlvs (gridValue run g) extendedCodes
+  metric-is = tlvs-append (gridValue run g) (1092 ∷ []) extendedCodes
+
+  pub set-length : length (inTlvs set applicationCodes) ≡ length (inTlvs (gridValue run g) gridCodes) + length (srlgTlv ns)
+  set-length =
+      omega (arith, length-three set-is, length-three middle-is, length-three grid-is, ap length metric-is, length-append (inTlvs (gridValue run g) (1092 ∷ [])) (inTlvs (gridValue run g) extendedCodes))
+
+  -- What stands at the top of a run.
+  module _ (l : List (List ℕ)) where
+    abbrev top : ℕ → List ℕ
+    top = topOf run l g ns
+
+    bandwidths-same : map top linkCodes ≡ map (bandwidthOf run l) linkCodes
+    unfolding computing topOf
+    bandwidths-same = refl
+
+    middle-same : map top middleCodes ≡ map set middleCodes
+    unfolding computing topOf
+    middle-same = refl
+
+    pub low-is : Three (inTlvs top lowCodes) (inTlvs (gridValue run g) (1088 ∷ [])) (inTlvs (bandwidthOf run l) linkCodes) (inTlvs set middleCodes)
+    unfolding computing topOf setOf
+    low-is = record {
+      are =
+          in-three top (1088 ∷ []) linkCodes middleCodes
+          ∙ ap₂ (λ (v w : List ℕ). inTlvs (gridValue run g) (1088 ∷ []) ++ v ++ w) (tlvs-same top (bandwidthOf run l) linkCodes bandwidths-same) (tlvs-same top set middleCodes middle-same);
+    }
+
+    pub high-is : inTlvs top highCodes ≡ inTlvs (gridValue run g) (1173 ∷ [])
+    unfolding computing topOf setOf
+    high-is = refl
+
+    pub top-length : length (inTlvs top lowCodes) + length (inTlvs top highCodes) ≡ length (inTlvs (bandwidthOf run l) linkCodes) + length (inTlvs set applicationCodes)
+    top-length = omega (arith, length-three low-is, ap length high-is, length-three set-is)
 
 -- ---- three pieces, of which the first and the last have no SRLGs: where classes stand
 

@@ -48,6 +48,14 @@ module _ (n : ℕ) where
   unfolding srlgSize
   size-some h = rw (ne-eqb n 0 (λ z. omega arith))
 
+  pub size-bound : srlgSize n ≤ 4 + 4 * n
+  unfolding srlgSize
+  size-bound = go (eqb n 0)
+    where
+      go : (b : Bool) → cond b 0 (4 + 4 * n) ≤ 4 + 4 * n
+      go true = omega arith
+      go false = omega arith
+
 no-words : bytesOfWords [] ≡ []
 unfolding bytesOfWords each
 no-words = refl

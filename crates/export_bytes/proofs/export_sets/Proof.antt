@@ -1,47 +1,59 @@
--- `export_bytes::export_sets` meets its contract: measured, then refused or written. Assumes nothing.
-use Rattle.export_bytes.proofs.Laws.{too-short, written}
-use Rattle.group_bytes.proofs.Laws.{measurable}
-use native.Mathlib.Omega.{arith}
-use mathlib.Core.Path.{refl}
 use borrow.Author.Needs.{needs}
 use Rattle.export_bytes.proofs.export_sets.Statement.{statement}
 use Rattle.export_bytes.proofs.export_sets.Tie as tie
+use Rattle.export_bytes.proofs.export_sets.Reads as reads
+use Rattle.export_bytes.proofs.export_sets.Lts as lts
+use Rattle.export_bytes.proofs.write_whole.Reads as write-whole-reads
+use Rattle.export_sizes.proofs.first_entry.Reads as first-entry-reads
+use Rattle.export_sizes.proofs.measure.Reads as measure-reads
+use Rattle.replies.proofs.refuse_call.Reads as refuse-call-reads
 
-whole-size-requires : tie.Need-whole-size-requires
-whole-size-requires c κs = let p = c .before .before .before .before .before .pre in (p .2, λ k. p .0 k .short, λ k. p .1 k .short, p .4, λ k. p .3 k .short, measurable _ _ _ _ _ _ (p .5 .most) (p .5 .sound))
+-- src/lib.rt:127:9
+first-entry-requires : tie.Need-first-entry-requires
+first-entry-requires c κs = ?
 
+-- src/lib.rt:128:9
+measure-requires : tie.Need-measure-requires
+measure-requires c κs = ?
+
+-- src/lib.rt:130:9
+returns : tie.Need-returns
+returns c = ?
+
+-- src/lib.rt:133:33
 refuse-call-requires : tie.Need-refuse-call-requires
 refuse-call-requires c κs = search needs
 
-returns : tie.Need-returns
-returns c = let a = c .before .before .before .before .before .before .before .before .args in
-    let p = c .before .before .before .before .before .before .before .before .pre in
-    let e = c .before .before .whole-size .ensures (a .a .now) (a .rs .now) (a .gs .now) (a .values .now) (a .bits .now) (p .0) (p .1) refl (p .3) refl (p .5 .sound) in
-    too-short _ (a .out .now) (c .refuse-call .result) (c .refuse-call .ensures) (omega (arith, e, c .before .if1 .taken))
+-- src/lib.rt:133:9
+returns-2 : tie.Need-returns-2
+returns-2 c = ?
 
+-- src/lib.rt:135:20
 write-whole-requires : tie.Need-write-whole-requires
-write-whole-requires c κs = let a = c .before .before .before .before .before .before .before .before .args in
-    let p = c .before .before .before .before .before .before .before .before .pre in
-    let e = c .before .before .whole-size .ensures (a .a .now) (a .rs .now) (a .gs .now) (a .values .now) (a .bits .now) (p .0) (p .1) refl (p .3) refl (p .5 .sound) in
-    (p .0, p .1, p .2, p .3, p .4, p .5, omega (arith, e, c .before .if1 .left))
+write-whole-requires c κs = ?
 
+-- src/lib.rt:112:1
 same-length : tie.Need-same-length
 same-length c = search needs
 
-returns-2 : tie.Need-returns-2
-returns-2 c = let a = c .before .before .before .before .before .before .before .before .before .before .before .args in
-    let p = c .before .before .before .before .before .before .before .before .before .before .before .pre in
-    let e = c .before .before .before .before .before .whole-size .ensures (a .a .now) (a .rs .now) (a .gs .now) (a .values .now) (a .bits .now) (p .0) (p .1) refl (p .3) refl (p .5 .sound) in
-    let r = c .before .before .write-whole .ensures in
-    written _ (a .out .now) _ _ (r .0) (r .1) (omega (arith, e, c .before .before .before .before .if1 .left))
+-- src/lib.rt:112:1
+same-length-2 : tie.Need-same-length-2
+same-length-2 c = search needs
+
+-- src/lib.rt:112:1
+returns-3 : tie.Need-returns-3
+returns-3 c = ?
 
 pub export-sets-spec : {M : Type 1} → statement M
 export-sets-spec =
     tie.close
     (tie.spec
-    whole-size-requires
-    refuse-call-requires
+    first-entry-requires
+    measure-requires
     returns
+    refuse-call-requires
+    returns-2
     write-whole-requires
     same-length
-    returns-2)
+    same-length-2
+    returns-3)

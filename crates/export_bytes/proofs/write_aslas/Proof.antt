@@ -1,33 +1,60 @@
--- `export_bytes::write_aslas` meets its contract: the general set's, then the groups'. Assumes nothing.
-use Rattle.export_bytes.proofs.Laws.{put-both}
-use native.Mathlib.Omega.{arith}
-use borrow.Author.Needs.{needs}
 use Rattle.export_bytes.proofs.write_aslas.Statement.{statement}
 use Rattle.export_bytes.proofs.write_aslas.Tie as tie
+use Rattle.export_bytes.proofs.write_aslas.Reads as reads
+use Rattle.export_bytes.proofs.write_aslas.Lts as lts
+use Rattle.export_bytes.proofs.write_asla.Reads as write-asla-reads
 
-write-general-requires : tie.Need-write-general-requires
-write-general-requires c κs = search needs
+abbrev Inv-loop : tie.InvT-loop
+Inv-loop run sets values rows classes places₀ groups first out₀ at next₀ i₀ i-end places out next i =
+    ?
 
-write-groups-requires : tie.Need-write-groups-requires
-write-groups-requires c κs = let p = c .before .before .before .before .before .before .before .before .before .pre in
-    let g = c .before .before .before .write-general in
-    (p .2 .valued, p .2 .sound, omega (arith, p .3, g .ensures .0, g .kept .1 .1 .1 .0))
+abbrev μ-loop : tie.MeasureT-loop
+μ-loop run sets values rows classes places₀ groups first out₀ at next₀ i₀ i-end places out next i =
+    ?
 
-same-length : tie.Need-same-length
-same-length c = search needs
+-- src/lib.rt:63:5
+loop-holds : tie.Need-loop-holds Inv-loop μ-loop
+loop-holds c = ?
 
-returns : tie.Need-returns
-returns c = let s = c .before .before .before .before .before .before .before .before .before .before .before .before in
-    let a = s .args in
-    let g = c .before .before .before .before .before .before .write-general .ensures in
-    let r = c .before .before .write-groups .ensures in
-    (omega (arith, g .0, r .0), put-both (a .out .now) _ _ (a .at) _ _ _ (g .1) (r .1) (g .0) (s .pre .3))
+-- src/lib.rt:64:9
+write-asla-requires : tie.Need-write-asla-requires Inv-loop μ-loop
+write-asla-requires c κs = ?
+
+-- src/lib.rt:63:9
+add-i : tie.Need-add-i Inv-loop μ-loop
+add-i c = ?
+
+-- src/lib.rt:63:5
+loop-less : tie.Need-loop-less Inv-loop μ-loop
+loop-less c = ?
+
+-- src/lib.rt:63:5
+loop-again : tie.Need-loop-again Inv-loop μ-loop
+loop-again c = ?
+
+-- src/lib.rt:47:1
+same-length : tie.Need-same-length Inv-loop μ-loop
+same-length c = ?
+
+-- src/lib.rt:47:1
+same-length-2 : tie.Need-same-length-2 Inv-loop μ-loop
+same-length-2 c = ?
+
+-- src/lib.rt:47:1
+returns : tie.Need-returns Inv-loop μ-loop
+returns c = ?
 
 pub write-aslas-spec : {M : Type 1} → statement M
 write-aslas-spec =
     tie.close
     (tie.spec
-    write-general-requires
-    write-groups-requires
+    Inv-loop
+    μ-loop
+    loop-holds
+    write-asla-requires
+    add-i
+    loop-less
+    loop-again
     same-length
+    same-length-2
     returns)
