@@ -4,7 +4,8 @@ use mathlib.Core.Bool.{Bool, true}
 use mathlib.Core.List.{List, [], _∷_, map}
 use Prim.Native.Nat.{ℕ, zero, suc, _+_, _-_, _*_, _/_, _%_, _≤_, _<_}
 use native.Mathlib.Omega.{arith}
-use lib.ListN.{length, getD, set, take}
+use lib.ListN.{length, getD, set, take, length-set}
+use lib.Seq.{length-take-le}
 use Rattle.linkstate.specs.Kinds.{codes}
 use Rattle.linkstate.specs.Attributes.{srlgs}
 use Rattle.linkstate.specs.Meaning.{Meaning, row}
@@ -22,14 +23,14 @@ use Rattle.set_groups.specs.Table.{word, slotIn, classIn, tableGroups, Named, P
 use Rattle.export_bytes.specs.Whole.{Tables, Entered}
 use Rattle.export_bytes.specs.Describes.{Describes}
 use Rattle.export_tables.specs.Resolved.{Resolves, Slotted}
-use Rattle.export_tables.proofs.Parts.{counted-length, counted-classes, counted-differ, counted-has, headed-length, headed-first, headed-at, headed-groups}
+use Rattle.export_tables.proofs.Fronts.{counted-length, counted-classes, counted-differ, counted-has, headed-first, headed-at, headed-groups}
 
 -- the word of the general set: slot 0, its class, no entry before it
 general-word : (g : ℕ) → g < 256 → (slotIn (256 * g) ≡ 0) × (classIn (256 * g) ≡ g)
 general-word g h = (omega arith, omega arith)
 
-module _ (run : List ℕ) (sets own owned : List (List ℕ)) (p : ℕ → Bool) (s : ℕ) (slotted : Slotted run sets own p s) (kept : Slots own owned) (values : List ℕ) (rows classes : List (List ℕ)) (side : Side) (k : Classes)
-    (of : Classified values rows classes owned p side k) (few : length classes ≤ 131) where
+module _ {run : List ℕ} {sets own owned : List (List ℕ)} {p : ℕ → Bool} {s : ℕ} {values : List ℕ} {rows classes : List (List ℕ)} {side : Side} {k : Classes}
+    (slotted : Slotted run sets own p s) (kept : Slots own owned) (of : Classified values rows classes owned p side k) (few : length classes ≤ 131) where
   abbrev counted : List (List ℕ)
   counted = take (k .count) classes
 
@@ -53,7 +54,7 @@ module _ (run : List ℕ) (sets own owned : List (List ℕ)) (p : ℕ → Bool) 
   general : IsSet sets 0
   general = record { inside = omega (arith, slotted .link); other = λ e. omega arith }
 
-  general-low : k .general < 256
+  pub general-low : k .general < 256
   general-low = omega (arith, of .general .low, of .table .room)
 
   pub tables : length values ≤ 1024 → ((i : ℕ) → getD values i 0 < 4294967296) → Tables run sets values rows counted
@@ -65,21 +66,27 @@ module _ (run : List ℕ) (sets own owned : List (List ℕ)) (p : ℕ → Bool) 
   has : (c : ℕ) (xs : List ℕ) → Has values rows classes (k .count) c xs → numbers c ≡ xs
   has c xs h = counted-has values rows classes (k .count) (of .table) c xs h
 
-  module _ (groups : List (List ℕ)) (count : ℕ) (filled : Filled run sets owned p groups count) where
-    abbrev first : List ℕ
-    first = 0 ∷ 0 ∷ 256 * k .general ∷ []
+  abbrev first : List ℕ
+  first = 0 ∷ 0 ∷ 256 * k .general ∷ []
 
+  module _ {groups after : List (List ℕ)} {count : ℕ} (filled : Filled run sets owned p groups count) (is : after ≡ set groups 0 first) where
     abbrev headed : List (List ℕ)
-    headed = take count (set groups 0 first)
+    headed = take count after
+
+    pub room : count ≤ length after
+    room = omega (arith, ap length is, length-set groups 0 first, filled .room)
 
     size : length headed ≡ count
-    size = headed-length groups count first (filled .some) (filled .room)
+    size = length-take-le count after room
+
+    first-entry : getD headed 0 [] ≡ first
+    first-entry = ap (λ (x : List (List ℕ)). getD (take count x) 0 []) is ∙ headed-first groups count first (filled .some) (filled .room)
 
     first-word : word headed 0 ≡ 256 * k .general
-    first-word = ap (λ (h : List ℕ). getD h 2 0) (headed-first groups count first (filled .some) (filled .room))
+    first-word = ap (λ (h : List ℕ). getD h 2 0) first-entry
 
     later-word : (i : ℕ) → 1 ≤ i → i < count → word headed i ≡ word groups i
-    later-word i l h = ap (λ (x : List ℕ). getD x 2 0) (headed-at groups count first (filled .some) (filled .room) i l h)
+    later-word i l h = ap (λ (x : List (List ℕ)). word (take count x) i) is ∙ ap (λ (x : List ℕ). getD x 2 0) (headed-at groups count first (filled .some) (filled .room) i l h)
 
     pub entered : Entered sets counted headed
     entered = record { some = omega (arith, size, filled .some); most = omega (arith, size, filled .most); slot = λ i h. slot i (omega (arith, size)); class = λ i h. class i (omega (arith, size)) }
@@ -115,7 +122,9 @@ module _ (run : List ℕ) (sets own owned : List (List ℕ)) (p : ℕ → Bool) 
                 ap₂ (λ (i : ℕ) (c : ℕ). row (setOf run (slotGrid sets i) (numbers c))) (ap slotIn first-word ∙ general-word (k .general) general-low .0) (ap classIn first-word ∙ general-word (k .general) general-low .1)
                 ∙ ap (λ (xs : List ℕ). row (setOf run (slotGrid sets 0) xs)) (has (k .general) (srlgs (generalSet side)) (of .general))
                 ∙ so .general;
-            nobody = (ap (λ (h : List ℕ). getD h 0 0) (headed-first groups count first (filled .some) (filled .room)), ap (λ (h : List ℕ). getD h 1 0) (headed-first groups count first (filled .some) (filled .room)));
-            members = headed-groups groups count first (filled .some) (filled .room) run sets numbers
+            nobody = (ap (λ (h : List ℕ). getD h 0 0) first-entry, ap (λ (h : List ℕ). getD h 1 0) first-entry);
+            members =
+                ap (λ (x : List (List ℕ)). tableGroups run sets numbers (take count x) (length (take count x))) is
+                ∙ headed-groups groups count first (filled .some) (filled .room) run sets numbers
                 ∙ filled .grouped numbers (k .count) (counted-differ values rows classes (k .count) (of .table)) class-low m gives;
           }

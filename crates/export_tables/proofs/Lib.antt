@@ -1,2 +1,3 @@
-pub mod Parts
+pub mod Fronts
 pub mod Described
+pub mod Counts
