@@ -1,5 +1,4 @@
 -- The bytes of an export, by the tables that it is written from (rules L2, L3), and what it answers.
-use mathlib.Core.Path.{_≡_}
 use mathlib.Core.Bool.{Bool, cond}
 use mathlib.Core.List.{List, [], _++_}
 use Prim.Native.Nat.{ℕ, _-_, _≤_, _<_}

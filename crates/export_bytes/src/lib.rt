@@ -61,7 +61,18 @@ fn write_aslas(
 {
     let mut next = at;
     for i in first..groups.len() {
-        next = write_asla(run, sets, values, rows, classes, places, groups, i, out, next);
+        next = write_asla(
+            run,
+            sets,
+            values,
+            rows,
+            classes,
+            places,
+            groups,
+            i,
+            out,
+            next,
+        );
     }
     next
 }
@@ -83,7 +94,17 @@ fn write_low(
 {
     let first = set_bytes::write_kind(run, g, 1088, out, 0);
     let bandwidths = set_bytes::write_bandwidths(run, sets, out, first);
-    set_bytes::write_middle(run, g, values, rows, classes, places, top.class, out, bandwidths)
+    set_bytes::write_middle(
+        run,
+        g,
+        values,
+        rows,
+        classes,
+        places,
+        top.class,
+        out,
+        bandwidths,
+    )
 }
 
 // All TLVs, ascending by type, from the buffer's front on; how many bytes they have.
@@ -104,7 +125,18 @@ fn write_whole(
 {
     let g = grids::grid_of(sets, top.slot);
     let low = write_low(run, &g, sets, values, rows, classes, places, top, out);
-    let aslas = write_aslas(run, sets, values, rows, classes, places, groups, first, out, low);
+    let aslas = write_aslas(
+        run,
+        sets,
+        values,
+        rows,
+        classes,
+        places,
+        groups,
+        first,
+        out,
+        low,
+    );
     set_bytes::write_kind(run, &g, 1173, out, aslas)
 }
 
@@ -132,5 +164,16 @@ pub fn export_sets(
     if out.len() < size {
         return Written::Refused(replies::refuse_call(5));
     }
-    Written::Bytes(write_whole(run, sets, values, rows, classes, places, groups, first, top, out))
+    Written::Bytes(write_whole(
+        run,
+        sets,
+        values,
+        rows,
+        classes,
+        places,
+        groups,
+        first,
+        top,
+        out,
+    ))
 }

@@ -1,5 +1,4 @@
 -- `export_bytes::write_asla` meets its contract: the front, then the set. Assumes nothing.
-use denote.Ref.{now}
 use Rattle.export_bytes.proofs.Laws.{size-asks, front-asks, set-asks, entry-written}
 use borrow.Author.Needs.{needs}
 use Rattle.export_bytes.proofs.write_asla.Statement.{statement}
@@ -13,14 +12,14 @@ set-size-requires c κs =
     let s = c .before .before .before .before .before in
     let a = s .args in
     let p = s .pre in
-    size-asks (now (a .run)) (now (a .sets)) (now (a .values)) (now (a .rows)) (now (a .classes)) (now (a .groups)) (p .0) (p .1) (a .i) (p .2) (p .3) _ (c .read-asla .ensures)
+    size-asks (p .0 .tables) (p .0) (p .1) (a .i) (p .2) (p .3) _ (c .read-asla .ensures)
 
 write-front-requires : tie.Need-write-front-requires
 write-front-requires c κs =
     let s = c .before .before .before .before .before .before .before in
     let a = s .args in
     let p = s .pre in
-    front-asks (now (a .run)) (now (a .sets)) (now (a .values)) (now (a .rows)) (now (a .classes)) (now (a .groups)) (p .0) (p .1) (a .i) (p .2) (p .3) _ (c .before .before .read-asla .ensures) _ (c .before .set-size .ensures .0)
+    front-asks (p .0 .tables) (p .0) (p .1) (a .i) (p .2) (p .3) _ (c .before .before .read-asla .ensures) _ (c .before .set-size .ensures .0)
 
 grid-of-requires : tie.Need-grid-of-requires
 grid-of-requires c κs =
@@ -28,7 +27,7 @@ grid-of-requires c κs =
     let s = x .before .before .before .before .before .before .before .before in
     let a = s .args in
     let p = s .pre in
-    size-asks (now (a .run)) (now (a .sets)) (now (a .values)) (now (a .rows)) (now (a .classes)) (now (a .groups)) (p .0) (p .1) (a .i) (p .2) (p .3) _ (x .before .before .before .read-asla .ensures) .0
+    size-asks (p .0 .tables) (p .0) (p .1) (a .i) (p .2) (p .3) _ (x .before .before .before .read-asla .ensures) .0
 
 write-set-requires : tie.Need-write-set-requires
 write-set-requires c κs =
@@ -37,7 +36,8 @@ write-set-requires c κs =
     let a = s .args in
     let p = s .pre in
     let f = x .write-front in
-    set-asks (now (a .run)) (now (a .sets)) (now (a .values)) (now (a .rows)) (now (a .classes)) (now (a .groups)) (p .0) (p .1) (a .i) (p .2) (p .3) _ (x .before .before .before .read-asla .ensures) _ (x .before .before .set-size .ensures .0) (f .kept .1 .1 .1 .0) (f .ensures) _ (c .before .before .before .grid-of .ensures)
+    set-asks (p .0 .tables) (p .0) (p .1) (a .i) (p .2) (p .3) _ (x .before .before .before .read-asla .ensures) _ (x .before .before .set-size .ensures .0)
+    (f .kept .1 .1 .1 .0) (f .ensures) _ (c .before .before .before .grid-of .ensures)
 
 same-length : tie.Need-same-length
 same-length c = search needs
@@ -53,7 +53,8 @@ returns c =
     let a = s .args in
     let p = s .pre in
     let f = x .write-front in
-    entry-written (now (a .run)) (now (a .sets)) (now (a .values)) (now (a .rows)) (now (a .classes)) (now (a .groups)) (p .0) (p .1) (a .i) (p .2) (p .3) _ (x .before .before .before .read-asla .ensures) _ (x .before .before .set-size .ensures .0) (f .kept .1 .1 .1 .0) (f .ensures) _ (y .before .before .before .before .grid-of .ensures) (y .write-set .ensures)
+    entry-written (p .0 .tables) (p .0) (p .1) (a .i) (p .2) (p .3) _ (x .before .before .before .read-asla .ensures) _
+    (x .before .before .set-size .ensures .0) (f .kept .1 .1 .1 .0) (f .ensures) _ (y .before .before .before .before .grid-of .ensures) (y .write-set .ensures)
 
 pub write-asla-spec : {M : Type 1} → statement M
 write-asla-spec =

@@ -1,35 +1,44 @@
+-- `export_bytes::write_low` meets its contract: the first kind, the bandwidths, and the kinds up to 1120. Assumes nothing.
+use Rattle.export_bytes.proofs.Parts.{first-asks, bandwidths-asks, middle-asks, low-written}
 use borrow.Author.Needs.{needs}
 use Rattle.export_bytes.proofs.write_low.Statement.{statement}
 use Rattle.export_bytes.proofs.write_low.Tie as tie
-use Rattle.export_bytes.proofs.write_low.Reads as reads
-use Rattle.export_bytes.proofs.write_low.Lts as lts
-use Rattle.set_bytes.proofs.write_bandwidths.Reads as write-bandwidths-reads
-use Rattle.set_bytes.proofs.write_kind.Reads as write-kind-reads
-use Rattle.set_bytes.proofs.write_middle.Reads as write-middle-reads
 
--- src/lib.rt:84:9
 write-kind-requires : tie.Need-write-kind-requires
-write-kind-requires c κs = ?
+write-kind-requires c κs = let p = c .before .before .before .before .before .pre in first-asks (p .0 .tables) (p .0) (p .1) (p .2) _ (p .3) (p .4)
 
--- src/lib.rt:85:9
 write-bandwidths-requires : tie.Need-write-bandwidths-requires
-write-bandwidths-requires c κs = ?
+write-bandwidths-requires c κs =
+    let x = c .before .before .before in
+    let p = x .before .before .before .before .before .before .pre in
+    let one = x .write-kind in
+    bandwidths-asks (p .0 .tables) (p .0) (p .1) (p .2) _ (p .3) (p .4) (one .kept .1 .1 .1 .0) (one .ensures)
 
--- src/lib.rt:86:5
 write-middle-requires : tie.Need-write-middle-requires
-write-middle-requires c κs = ?
+write-middle-requires c κs =
+    let y = c .before .before .before .before in
+    let x = y .before .before .before .before in
+    let p = x .before .before .before .before .before .before .pre in
+    let one = x .write-kind in
+    let two = y .write-bandwidths in
+    middle-asks (p .0 .tables) (p .0) (p .1) (p .2) _ (p .3) (p .4) (one .kept .1 .1 .1 .0) (one .ensures) (two .kept .1 .1 .0) (two .ensures)
 
--- src/lib.rt:70:1
 same-length : tie.Need-same-length
 same-length c = search needs
 
--- src/lib.rt:70:1
 same-length-2 : tie.Need-same-length-2
 same-length-2 c = search needs
 
--- src/lib.rt:70:1
 returns : tie.Need-returns
-returns c = ?
+returns c =
+    let z = c .before .before .before .before in
+    let y = z .before .before .before .before .before in
+    let x = y .before .before .before .before in
+    let p = x .before .before .before .before .before .before .pre in
+    let one = x .write-kind in
+    let two = y .write-bandwidths in
+    low-written (p .0 .tables) (p .0) (p .1) (p .2) _ (p .3) (p .4) (one .kept .1 .1 .1 .0) (one .ensures) (two .kept .1 .1 .0) (two .ensures)
+    (z .write-middle .ensures)
 
 pub write-low-spec : {M : Type 1} → statement M
 write-low-spec =

@@ -1,40 +1,55 @@
+-- `export_bytes::write_whole` meets its contract: what comes before the ASLA TLVs, these, and the last kind. Assumes nothing.
+use Rattle.export_bytes.proofs.Parts.{low-asks, aslas-asks, last-asks, whole-written}
 use borrow.Author.Needs.{needs}
 use Rattle.export_bytes.proofs.write_whole.Statement.{statement}
 use Rattle.export_bytes.proofs.write_whole.Tie as tie
-use Rattle.export_bytes.proofs.write_whole.Reads as reads
-use Rattle.export_bytes.proofs.write_whole.Lts as lts
-use Rattle.export_bytes.proofs.write_aslas.Reads as write-aslas-reads
-use Rattle.export_bytes.proofs.write_low.Reads as write-low-reads
-use Rattle.grids.proofs.grid_of.Reads as grid-of-reads
-use Rattle.set_bytes.proofs.write_kind.Reads as write-kind-reads
 
--- src/lib.rt:105:13
 grid-of-requires : tie.Need-grid-of-requires
 grid-of-requires c κs = search needs
 
--- src/lib.rt:106:9
 write-low-requires : tie.Need-write-low-requires
-write-low-requires c κs = ?
+write-low-requires c κs =
+    let o = c .before .before .before in
+    let p = o .before .before .before .before .before .pre in
+    low-asks (p .0 .tables) (p .0) (p .3) (p .4) _ (o .grid-of .ensures) (p .1) (p .2) (p .5)
 
--- src/lib.rt:107:9
 write-aslas-requires : tie.Need-write-aslas-requires
-write-aslas-requires c κs = ?
+write-aslas-requires c κs =
+    let x = c .before .before .before .before .before .before in
+    let o = x .before .before .before .before in
+    let p = o .before .before .before .before .before .pre in
+    let one = x .write-low in
+    aslas-asks (p .0 .tables) (p .0) (p .3) (p .4) _ (o .grid-of .ensures) (p .1) (p .2) (p .5) (one .kept .1 .1 .1 .1 .1 .1 .0)
+    (one .kept .1 .1 .1 .1 .1 .1 .1 .1 .0) (one .ensures)
 
--- src/lib.rt:108:5
 write-kind-requires : tie.Need-write-kind-requires
-write-kind-requires c κs = ?
+write-kind-requires c κs =
+    let y = c .before .before .before .before .before .before in
+    let x = y .before .before .before .before .before .before .before in
+    let o = x .before .before .before .before in
+    let p = o .before .before .before .before .before .pre in
+    let one = x .write-low in
+    let two = y .write-aslas in
+    last-asks (p .0 .tables) (p .0) (p .3) (p .4) _ (o .grid-of .ensures) (p .1) (p .2) (p .5) (one .kept .1 .1 .1 .1 .1 .1 .0)
+    (one .kept .1 .1 .1 .1 .1 .1 .1 .1 .0) (one .ensures) (two .kept .1 .1 .1 .1 .1 .1 .1 .1 .0) (two .ensures)
 
--- src/lib.rt:90:1
 same-length : tie.Need-same-length
 same-length c = search needs
 
--- src/lib.rt:90:1
 same-length-2 : tie.Need-same-length-2
 same-length-2 c = search needs
 
--- src/lib.rt:90:1
 returns : tie.Need-returns
-returns c = ?
+returns c =
+    let z = c .before .before in
+    let y = z .before .before .before .before .before .before .before in
+    let x = y .before .before .before .before .before .before .before in
+    let o = x .before .before .before .before in
+    let p = o .before .before .before .before .before .pre in
+    let one = x .write-low in
+    let two = y .write-aslas in
+    whole-written (p .0 .tables) (p .0) (p .3) (p .4) _ (o .grid-of .ensures) (p .1) (p .2) (p .5) (one .kept .1 .1 .1 .1 .1 .1 .0)
+    (one .kept .1 .1 .1 .1 .1 .1 .1 .1 .0) (one .ensures) (two .kept .1 .1 .1 .1 .1 .1 .1 .1 .0) (two .ensures) (z .write-kind .ensures)
 
 pub write-whole-spec : {M : Type 1} → statement M
 write-whole-spec =
