@@ -1,1 +1,4 @@
+mod Identified
 mod Said
+mod Gathers
+pub mod Rooms

@@ -1,6 +1,6 @@
 -- What one TLV of run B says of SRLGs. Assumes nothing.
 use mathlib.Core.Path.{_≡_, refl, sym, ap, ap₂, _∙_}
-use mathlib.Core.Bool.{Bool, true, false, cond, _&&_, false≢true}
+use mathlib.Core.Bool.{Bool, true, false, cond, _&&_, _||_, false≢true}
 use mathlib.Core.List.{List, [], _∷_, map}
 use Prim.Native.Nat.{ℕ, zero, suc, _+_, _-_, _/_, _≤_, _<_}
 use native.Mathlib.Omega.{arith}
@@ -15,7 +15,9 @@ use Rattle.linkstate.specs.Bytes.{words}
 use Rattle.linkstate.specs.Elements.{Element, element}
 use Rattle.linkstate.specs.Masks.{bit, inMasks}
 use Rattle.linkstate.specs.Sides.{names, general}
+use Rattle.masks.specs.Sets.{turnedPlace, inSent}
 use Rattle.masks.proofs.Laws.{bit-beyond}
+use Rattle.masks.proofs.Steps.{zero-none}
 use Rattle.srlg.proofs.Laws.{length-words}
 use Rattle.srlg_ranks.proofs.Bits.{or-none}
 use Rattle.srlg_sources.specs.declared.Keys.{Keys}
@@ -25,14 +27,14 @@ use Rattle.isis_check_a.specs.Headers.{headerOf}
 use Rattle.isis_check_a.proofs.Laws.{rest-is}
 use Rattle.naming.specs.Names.{inBoth}
 use Rattle.naming.proofs.Laws.{in-none}
-use Rattle.isis.specs.MaskHeader.{lFlag, sabmLength, udabmLength, headerLength, advertisement}
+use Rattle.isis.specs.MaskHeader.{lFlag, sabmLength, udabmLength, headerLength, maskTooLong, advertisement}
 use Rattle.isis.specs.RunB.{afterNeighbour, identifierBytes, srlgValues, liveSrlg}
 use Rattle.isis_tlvs_238.specs.declared.Which.{Which}
 use Rattle.isis_tlvs_238.specs.declared.Which.the-variants.{Naming, General}
 use Rattle.isis_tlvs_238.specs.Selected.{selects, wordsIn}
 use Rattle.isis_tlvs_238.proofs.Tlvs as tlv
 use Rattle.isis_srlg_index.specs.declared.Tlv.{Tlv}
-use Rattle.isis_srlg_index.specs.Sources.{leastValue, noTlv, Lives, Says, Adds, nothing, generals, source}
+use Rattle.isis_srlg_index.specs.Sources.{noTlv, Lives, Says, Adds, nothing, generals, source}
 
 -- ---- nothing
 
@@ -51,7 +53,8 @@ says-nothing e value r none is =
       head = λ h. absurd (omega arith);
     }
 
-pub dead-words : (at t : ℕ) (value v : List ℕ) (l : Bool) → t ≡ 238 → v ≡ afterNeighbour value → l ≡ liveSrlg at v → l ≡ false → (w : Which) → wordsIn w (element at t value) ≡ []
+pub dead-words : (at t : ℕ) (value v : List ℕ) (l : Bool) → t ≡ 238 → v ≡ afterNeighbour value → l ≡ liveSrlg at v → l ≡ false → (w : Which)
+    → wordsIn w (element at t value) ≡ []
 dead-words at t value v l is e f d w =
     tlv.words-are at t value v is e w (liveSrlg at v && selects w (advertisement v [])) refl
     ∙ ap (λ (b : Bool). cond (b && selects w (advertisement v [])) (cond (lFlag v) [] (words (srlgValues v))) []) (sym f ∙ d)
@@ -71,7 +74,8 @@ module _ (v : List ℕ) (inside : headerLength v ≤ length v) where
   unfolding general advertisement headerLength
   general-is =
       let p : length (take (sabmLength v) (drop 2 v)) ≡ sabmLength v = length-take-le (sabmLength v) (drop 2 v) (omega (arith, length-drop 2 v)) in
-      let q : length (take (udabmLength v) (drop (2 + sabmLength v) v)) ≡ udabmLength v = length-take-le (udabmLength v) (drop (2 + sabmLength v) v) (omega (arith, length-drop (2 + sabmLength v) v)) in
+      let q : length (take (udabmLength v) (drop (2 + sabmLength v) v)) ≡ udabmLength v = length-take-le (udabmLength v) (drop (2 + sabmLength v) v)
+      (omega (arith, length-drop (2 + sabmLength v) v)) in
       ap₂ (λ (i j : ℕ). eqb i 0 && eqb j 0) p q
 
   none-named : (eqb (sabmLength v) 0 && eqb (udabmLength v) 0) ≡ true → (n : ℕ) → names n (advertisement v []) ≡ false
@@ -88,19 +92,33 @@ module _ (v : List ℕ) (inside : headerLength v ≤ length v) where
       either true = refl
       either false = refl
 
-module _ (at t : ℕ) (value v : List ℕ) (is : t ≡ 238) (e : v ≡ afterNeighbour value) (l : Bool) (f : l ≡ liveSrlg at v) (live : l ≡ true) (plain : lFlag v ≡ false) where
+  -- whom the masks name, as two numbers with their bytes
+  pub sent-names : (s u a n : ℕ) → ((k : ℕ) → inSent s k ≡ inSent 0 k || bit (take a (drop 2 v)) k)
+      → ((k : ℕ) → inSent u k ≡ inSent 0 k || bit (take n (drop (2 + a) v)) k)
+      → a ≡ sabmLength v → n ≡ udabmLength v → (k : ℕ) → inBoth s u k ≡ names k (advertisement v [])
+  unfolding inBoth names inMasks advertisement
+  sent-names s u a n p q e f k =
+      ap₂ (λ (x y : Bool). cond (ltb k 64) x y)
+      (p k ∙ ap₂ (λ (x : Bool) (i : ℕ). x || bit (take i (drop 2 v)) k) (zero-none (turnedPlace k)) e)
+      (q (k - 64) ∙ ap₂ (λ (x : Bool) (i : ℕ). x || bit (take i (drop (2 + a) v)) (k - 64)) (zero-none (turnedPlace (k - 64))) f
+      ∙ ap (λ (i : ℕ). bit (take (udabmLength v) (drop (2 + i) v)) (k - 64)) e)
+
+module _ (at t : ℕ) (value v : List ℕ) (is : t ≡ 238) (e : v ≡ afterNeighbour value) (l : Bool) (f : l ≡ liveSrlg at v) (live : l ≡ true)
+    (plain : lFlag v ≡ false) where
   selected : (w : Which) → wordsIn w (element at t value) ≡ cond (selects w (advertisement v [])) (words (srlgValues v)) []
   selected w =
       tlv.words-are at t value v is e w (liveSrlg at v && selects w (advertisement v [])) refl
       ∙ ap₂ (λ (x y : Bool). cond (x && selects w (advertisement v [])) (cond y [] (words (srlgValues v))) []) (sym f ∙ live) plain
 
-  pub says-live : (r : Tlv) → headerLength v + 1 + identifierBytes v ≤ length v → 7 ≤ length value → Lives v r → Says (element at t value) value r
+  pub says-live : (r : Tlv) → headerLength v + 1 + identifierBytes v ≤ length v → 10 ≤ identifierBytes v → 7 ≤ length value → Lives v r
+      → Says (element at t value) value r
   unfolding selects srlgValues headerLength
-  says-live r inside seven so =
+  says-live r inside long seven so =
       let k = headerLength v + 1 + identifierBytes v in
       let size : length v ≡ length value - 7 = ap length (e ∙ after-drop value) ∙ length-drop 7 value in
       let w : words (drop (r .start) value) ≡ words (srlgValues v) =
-              ap (λ (i : ℕ). words (drop i value)) (so .start) ∙ ap words (sym (drop-drop k 7 value)) ∙ ap (λ (x : List ℕ). words (drop k x)) (sym (e ∙ after-drop value)) in
+      ap (λ (i : ℕ). words (drop i value)) (so .start) ∙ ap words (sym (drop-drop k 7 value))
+      ∙ ap (λ (x : List ℕ). words (drop k x)) (sym (e ∙ after-drop value)) in
       record {
         naming = λ n. selected (Naming n) ∙ ap₂ (λ (b : Bool) (ws : List ℕ). cond b ws []) (sym (so .named n)) (sym w);
         generals = selected General ∙ ap₂ (λ (b : Bool) (ws : List ℕ). cond b ws []) (general-is v (omega arith) ∙ sym (so .general)) (sym w);
@@ -146,25 +164,40 @@ module _ (e : Element) (value : List ℕ) (tlv : Tlv) (says : Says e value tlv) 
   pub adds-nobody : tlv .general ≡ false → bitOr (tlv .standard) (tlv .user) ≡ 0 → Adds e keys rows k k keys rows
   adds-nobody g h =
       let (s, u) = or-none (tlv .standard) (tlv .user) h in
-      nothing (λ n. says .naming n ∙ ap (λ (b : Bool). cond b ws []) (ap₂ (λ (x y : ℕ). inBoth x y n) s u ∙ in-none n)) (says .generals ∙ ap (λ (b : Bool). cond b ws []) g) refl refl refl
+      nothing (λ n. says .naming n ∙ ap (λ (b : Bool). cond b ws []) (ap₂ (λ (x y : ℕ). inBoth x y n) s u ∙ in-none n))
+      (says .generals ∙ ap (λ (b : Bool). cond b ws []) g) refl refl refl
 
-  pub adds-generals : (r : Keys) (keys′ : List ℕ) → tlv .general ≡ true → (r .count ≡ k .count + length lent) × (keys′ ≡ put keys (k .count) (map (keyOf 1) lent)) → Small lent → r .sources ≡ k .sources → Adds e keys rows k r keys′ rows
+  pub adds-generals : (r : Keys) (keys′ : List ℕ) → tlv .general ≡ true
+      → (r .count ≡ k .count + length lent) × (keys′ ≡ put keys (k .count) (map (keyOf 1) lent)) → Small lent → r .sources ≡ k .sources
+      → Adds e keys rows k r keys′ rows
   adds-generals r keys′ g (c, p) small s =
       let z : lent ≡ wordsIn General e = lent-is ∙ sym (says .generals ∙ ap (λ (b : Bool). cond b ws []) g) in
-      generals (λ n. says .naming n ∙ ap (λ (b : Bool). cond b ws []) (says .apart g n)) (rw z at small) (c ∙ ap (λ (l : List ℕ). k .count + length l) z) s (p ∙ ap (λ (l : List ℕ). put keys (k .count) (map (keyOf 1) l)) z) refl
+      generals (λ n. says .naming n ∙ ap (λ (b : Bool). cond b ws []) (says .apart g n)) (rw z at small) (c ∙ ap (λ (l : List ℕ). k .count + length l) z) s
+      (p ∙ ap (λ (l : List ℕ). put keys (k .count) (map (keyOf 1) l)) z) refl
 
   pub adds-source : (r : Keys) (keys′ : List ℕ) (rows′ : List (List ℕ)) → tlv .general ≡ false → 4 ≤ length value - tlv .start
       → (r .count ≡ k .count + length lent) × (r .sources ≡ k .sources + 1) × (rows′ ≡ set rows (k .sources) (sourceRow (tlv .standard) (tlv .user)))
       → (keys′ ≡ put keys (k .count) (map (keyOf (k .sources)) lent)) × Small lent → Adds e keys rows k r keys′ rows′
   adds-source r keys′ rows′ g h (c, s, q) (p, small) =
       source (tlv .standard) (tlv .user) lent (omega (arith, ap length lent-is, count)) small
-      (λ n. says .naming n ∙ ap (λ (l : List ℕ). cond (inBoth (tlv .standard) (tlv .user) n) l []) (sym lent-is)) (says .generals ∙ ap (λ (b : Bool). cond b ws []) g) c s p q
+      (λ n. says .naming n ∙ ap (λ (l : List ℕ). cond (inBoth (tlv .standard) (tlv .user) n) l []) (sym lent-is))
+      (says .generals ∙ ap (λ (b : Bool). cond b ws []) g) c s p q
 
   pub lent-few : (n : ℕ) → n ≡ k .count + length lent → n ≤ k .count + length value / 4
   lent-few n f = omega (arith, ap length lent-is, count)
 
-  pub part-few : length (take (length value - tlv .start) (drop (tlv .start) value)) / 4 ≤ length value / 4
-  part-few = omega (arith, length-take (length value - tlv .start) (drop (tlv .start) value), length-drop (tlv .start) value)
+pub part-few : (value : List ℕ) (start : ℕ) → length (take (length value - start) (drop start value)) / 4 ≤ length value / 4
+part-few value start = omega (arith, length-take (length value - start) (drop start value), length-drop start value)
+
+-- The masks of a header: their sizes, and where they end.
+pub header-sizes : (v : List ℕ) (h : Header) → h ≡ headerOf v → maskTooLong v ≡ false
+    → (h .standard ≤ 8) × (h .user ≤ 8) × (2 + h .standard + h .user ≡ headerLength v)
+unfolding headerLength
+header-sizes v h e short =
+    let (s, u) = tlv.masks-short v short in
+    let a : h .standard ≡ sabmLength v = ap (λ (x : Header). x .standard) e in
+    let b : h .user ≡ udabmLength v = ap (λ (x : Header). x .user) e in
+    (omega arith, omega arith, omega arith)
 
 pub general-header : (v : List ℕ) (h : Header) → h ≡ headerOf v → (eqb (h .standard) 0 && eqb (h .user) 0) ≡ (eqb (sabmLength v) 0 && eqb (udabmLength v) 0)
 general-header v h e = ap (λ (x : Header). eqb (x .standard) 0 && eqb (x .user) 0) e

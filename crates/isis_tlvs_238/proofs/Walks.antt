@@ -189,3 +189,8 @@ module _ (b : List ℕ) (at : ℕ) (w : Which) (before after : List ℕ) (from t
   wrote-all end =
       let e = words-end b at end w all (so .written) (so .joined) in
       (so .place ∙ ap (λ (l : List ℕ). from + length l) e, so .list ∙ ap (put before from) e)
+
+-- ---- a TLV's own check
+
+pub value-passed : (b : List ℕ) (at : ℕ) → at < length b → faults runB checkB (left 1 0 b at) ≡ accepted → checkB at (getD b at 0) (valueAt b at) ≡ accepted
+value-passed b at here ok = passes b at here ok .1

@@ -4,23 +4,24 @@ use mathlib.Core.Path.{_≡_, refl, sym, _∙_, ap, ap₂}
 use mathlib.Core.Bool.{Bool, true, false, cond, _&&_, _||_, and-false, false≢true}
 use mathlib.Core.List.{List, [], _∷_, map}
 use native.Mathlib.Omega.{arith}
-use borrow.Author.Tests.{lt-ltb, le-ltb, ltb-true}
+use borrow.Author.Tests.{lt-ltb, le-ltb, ltb-true, ltb-false}
 use lib.Dec.{ltb}
-use lib.ListN.{length, getD, take, length-take}
+use lib.ListN.{length, getD, take, length-take, List·getD-eq-default}
 use lib.Seq.{getD-take}
 use Rattle.linkstate.specs.Lists.{numbers, any, member}
 use Rattle.linkstate.specs.Bytes.{distinct}
 use Rattle.linkstate.specs.Attributes.{Attribute, srlgs}
 use Rattle.linkstate.specs.Sides.{Side, names, ofLive, generalSet}
-use Rattle.linkstate.proofs.ListLaws.{and-l, and-r, any-mem, numbers-mem}
+use Rattle.linkstate.proofs.ListLaws.{and-l, and-r, any-mem, numbers-mem, map-mem, member-mem}
 use Rattle.masks.specs.Sets.{turnedPlace}
 use Rattle.srlg.specs.Ascending.{ascending}
 use Rattle.srlg.proofs.Laws.{ascending-distinct, distinct-twice}
 use Rattle.srlg_ranks.specs.Ranks.{keepFrom, inWords, picked}
 use Rattle.srlg_ranks.proofs.Laws.{keep-is}
 use Rattle.srlg_ranks.proofs.Members.{member-distinct}
+use Rattle.srlg_ranks.proofs.Steps.{member-at}
 use Rattle.key_sort.specs.Keys.{number}
-use Rattle.srlg_sources.specs.Sources.{numbersOf, Ordered}
+use Rattle.srlg_sources.specs.Sources.{Small, numbersOf, Ordered}
 use Rattle.srlg_sources.proofs.Joins.{any-same}
 use Rattle.srlg_sources.proofs.Keying.{of-keys}
 use Rattle.srlg_blocks.specs.Blocks.{namedBy, naming}
@@ -108,3 +109,18 @@ module _ (keys : List ℕ) (rows after : List (List ℕ)) (n : ℕ) (side : Side
         byL = λ a e. source-numbers few 0 (side .legacy) (omega (arith, so .few .0)) (λ v. so .byL a v e);
         bare = λ e. source-numbers few 0 (side .legacy) (omega (arith, so .few .0)) (λ v. so .bare v e);
       }
+
+-- ---- numbers of 32 bits
+
+number-small : (v : ℕ) (keys : List ℕ) → member v (map number keys) ≡ true → v < 4294967296
+unfolding number
+number-small v keys e = let (x, m, f) = map-mem number keys (member-mem v (map number keys) e) in omega arith
+
+pub values-small : (keys vs : List ℕ) (r : ℕ) (rows after : List (List ℕ)) → Ordered keys vs r rows after → Small (take r vs)
+values-small keys vs r rows after is i = go (ltb i (length (take r vs))) refl
+  where
+    go : (b : Bool) → ltb i (length (take r vs)) ≡ b → getD (take r vs) i 0 < 4294967296
+    go true e =
+        number-small (getD (take r vs) i 0) keys
+        (sym (member-distinct (getD (take r vs) i 0) (map number keys)) ∙ ap (member (getD (take r vs) i 0)) (sym (is .numbers)) ∙ member-at (take r vs) i (ltb-true i (length (take r vs)) e))
+    go false e = omega (arith, List·getD-eq-default (take r vs) 0 {n = i} (ltb-false i (length (take r vs)) e))

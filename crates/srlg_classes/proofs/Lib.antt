@@ -1,5 +1,5 @@
 mod Gives
 mod Assigns
 mod Numbers
-mod Siding
+pub mod Siding
 pub mod Carrying

@@ -45,7 +45,7 @@ unfolding turnedPlace
 turned-user n h = omega arith
 
 -- A number's membership in two masks as sent is its bit's.
-both-words : (s u n : ℕ) → n < 128 → inBoth s u n ≡ inWords (s ∷ u ∷ []) (turnedPlace n)
+pub both-words : (s u n : ℕ) → n < 128 → inBoth s u n ≡ inWords (s ∷ u ∷ []) (turnedPlace n)
 unfolding inBoth
 both-words s u n h = go (ltb n 64) refl
   where

@@ -1,7 +1,6 @@
 -- `isis_srlg_index::add_tlv` meets its contract: no number, general ones, nobody, or a source. Assumes nothing.
-use Prim.Native.Nat.{ℕ, _+_, _-_, _/_, _≤_, _<_}
-use mathlib.Core.Path.{_≡_, refl, sym, _∙_}
-use mathlib.Core.Bool.{true, false}
+use Prim.Native.Nat.{_-_, _≤_}
+use mathlib.Core.Path.{refl}
 use lib.ListN.{length}
 use denote.Ref.{now}
 use native.Mathlib.Omega.{arith}
@@ -11,13 +10,13 @@ use Rattle.isis_srlg_index.proofs.add_tlv.Statement.{statement}
 use Rattle.isis_srlg_index.proofs.add_tlv.Tie as tie
 
 read-tlv-requires : tie.Need-read-tlv-requires
-read-tlv-requires c κs = search needs
+read-tlv-requires c κs = let p = c .before .before .pre in (p .passed, p .size)
 
 sub-if1 : tie.Need-sub-if1
 sub-if1 c = omega (arith, c .read-tlv .ensures 0 .within)
 
 returns : tie.Need-returns
-returns c = 
+returns c =
     let a = c .before .before .before .before .args in
     (λ at. adds-none _ _ _ (c .before .read-tlv .ensures at) (now (a .keys)) (now (a .rows)) (a .k) (omega arith), (omega arith, omega arith))
 
@@ -31,15 +30,15 @@ part-add-words-end : tie.Need-part-add-words-end
 part-add-words-end c = search needs
 
 add-words-requires : tie.Need-add-words-requires
-add-words-requires c κs = 
+add-words-requires c κs =
     let s = c .before .before .before .before .before .before .before in
-    (omega arith, omega (arith, s .pre .3, part-few _ (now (s .args .value)) _ (c .before .before .before .before .read-tlv .ensures 0) (now (s .args .keys)) (now (s .args .rows)) (s .args .k)))
+    (omega arith, omega (arith, s .pre .numbers, part-few (now (s .args .value)) (c .before .before .before .before .read-tlv .result .start)))
 
 same-length : tie.Need-same-length
 same-length c = search needs
 
 returns-2 : tie.Need-returns-2
-returns-2 c = 
+returns-2 c =
     let a = c .before .before .before .before .before .before .before .before .before .before .args in
     let y = c .before .before .before .before .before .before .before .read-tlv .ensures in
     let w = c .before .before .add-words .ensures in (
@@ -48,9 +47,12 @@ returns-2 c =
     )
 
 returns-3 : tie.Need-returns-3
-returns-3 c = 
-    let a = c .before .before .before .before .before .before .before .args in
-    (λ at. adds-nobody _ _ _ (c .before .before .before .before .read-tlv .ensures at) (now (a .keys)) (now (a .rows)) (a .k) (c .before .before .if2 .left) (c .if3 .taken), (omega arith, omega arith))
+returns-3 c =
+    let a = c .before .before .before .before .before .before .before .args in (
+      λ at. adds-nobody _ _ _ (c .before .before .before .before .read-tlv .ensures at) (now (a .keys)) (now (a .rows)) (a .k) (c .before .before .if2 .left)
+          (c .if3 .taken),
+      (omega arith, omega arith),
+    )
 
 sub-add-source : tie.Need-sub-add-source
 sub-add-source c = search needs
@@ -62,16 +64,17 @@ part-add-source-end : tie.Need-part-add-source-end
 part-add-source-end c = search needs
 
 -- a TLV that adds a source is long enough
-long : (c : tie.Else3) → 15 ≤ length (now (c .before .before .before .before .before .before .before .args .value))
+long : (c : tie.Else3) → 25 ≤ length (now (c .before .before .before .before .before .before .before .args .value))
 long c =
     let y = c .before .before .before .before .read-tlv .ensures 0 in
     y .head (omega (arith, y .within)) (c .before .before .if2 .left)
 
 add-source-requires : tie.Need-add-source-requires
-add-source-requires c κs = 
+add-source-requires c κs =
     let e = c .before .before .before in
     let s = e .before .before .before .before .before .before .before in
-    (s .pre .2, s .pre .4 (long e), omega (arith, s .pre .3, part-few _ (now (s .args .value)) _ (e .before .before .before .before .read-tlv .ensures 0) (now (s .args .keys)) (now (s .args .rows)) (s .args .k)))
+    let few = part-few (now (s .args .value)) (e .before .before .before .before .read-tlv .result .start) in
+    (s .pre .few .1, s .pre .source (long e), omega (arith, s .pre .numbers))
 
 same-length-2 : tie.Need-same-length-2
 same-length-2 c = search needs
@@ -80,7 +83,7 @@ same-length-3 : tie.Need-same-length-3
 same-length-3 c = search needs
 
 returns-4 : tie.Need-returns-4
-returns-4 c = 
+returns-4 c =
     let e = c .before .before .before .before .before .before .before in
     let s = e .before .before .before .before .before .before .before in
     let a = s .args in

@@ -1,61 +1,80 @@
 -- `isis_srlg_index::live_tlv` meets its contract. Assumes nothing.
-use Prim.Native.Nat.{ℕ, _+_}
-use mathlib.Core.Path.{_≡_, refl, sym, _∙_, ap}
+use Prim.Native.Nat.{_+_, _≤_}
+use mathlib.Core.Path.{_≡_, ap}
 use denote.Ref.{now}
 use native.Mathlib.Omega.{arith}
 use Rattle.isis.specs.MaskHeader.{headerLength}
-use Rattle.isis_check_a.proofs.Laws.{header-bytes}
+use Rattle.isis_check_a.specs.declared.Header.{Header}
 use Rattle.isis_check_b.proofs.SrlgLaws.{length-byte}
-use Rattle.isis_srlg_index.proofs.Said.{general-header}
-use borrow.Author.Needs.{needs}
+use Rattle.isis_srlg_index.proofs.Said.{header-sizes, general-header, sent-names}
 use Rattle.isis_srlg_index.proofs.live_tlv.Statement.{statement}
 use Rattle.isis_srlg_index.proofs.live_tlv.Tie as tie
 
-names-in-requires : tie.Need-names-in-requires
-names-in-requires c κs = search needs
+abbrev Sizes : tie.Start → Type 0
+Sizes s = (s .args .h .standard ≤ 8) × (s .args .h .user ≤ 8) × (2 + s .args .h .standard + s .args .h .user ≡ headerLength (now (s .args .v)))
 
-header-length-requires : tie.Need-header-length-requires
-header-length-requires c κs = search needs
+sizes : (s : tie.Start) → Sizes s
+sizes s = header-sizes (now (s .args .v)) (s .args .h) (s .pre .header) (s .pre .masks)
 
--- where the masks end
-bytes : (c : tie.After-shared-slice-known2) → c .before .header-length .result ≡ headerLength (now (c .before .before .before .before .args .v))
-bytes c = c .before .header-length .ensures ∙ header-bytes _ _ (c .before .before .before .before .pre .0 .header)
+add-behind : tie.Need-add-behind
+add-behind c = let s = c .before .before in let (a, b, e) = sizes s in omega arith
+
+with-sent-requires : tie.Need-with-sent-requires
+with-sent-requires c κs = let s = c .before .before in let (a, b, e) = sizes s in (omega (arith, s .pre .inside), a, omega (arith, s .pre .size))
+
+with-sent-requires-2 : tie.Need-with-sent-requires-2
+with-sent-requires-2 c κs = let s = c .before .before .before in let (a, b, e) = sizes s in (omega (arith, s .pre .inside), b, omega (arith, s .pre .size))
+
+add-length-byte : tie.Need-add-length-byte
+add-length-byte c = let (a, b, e) = sizes (c .before .before .before .before .before) in omega arith
 
 shared-slice-read-identifiers : tie.Need-shared-slice-read-identifiers
-shared-slice-read-identifiers c = omega (arith, bytes c, c .before .before .before .before .pre .3)
+shared-slice-read-identifiers c = let s = c .before .before .before .before .before .before in let (a, b, e) = sizes s in omega (arith, s .pre .inside)
 
 cast-identifiers : tie.Need-cast-identifiers
-cast-identifiers c = omega (arith, c .shared-slice-known2 .given (c .before .header-length .result))
-
-add-t11 : tie.Need-add-t11
-add-t11 c = search needs
-
-add-t12 : tie.Need-add-t12
-add-t12 c = search needs
+cast-identifiers c =
+    let h = c .before .before .before .before .before .before .args .h in
+    omega (arith, c .shared-slice-known2 .given (2 + h .standard + h .user))
 
 add-t13 : tie.Need-add-t13
-add-t13 c = let k = c .before .before in omega (arith, k .shared-slice-known2 .given (k .before .header-length .result), bytes k, k .before .before .before .before .pre .3)
+add-t13 c = let (a, b, e) = sizes (c .before .before .before .before .before .before .before .before) in omega arith
+
+add-t14 : tie.Need-add-t14
+add-t14 c = let (a, b, e) = sizes (c .before .before .before .before .before .before .before .before) in omega arith
+
+add-t15 : tie.Need-add-t15
+add-t15 c =
+    let k = c .before .before in
+    let s = k .before .before .before .before .before .before in
+    let (a, b, e) = sizes s in
+    omega (arith, k .shared-slice-known2 .given (2 + s .args .h .standard + s .args .h .user))
 
 returns : tie.Need-returns
-returns c = 
-    let k = c .before .before in
+returns c =
+    let k = c .before .before .before .before in
     let s = k .before .before .before .before in
     let v = now (s .args .v) in
+    let h = s .args .h in
+    let (a, b, e) = sizes s in
     record {
-      named = k .before .before .names-in .ensures .named;
-      general = general-header v (s .args .h) (s .pre .0 .header);
-      start = omega (arith, bytes k, length-byte v (k .before .header-length .result) (bytes k));
+      named =
+          sent-names v (omega (arith, s .pre .inside)) _ _ (h .standard) (h .user) (k .before .with-sent .ensures) (k .with-sent2 .ensures)
+          (ap (λ (x : Header). x .standard) (s .pre .header)) (ap (λ (x : Header). x .user) (s .pre .header));
+      general = general-header v h (s .pre .header);
+      start = omega (arith, length-byte v (2 + h .standard + h .user) e);
     }
 
 pub live-tlv-spec : {M : Type 1} → statement M
 live-tlv-spec =
     tie.close
     (tie.spec
-    names-in-requires
-    header-length-requires
+    add-behind
+    with-sent-requires
+    with-sent-requires-2
+    add-length-byte
     shared-slice-read-identifiers
     cast-identifiers
-    add-t11
-    add-t12
     add-t13
+    add-t14
+    add-t15
     returns)

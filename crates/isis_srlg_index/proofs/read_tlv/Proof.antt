@@ -1,7 +1,7 @@
 -- `isis_srlg_index::read_tlv` meets its contract: another type, with L, or not live, and it has no number. Assumes nothing.
 use Prim.Native.Nat.{_+_, _≤_}
-use mathlib.Core.Path.{_≡_, refl, sym, _∙_}
-use mathlib.Core.Bool.{true, false}
+use mathlib.Core.Path.{_≡_, sym, _∙_}
+use mathlib.Core.Bool.{false}
 use lib.ListN.{length}
 use denote.Ref.{now}
 use native.Mathlib.Omega.{arith}
@@ -11,7 +11,8 @@ use Rattle.isis.specs.MaskHeader.{headerLength, maskTooLong}
 use Rattle.isis_check_a.proofs.Laws.{header-l}
 use Rattle.isis_check_b.proofs.SrlgLaws.{behind}
 use Rattle.isis_tlvs_238.specs.Selected.{Listed}
-use Rattle.isis_tlvs_238.proofs.Tlvs.{other-words, after-is, behind-listed, live-within}
+use Rattle.isis_tlvs_238.proofs.Tlvs.{whole as tlv-whole, other-words, after-is, behind-listed, live-within}
+use Rattle.isis_srlg_index.proofs.Identified.{behind-long, behind-few}
 use Rattle.isis_srlg_index.proofs.Said.{says-nothing, dead-words, unread-words, says-live}
 use borrow.Author.Needs.{needs}
 use Rattle.isis_srlg_index.proofs.read_tlv.Statement.{statement}
@@ -25,12 +26,13 @@ returns c = λ at. says-nothing _ _ _ (other-words at _ _ (λ e. omega arith)) (
 
 -- a 238 that passed its checks, and where it is live its masks and identifiers lie within it
 whole : (c : tie.Else1) → (9 ≤ length (now (c .before .before .args .value))) × Listed (afterNeighbour (now (c .before .before .args .value)))
-whole c = c .before .before .pre (omega arith)
+whole c = let (at, ok) = c .before .before .pre .0 in tlv-whole at _ _ ok (omega arith)
 
 short : (c : tie.Else3) → maskTooLong (behind (now (c .before .before .before .before .before .before .before .args .value))) ≡ false
 short c = live-within 0 _ (sym (c .before .live-srlg .ensures 0) ∙ not-false _ (c .if3 .left))
 
-within : (c : tie.Else3) → let v = behind (now (c .before .before .before .before .before .before .before .args .value)) in headerLength v + 1 + identifierBytes v ≤ length v
+within : (c : tie.Else3)
+    → let v = behind (now (c .before .before .before .before .before .before .before .args .value)) in headerLength v + 1 + identifierBytes v ≤ length v
 within c = behind-listed _ (whole (c .before .before .before .before .before)) .listed (short c)
 
 sub-v : tie.Need-sub-v
@@ -49,9 +51,10 @@ no-tlv-requires-2 : tie.Need-no-tlv-requires-2
 no-tlv-requires-2 c κs = search needs
 
 returns-2 : tie.Need-returns-2
-returns-2 c = 
+returns-2 c =
     let v = c .before .before .before .before in
-    λ at. says-nothing _ _ _ (unread-words at _ _ _ (omega arith) (after-is _ (whole v .0)) (sym (header-l _ _ (c .before .before .read-header .ensures .0)) ∙ c .before .if2 .taken)) (c .no-tlv2 .ensures)
+    λ at. says-nothing _ _ _ (unread-words at _ _ _ (omega arith) (after-is _ (whole v .0))
+    (sym (header-l _ _ (c .before .before .read-header .ensures .0)) ∙ c .before .if2 .taken)) (c .no-tlv2 .ensures)
 
 live-srlg-requires : tie.Need-live-srlg-requires
 live-srlg-requires c κs = search needs
@@ -60,21 +63,33 @@ no-tlv-requires-3 : tie.Need-no-tlv-requires-3
 no-tlv-requires-3 c κs = search needs
 
 returns-3 : tie.Need-returns-3
-returns-3 c = 
+returns-3 c =
     let v = c .before .before .before .before .before .before in
-    λ at. says-nothing _ _ _ (dead-words at _ _ _ _ (omega arith) (after-is _ (whole v .0)) (c .before .before .live-srlg .ensures at) (not-true _ (c .before .if3 .taken))) (c .no-tlv3 .ensures)
+    λ at. says-nothing _ _ _ (dead-words at _ _ _ _ (omega arith) (after-is _ (whole v .0)) (c .before .before .live-srlg .ensures at)
+    (not-true _ (c .before .if3 .taken))) (c .no-tlv3 .ensures)
 
 live-tlv-requires : tie.Need-live-tlv-requires
-live-tlv-requires c κs = 
-    let h = c .before .before .before .read-header .ensures in
-    (record { header = h .0; short = short c; inside = omega (arith, within c) }, h .1, h .2, within c)
+live-tlv-requires c κs =
+    let s = c .before .before .before .before .before .before .before in
+    record {
+      header = c .before .before .before .read-header .ensures .0;
+      masks = short c;
+      inside = within c;
+      size = omega (arith, s .pre .1, behind-few (now (s .args .value)));
+    }
 
 returns-4 : tie.Need-returns-4
-returns-4 c = 
+returns-4 c =
     let e = c .before in
     let v = e .before .before .before .before .before in
     let h = e .before .before .before .read-header .ensures .0 in
-    λ at. says-live at _ _ _ (omega arith) (after-is _ (whole v .0)) _ (e .before .live-srlg .ensures at) (not-false _ (e .if3 .left)) (sym (header-l _ _ h) ∙ e .before .before .if2 .left) _ (within e) (omega (arith, whole v .0)) (c .live-tlv .ensures)
+    let live = not-false _ (e .if3 .left) in
+    let (o, ok) = v .before .before .pre .0 in
+    let long = behind-long o _ _ ok (omega arith) (whole v .0) (sym (e .before .live-srlg .ensures o) ∙ live) in
+    λ at.
+    says-live at _ _ _ (omega arith) (after-is _ (whole v .0)) _ (e .before .live-srlg .ensures at) live (sym (header-l _ _ h) ∙ e .before .before .if2 .left) _
+    (within e) long
+    (omega (arith, whole v .0)) (c .live-tlv .ensures)
 
 pub read-tlv-spec : {M : Type 1} → statement M
 read-tlv-spec =
