@@ -81,7 +81,7 @@ low-other n l h =
 
 -- ---- a link
 
-module _ (a b c : List ℕ) (sets own : List (List ℕ)) (r : ℕ) (of : Indexed a sets own r) (p : ℕ → Bool) where
+module _ (a b c : List ℕ) {sets own : List (List ℕ)} {r : ℕ} (of : Indexed a sets own r) where
   abbrev m : Meaning
   m = meaning (linkSource a b c)
 
@@ -109,9 +109,9 @@ module _ (a b c : List ℕ) (sets own : List (List ℕ)) (r : ℕ) (of : Indexed
       go k i false e =
           map-at (setOf a (slotGrid sets r) (srlgs (rsvpTeKind 1096 (sideB b c)))) (λ k. valueOf k (rsvpTeKind k (sideOf a b c k))) applicationCodes reserved (application-mem i e)
 
-  pub resolves : ((n : ℕ) → p n ≡ named n (sideA a) || named n (sideB b c)) → Resolves m a sets own p r (sideB b c)
+  pub resolves : (p : ℕ → Bool) → ((n : ℕ) → p n ≡ named n (sideA a) || named n (sideB b c)) → Resolves m a sets own p r (sideB b c)
   unfolding meaning linkSource
-  resolves e =
+  resolves p e =
       record {
         only = λ n h. other-low n (and-l (member n others) (named n (sideA a) || named n (sideB b c)) h);
         named = λ n l h. ap (λ (t : Bool). t && (named n (sideA a) || named n (sideB b c))) (low-other n l h) ∙ sym (e n);
@@ -123,14 +123,14 @@ module _ (a b c : List ℕ) (sets own : List (List ℕ)) (r : ℕ) (of : Indexed
         top = top-row;
       }
 
-  pub slotted : Slotted a sets own p r
-  unfolding classAt
-  slotted =
-      record {
-        slots = of .slots;
-        link = of .link .0;
-        top = of .rsvpTe .stands;
-        slot = λ n h. (of .application n (h .low) (h .high) .stands, of .few n (h .high));
-        size = of .owned .size;
-        unclassed = of .unclassed;
-      }
+pub slotted : {a : List ℕ} {sets own : List (List ℕ)} {r : ℕ} → Indexed a sets own r → (p : ℕ → Bool) → Slotted a sets own p r
+unfolding classAt
+slotted of p =
+    record {
+      slots = of .slots;
+      link = of .link .0;
+      top = of .rsvpTe .stands;
+      slot = λ n h. (of .application n (h .low) (h .high) .stands, of .few n (h .high));
+      size = of .owned .size;
+      unclassed = of .unclassed;
+    }
