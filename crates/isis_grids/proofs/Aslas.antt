@@ -1,5 +1,5 @@
 -- ASLA sub-TLVs that passed their checks: what their headers promise, where their lists begin, and the turns of a loop that reads the selected lists.
-use mathlib.Core.Path.{_≡_, refl, sym, ap, _∙_, subst}
+use mathlib.Core.Path.{_≡_, refl, sym, ap, ap₂, _∙_, subst}
 use mathlib.Core.Logic.{_⊎_, inl, inr, ⊎-elim}
 use mathlib.Core.Bool.{Bool, true, false, cond, _&&_, _||_, not}
 use mathlib.Core.List.{List, [], _∷_, _++_, append-assoc}
@@ -298,3 +298,35 @@ module _ (w : Which) (a : List ℕ) (at : ℕ) (here : at < length a) (ok : faul
     live-unread l =
         live-read g
         (sym (ap (λ (v : List ℕ). F g (each attributesOf (elements 1 from v))) (empty-list from l) ∙ ap (λ (es : List Element). F g (each attributesOf es)) (none-left 1 from) ∙ none g))
+
+-- ---- what an ASLA gives to those who select it, by its header
+
+-- The part of the run behind k bytes of a value.
+pub list-behind : (a : List ℕ) (at k : ℕ) → k ≤ getD a (at + 1) 0 → at + 2 + getD a (at + 1) 0 ≤ length a → listPart a at (at + 2 + k) ≡ drop k (valueAt a at)
+list-behind a at k h l = part-drop a (at + 2) (getD a (at + 1) 0) k h l
+
+module _ (w : Which) (at t : ℕ) (v : List ℕ) (asla : t ≡ 16) where
+  abbrev readFrom : ℕ → List Attribute
+  readFrom k = each attributesOf (elements 1 (at + 2 + k) (drop k v))
+
+  -- with L, or with a mask too long to be read, nothing
+  pub selected-flagged : lFlag v ≡ true → selected w (element at t v) ≡ []
+  unfolding listFrom
+  selected-flagged l = selected-asla w at t v asla ∙ ap (λ (b : Bool). readFrom (cond b (length v) (cond (maskTooLong v) (length v) (cond (selects w (advertisement v [])) (headerLength v) (length v))))) l ∙ none w at t v (at + 2 + length v)
+
+  pub selected-too-long : lFlag v ≡ false → maskTooLong v ≡ true → selected w (element at t v) ≡ []
+  unfolding listFrom
+  selected-too-long l m =
+      selected-asla w at t v asla
+      ∙ ap₂ (λ (b d : Bool). readFrom (cond b (length v) (cond d (length v) (cond (selects w (advertisement v [])) (headerLength v) (length v))))) l m ∙ none w at t v (at + 2 + length v)
+
+  -- else its list, by the test
+  pub selected-read : lFlag v ≡ false → maskTooLong v ≡ false → selected w (element at t v) ≡ cond (selects w (advertisement v [])) (each attributesOf (listElements at v)) []
+  unfolding listFrom listElements
+  selected-read l m =
+      selected-asla w at t v asla
+      ∙ ap₂ (λ (b d : Bool). readFrom (cond b (length v) (cond d (length v) (cond (selects w (advertisement v [])) (headerLength v) (length v))))) l m ∙ go (selects w (advertisement v []))
+    where
+      go : (b : Bool) → readFrom (cond b (headerLength v) (length v)) ≡ cond b (each attributesOf (elements 1 (at + 2 + headerLength v) (drop (headerLength v) v))) []
+      go true = refl
+      go false = none w at t v (at + 2 + length v)

@@ -84,11 +84,11 @@ adds-then {owns} {table} {mid} {after} {f} {h} a b = record {
       ∙ ap (first (cell table (slotIn owns x) (cellAt x))) (sym (cell-append (codeOf x) (f (sourceOf x)) (h (sourceOf x))));
 }
 
+pub adds-cells : {owns table after : List (List ℕ)} {f h : Source → List Attribute} → ((x : Spot) → Valid owns x → cellIn (codeOf x) (f (sourceOf x)) ≡ cellIn (codeOf x) (h (sourceOf x))) → Adds owns table after f → Adds owns table after h
+adds-cells {owns} {table} e a = record { same = a .same; cells = λ x v. a .cells x v ∙ ap (first (cell table (slotIn owns x) (cellAt x))) (e x v) }
+
 pub adds-as : {owns table after : List (List ℕ)} {f h : Source → List Attribute} → ((x : Spot) → Valid owns x → f (sourceOf x) ≡ h (sourceOf x)) → Adds owns table after f → Adds owns table after h
-adds-as {owns} {table} {after} {f} {h} e a = record {
-  same = a .same;
-  cells = λ x v. a .cells x v ∙ ap (λ (ts : List Attribute). first (cell table (slotIn owns x) (cellAt x)) (cellIn (codeOf x) ts)) (e x v);
-}
+adds-as e a = adds-cells (λ x v. ap (cellIn (codeOf x)) (e x v)) a
 
 pub adds-none : (owns table : List (List ℕ)) (f : Source → List Attribute) → ((src : Source) → f src ≡ []) → Adds owns table table f
 adds-none owns table f e = record {

@@ -83,11 +83,11 @@ kind-read t r k e h = subst (λ (x : Kind). TypeOf x (codeOfType t)) (sym (ap (�
 
 -- ---- codes are different
 
-every : (ℕ → Bool) → ℕ → Bool
+unfoldable pub every : (ℕ → Bool) → ℕ → Bool
 every f zero = true
 every f (suc k) = f k && every f k
 
-every-at : (f : ℕ → Bool) (k : ℕ) → every f k ≡ true → (n : ℕ) → n < k → f n ≡ true
+pub every-at : (f : ℕ → Bool) (k : ℕ) → every f k ≡ true → (n : ℕ) → n < k → f n ≡ true
 unfolding every
 every-at f zero h n l = absurd (omega arith)
 every-at f (suc k) h n l = go (f k) refl h (every-at f k)
@@ -100,11 +100,11 @@ every-at f (suc k) h n l = go (f k) refl h (every-at f k)
         pick false i = let d = eqb-false n k i in ih h n (omega arith)
     go false e h ih = absurd (false≢true h)
 
-same : Bool → Bool → Bool
+unfoldable pub same : Bool → Bool → Bool
 same true b = b
 same false b = not b
 
-same-eq : (a b : Bool) → same a b ≡ true → a ≡ b
+pub same-eq : (a b : Bool) → same a b ≡ true → a ≡ b
 unfolding same
 same-eq true b e = sym e
 same-eq false true e = absurd (false≢true e)

@@ -155,11 +155,16 @@ pub record Assigned (own table after filled : List (List ℕ)) (base : ℕ) (d :
   pub others : (p : ℕ) → ((n : ℕ) → n < 64 → d n ≡ true → p ≡ base + turnedPlace n → ⊥) → getD after p [] ≡ getD own p []
   pub emptied : (s : ℕ) → from ≤ s → s < k → getD filled s [] ≡ emptyRow
   pub kept : (s : ℕ) → s < from → getD filled s [] ≡ getD table s []
+  pub classes : (p : ℕ) → getD (getD after p []) 1 0 ≡ getD (getD own p []) 1 0
+  pub taken : (s : ℕ) → from ≤ s → s < k → (n : ℕ) × (n < 64) × (d n ≡ true) × (slotAt after (base + turnedPlace n) ≡ s)
 
--- The applications of two sets have slots from 3 on and below k, one each; those rows and the first three are empty. The other places keep what they have.
+-- The applications of two sets have slots from 3 on and below k, one each, and every such slot is one of theirs; those rows and the first three are empty. The other places keep what
+-- they have, and all keep their classes.
 pub record Begun (own after filled : List (List ℕ)) (standard user k : ℕ) : Type 0 where
   pub owned : Owned after
   pub slots : (n : ℕ) → n < 128 → inPair standard user n ≡ true → (3 ≤ slotAt after (turnedPlace n)) × (slotAt after (turnedPlace n) < k)
   pub apart : (i j : ℕ) → i < 128 → j < 128 → inPair standard user i ≡ true → inPair standard user j ≡ true → slotAt after (turnedPlace i) ≡ slotAt after (turnedPlace j) → i ≡ j
   pub others : (n : ℕ) → n < 128 → inPair standard user n ≡ false → getD after (turnedPlace n) [] ≡ getD own (turnedPlace n) []
   pub emptied : (s : ℕ) → s < k → getD filled s [] ≡ emptyRow
+  pub classes : (p : ℕ) → getD (getD after p []) 1 0 ≡ getD (getD own p []) 1 0
+  pub taken : (s : ℕ) → 3 ≤ s → s < k → (n : ℕ) × (n < 128) × (inPair standard user n ≡ true) × (slotAt after (turnedPlace n) ≡ s)
