@@ -35,7 +35,7 @@ use Rattle.isis_check.specs.Sides.{toldLink, NamedSides, ChecksLink}
 use Rattle.isis_srlg_index.specs.declared.Indexed.{Indexed}
 use Rattle.isis_srlg_index.specs.Sources.{Indexes}
 use Rattle.isis_export.specs.declared.Link.{Link}
-use Rattle.isis_export.specs.Stages.{Passed, Joined, InUse, Ready}
+use Rattle.isis_export.specs.Stages.{PassedA, Passed, Joined, InUse, Ready}
 
 -- ---- a link that passed its checks
 
@@ -46,15 +46,13 @@ passed a b c s h x y =
     let ab = or-l (ltb 2048 (length a) || ltb 2048 (length b)) (ltb 1024 (length c)) long in
     let rest = then-second _ _ (then-second _ _ h) in
     record {
-      runA = then-first _ _ rest;
+      sideA = record { passed = then-first _ _ rest; short = ltb-false 2048 (length a) (or-l (ltb 2048 (length a)) (ltb 2048 (length b)) ab); names = x };
       runB = then-second _ _ rest;
       short = (
-        ltb-false 2048 (length a) (or-l (ltb 2048 (length a)) (ltb 2048 (length b)) ab),
         ltb-false 2048 (length b) (or-r (ltb 2048 (length a)) (ltb 2048 (length b)) ab),
         ltb-false 1024 (length c) (or-r (ltb 2048 (length a) || ltb 2048 (length b)) (ltb 1024 (length c)) long),
       );
-      namesA = x;
-      namesB = y;
+      names = y;
     }
 
 -- By what the checks answer.
@@ -145,9 +143,7 @@ module _ {a b c : List ℕ} {s : Sides} {used : Used} {measuring : Bool} {n : Li
   pub ready : Passed a b c s → Joined s used measuring n → Listed values rows used (s .b) (sideB b c) → (0 < used .words → InUse rows used) → Ready a b c n rows values
   ready p j l w =
       record {
-        passed = p .runA;
-        short = p .short .0;
-        names = subst (Tells ((sideA a) .live)) (sym (j .of .0)) (p .namesA);
+        passed = subst (PassedA a) (sym (j .of .0)) (p .sideA);
         joined = j .both;
         listed = subst (λ (u : Used). Listed values rows u (n .b) (sideB b c)) (sym (j .of .2)) (subst (λ (m : Names). Listed values rows used m (sideB b c)) (sym (j .of .1)) l);
         used = subst (λ (u : Used). 0 < u .words → InUse rows u) (sym (j .of .2)) w;

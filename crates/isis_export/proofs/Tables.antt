@@ -1,12 +1,10 @@
 -- The tables of a link's export: their room, and that they resolve the link's meaning. Assumes nothing.
-use mathlib.Core.Path.{_≡_, refl, sym, ap, ap₂, _∙_}
+use mathlib.Core.Path.{_≡_, refl, sym, ap, ap₂, _∙_, subst}
 use mathlib.Core.Bool.{Bool, true, false, cond, _||_}
 use mathlib.Core.List.{List, [], _∷_}
 use Prim.Native.Nat.{ℕ, zero, suc, _+_, _-_, _≤_, _<_}
 use native.Mathlib.Omega.{arith}
-use borrow.Author.Tests.{ltb-true, ltb-false}
-use lib.Dec.{ltb}
-use lib.ListN.{length, getD, replicate, getD-replicate}
+use lib.ListN.{length, getD, take, replicate, getD-replicate}
 use Rattle.linkstate.specs.Masks.{inNumber}
 use Rattle.linkstate.specs.Sides.{named}
 use Rattle.linkstate.specs.Meaning.{meaning}
@@ -14,7 +12,7 @@ use Rattle.masks.specs.Sets.{inSent}
 use Rattle.naming.specs.declared.Names.{Names}
 use Rattle.naming.specs.Names.{inBoth}
 use Rattle.naming.proofs.Laws.{side-named}
-use Rattle.set_table.specs.Tables.{howMany, inPair}
+use Rattle.set_table.specs.Tables.{howMany, inPair, Owned, Begun}
 use Rattle.set_table.proofs.Assigns.{many-same}
 use Rattle.set_groups.specs.Table.{left}
 use Rattle.export_tables.specs.Resolved.{Resolves, Listed, Room}
@@ -22,10 +20,12 @@ use Rattle.export_tables.proofs.Counts.{Few, few-named, few-among, few-all, lef
 use Rattle.isis.specs.RunA.{sideA}
 use Rattle.isis.specs.RunB.{sideB}
 use Rattle.isis.specs.Link.{linkSource}
+use Rattle.isis_index.specs.Started.{Started}
 use Rattle.isis_index.specs.Indexed.{Indexed}
+use Rattle.isis_index.proofs.Starting.{turned-both, started}
 use Rattle.isis_meaning.proofs.Sets.{resolves}
 use Rattle.isis_export.specs.declared.Link.{Link}
-use Rattle.isis_export.specs.Stages.{Ready, Roomy, Bare}
+use Rattle.isis_export.specs.Stages.{Ready, Unowned, Roomy}
 
 -- ---- rooms
 
@@ -91,26 +91,23 @@ module _ {a b c : List ℕ} {n : Link} {rows : List (List ℕ)} {values : List �
   -- ---- the meaning
 
   named-by : (i : ℕ) → p i ≡ named i (sideA a) || named i (sideB b c)
-  named-by i = of .joined i ∙ ap₂ (λ (x y : Bool). x || y) (side-named (sideA a) (n .a) (of .names) i) (side-named (sideB b c) (n .b) (of .listed .tells) i)
+  named-by i = of .joined i ∙ ap₂ (λ (x y : Bool). x || y) (side-named (sideA a) (n .a) (of .passed .names) i) (side-named (sideB b c) (n .b) (of .listed .tells) i)
 
   pub resolved : {sets own : List (List ℕ)} {r : ℕ} → Indexed a sets own r → Resolves (meaning (linkSource a b c)) a sets own p r (sideB b c)
   resolved is = resolves a b c is p named-by
 
 -- ---- slots
 
--- Masks turned have the bits of masks as sent.
-module _ (ms mu s u : ℕ) (es : (n : ℕ) → n < 64 → inNumber s n ≡ inSent ms n) (eu : (n : ℕ) → n < 64 → inNumber u n ≡ inSent mu n) where
-  pub turned-pair : (n : ℕ) → n < 128 → inPair s u n ≡ inBoth ms mu n
-  unfolding inPair inBoth
-  turned-pair n h = go (ltb n 64) refl
-    where
-      go : (t : Bool) → ltb n 64 ≡ t → cond t (inNumber s n) (inNumber u (n - 64)) ≡ cond t (inSent ms n) (inSent mu (n - 64))
-      go true e = es n (ltb-true n 64 e)
-      go false e = let l = ltb-false n 64 e in eu (n - 64) (omega arith)
+-- A table of slot and class as it is made.
+pub unowned-owned : (own : List (List ℕ)) → Unowned own → Owned own
+unowned-owned own u = rw (u .is) (record { size = refl; pairs = λ q h. ap length (getD-replicate 128 q (replicate 2 0) [] h) })
 
-  pub turned-many : howMany (inPair s u) 128 ≡ howMany (inBoth ms mu) 128
-  turned-many = many-same (inPair s u) (inBoth ms mu) 128 turned-pair
+-- Masks turned have as many bits.
+module _ (named : Names) (s u : ℕ) (es : (n : ℕ) → n < 64 → inNumber s n ≡ inSent (named .standard) n) (eu : (n : ℕ) → n < 64 → inNumber u n ≡ inSent (named .user) n) where
+  pub turned-many : howMany (inPair s u) 128 ≡ howMany (inBoth (named .standard) (named .user)) 128
+  turned-many = many-same (inPair s u) (inBoth (named .standard) (named .user)) 128 (turned-both (named .standard) (named .user) s u es eu)
 
--- A table of slot and class that nobody has an entry in.
-pub bare : Bare (replicate 128 (0 ∷ 0 ∷ []))
-bare = record { owned = record { size = refl; pairs = λ q h. ap length (getD-replicate 128 q (0 ∷ 0 ∷ []) [] h) }; none = λ q h. getD-replicate 128 q (0 ∷ 0 ∷ []) [] h }
+  pub begun-started : {own after filled : List (List ℕ)} {k : ℕ} → Unowned own → Begun own after filled s u k → k ≡ 3 + howMany (inPair s u) 128 → k ≤ length filled → length filled ≤ 256
+      → Started named (take k filled) after
+  begun-started {own} {after} {filled} {k} e b is room most =
+      started named s u es eu (subst (λ (x : List (List ℕ)). Begun x after filled s u k) (e .is) b) (omega arith) (omega arith) room (take k filled) refl

@@ -1,26 +1,22 @@
 // The export of an IS-IS link as BGP-LS TLVs, or its length alone (document 01, "BGP-LS bytes"): checks, indexes, and then the tables that no protocol is known of.
 ghost use mathlib.Core.Path.{_≡_};
-ghost use mathlib.Core.Bool.{_||_};
-ghost use mathlib.Core.List.{List, [], _∷_};
-ghost use Prim.Native.Nat.{ℕ, _+_, _≤_, _<_};
-ghost use lib.ListN.{length, take, replicate};
-ghost use Rattle.linkstate.specs.Masks.{inNumber};
-ghost use Rattle.linkstate.specs.Replies.{accepted, runA, bytes};
-ghost use Rattle.linkstate.specs.Elements.{elements, faults};
+ghost use mathlib.Core.List.{List, []};
+ghost use Prim.Native.Nat.{ℕ, _+_, _≤_};
+ghost use lib.ListN.{length, take};
+ghost use Rattle.linkstate.specs.Replies.{bytes};
 ghost use Rattle.linkstate.specs.Meaning.{meaning};
 ghost use Rattle.linkstate.specs.Export as Definitions;
 ghost use Rattle.replies.specs.Told.{toldWritten, toldExported};
-ghost use Rattle.masks.specs.Sets.{inSent};
-ghost use Rattle.naming.specs.Names.{inBoth, Tells};
-ghost use Rattle.set_table.specs.Tables.{howMany, inPair, Begun};
+ghost use Rattle.naming.specs.Names.{inBoth};
+ghost use Rattle.set_table.specs.Tables.{howMany, inPair};
 ghost use Rattle.export_bytes.specs.Whole.{answered};
-ghost use Rattle.isis.specs.RunA.{checkA, sideA};
 ghost use Rattle.isis.specs.Link.{linkSource, exportLink};
+ghost use Rattle.isis_index.specs.Started.{Started};
 ghost use Rattle.isis_index.specs.Indexed.{Indexed};
 ghost use Rattle.isis_srlg_index.specs.Sources.{Room};
 ghost use Rattle.isis_export.specs.Delivered.{Delivered};
 ghost use Rattle.isis_export.specs.Answers.{exportLength, answeredLink};
-ghost use Rattle.isis_export.specs.Stages.{Passed, Ready, Roomy, Bare, Joined};
+ghost use Rattle.isis_export.specs.Stages.{PassedA, Passed, Joined, Ready, Unowned, Roomy};
 use export_tables::Plan;
 use isis_check::LinkChecked;
 use isis_check::Sides;
@@ -44,14 +40,7 @@ struct Slots {
     rsvp: usize,
 }
 
-fn index_a(a: &[u8], named: Names, sets: &mut [[u32; 12]], own: &mut [[u8; 2]; 128]) -> usize
-    requires { ⌜ (faults runA checkA (elements 1 0 (now a)) ≡ accepted) × (length (now a) ≤ 2048) × Tells ((sideA (now a)) .live) named × ((s : ℕ) × (u : ℕ) × ((n : ℕ) → n < 64 → inNumber s n ≡ inSent (named .standard) n) × ((n : ℕ) → n < 64 → inNumber u n ≡ inSent (named .user) n) × ((own₀ : List (List ℕ)) × Bare own₀ × Begun own₀ (now own) (now sets) s u (length (now sets)))) ⌝ }
-    ensures { λ r. ⌜ Indexed (now (a .entry)) (now (sets .exit)) (now (own .exit)) r ⌝ }
-{
-    0
-}
-
-// The slots of run A, at the front of the table; the slot of RSVP-TE's set.
+// The first slots of the table, filled by the walk of run A; the slot of RSVP-TE's set.
 fn index_slots(
     a: &[u8],
     named: Names,
@@ -59,15 +48,15 @@ fn index_slots(
     count: usize,
     own: &mut [[u8; 2]; 128],
 ) -> usize
-    requires { ⌜ (faults runA checkA (elements 1 0 (now a)) ≡ accepted) × (length (now a) ≤ 2048) × Tells ((sideA (now a)) .live) named × (count ≤ length (now sets)) × ((s : ℕ) × (u : ℕ) × ((n : ℕ) → n < 64 → inNumber s n ≡ inSent (named .standard) n) × ((n : ℕ) → n < 64 → inNumber u n ≡ inSent (named .user) n) × ((own₀ : List (List ℕ)) × Bare own₀ × Begun own₀ (now own) (now sets) s u count)) ⌝ }
+    requires { ⌜ PassedA (now a) named × (count ≤ length (now sets)) × Started named (take count (now sets)) (now own) ⌝ }
     ensures { λ r. ⌜ Indexed (now (a .entry)) (take count (now (sets .exit))) (now (own .exit)) r ⌝ }
 {
-    index_a(a, named, &mut sets[0..count], own)
+    isis_index::index_a(a, named, &mut sets[0..count], own)
 }
 
-// The table of sets, filled by the walk of run A.
+// The table of sets: a slot for whom run A names, and then its walk.
 fn fill_sets(a: &[u8], named: Names, sets: &mut [[u32; 12]], own: &mut [[u8; 2]; 128]) -> Slots
-    requires { ⌜ (faults runA checkA (elements 1 0 (now a)) ≡ accepted) × (length (now a) ≤ 2048) × Tells ((sideA (now a)) .live) named × Bare (now own) × (3 + howMany (inBoth (named .standard) (named .user)) 128 ≤ length (now sets)) × (length (now sets) ≤ 256) ⌝ }
+    requires { ⌜ PassedA (now a) named × Unowned (now own) × (3 + howMany (inBoth (named .standard) (named .user)) 128 ≤ length (now sets)) × (length (now sets) ≤ 256) ⌝ }
     ensures { λ r. ⌜ (r .count ≤ length (now (sets .exit))) × Indexed (now (a .entry)) (take (r .count) (now (sets .exit))) (now (own .exit)) (r .rsvp) ⌝ }
 {
     let standard = masks::turned(named.standard);

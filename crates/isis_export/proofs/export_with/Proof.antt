@@ -1,7 +1,7 @@
 -- `isis_export::export_with` meets its contract: the walk of run A, and then the tables that it leaves. Assumes nothing.
 use mathlib.Core.Path.{refl}
 use Rattle.isis_meaning.proofs.Sets.{slotted}
-use Rattle.isis_export.proofs.Tables.{table-room, resolved, bare}
+use Rattle.isis_export.proofs.Tables.{table-room, resolved}
 use borrow.Author.Needs.{needs}
 use Rattle.isis_export.proofs.export_with.Statement.{statement}
 use Rattle.isis_export.proofs.export_with.Tie as tie
@@ -20,7 +20,7 @@ fill-sets-requires : tie.Need-fill-sets-requires
 fill-sets-requires c κs =
     let p = c .before .before .before .before .before .before .pre in
     let of = p .0 .2 in
-    (of .passed, of .short, of .names, bare, p .1 .slots .0, p .1 .slots .1)
+    (of .passed, record { is = refl }, p .1 .slots .0, p .1 .slots .1)
 
 export-rows-requires : tie.Need-export-rows-requires
 export-rows-requires c κs =
