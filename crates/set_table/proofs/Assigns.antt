@@ -29,7 +29,7 @@ unfolding howMany one
 many-none zero = refl
 many-none (suc k) = ap₂ (λ (x : ℕ) (b : Bool). x + one b) (many-none k) (zero-none k)
 
-many-same : (p q : ℕ → Bool) (k : ℕ) → ((j : ℕ) → j < k → p j ≡ q j) → howMany p k ≡ howMany q k
+pub many-same : (p q : ℕ → Bool) (k : ℕ) → ((j : ℕ) → j < k → p j ≡ q j) → howMany p k ≡ howMany q k
 unfolding howMany
 many-same p q zero h = refl
 many-same p q (suc k) h = ap₂ (λ (x : ℕ) (b : Bool). x + one b) (many-same p q k (λ j l. h j (omega arith))) (h k (omega arith))
@@ -241,7 +241,7 @@ module _ {own table after filled : List (List ℕ)} {base m x from k : ℕ} (a :
 
 -- ---- both masks
 
-many-split : (p : ℕ → Bool) (n k : ℕ) → howMany p (n + k) ≡ howMany p n + howMany (λ j. p (n + j)) k
+pub many-split : (p : ℕ → Bool) (n k : ℕ) → howMany p (n + k) ≡ howMany p n + howMany (λ j. p (n + j)) k
 unfolding howMany
 many-split p n zero = let e : n + 0 ≡ n = omega arith in ap (howMany p) e ∙ omega arith
 many-split p n (suc k) = let e : n + suc k ≡ suc (n + k) = omega arith in ap (howMany p) e ∙ omega (arith, many-split p n k)

@@ -48,8 +48,7 @@ pub record Has (values : List ℕ) (rows classes : List (List ℕ)) (n c : ℕ) 
 
 -- W2, W3, W4, W8 to W10. The classes of a side's subjects: of the applications that pass a test, RSVP-TE aside, of the general set, and of RSVP-TE.
 pub record Classified (values : List ℕ) (rows classes own : List (List ℕ)) (asked : ℕ → Bool) (side : Side) (r : Classes) : Type 0 where
-  pub count : ℕ
-  pub table : Classed values rows classes count
-  pub application : (a : ℕ) → 0 < a → a < 128 → asked a ≡ true → Has values rows classes count (classOf own a) (srlgs (applicationSet a side))
-  pub general : Has values rows classes count (r .general) (srlgs (generalSet side))
-  pub rsvp : Has values rows classes count (r .rsvp) (srlgs (rsvpTeKind 1096 side))
+  pub table : Classed values rows classes (r .count)
+  pub application : (a : ℕ) → 0 < a → a < 128 → asked a ≡ true → Has values rows classes (r .count) (classOf own a) (srlgs (applicationSet a side))
+  pub general : Has values rows classes (r .count) (r .general) (srlgs (generalSet side))
+  pub rsvp : Has values rows classes (r .count) (r .rsvp) (srlgs (rsvpTeKind 1096 side))

@@ -15,10 +15,11 @@ ghost use Rattle.srlg_classes.specs.Sided.{Sourced, Classified};
 use naming::Names;
 use srlg_table::Used;
 
-// The classes of the general set and of RSVP-TE.
+// The classes of the general set and of RSVP-TE, and how many classes there are.
 pub struct Classes {
     pub general: usize,
     pub rsvp: usize,
+    pub count: usize,
 }
 
 // The applications of a mask of 64 bits from `base` on get a class.
@@ -186,7 +187,7 @@ fn classify_in(
     let mut buckets = [0u8; 128];
     let first = first_classes(rows, used, classes, heads, &mut buckets);
     give_firsts(standard, user, named, first, own);
-    give_named(
+    let count = give_named(
         rows,
         used,
         named,
@@ -200,6 +201,7 @@ fn classify_in(
     Classes {
         general: first.general,
         rsvp: rsvp_class(named, own, first.legacy),
+        count,
     }
 }
 
@@ -278,6 +280,7 @@ pub fn classify(
         return Classes {
             general: 0,
             rsvp: 0,
+            count: 1,
         };
     }
     if classes.len() <= 16 {
