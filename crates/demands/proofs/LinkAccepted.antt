@@ -6,9 +6,9 @@ use Prim.Native.Nat.{ℕ, _+_, _%_}
 use lib.Dec.{ltb, eqb}
 use lib.ListN.{length}
 use Rattle.linkstate.specs.Lists.{any, member}
-use Rattle.linkstate.specs.Kinds.{wrongInA}
 use Rattle.linkstate.specs.Replies.{Run, accepted, fault, runA, runB}
 use Rattle.linkstate.specs.Elements.{elements}
+use Rattle.isis.specs.Types.{wrongInA}
 use Rattle.isis.specs.MaskHeader.{lFlag, headerLength, maskTooLong, lForNobody}
 use Rattle.isis.specs.RunA.{listElements, checkAttribute, checkAsla, checkA}
 use Rattle.isis.specs.RunB.{afterNeighbour, identifierBytes, identifiers, srlgValues, knownIdentifiers, checkIdentifier, ignored, checkSrlg, checkB}

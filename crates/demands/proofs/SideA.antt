@@ -11,11 +11,12 @@ use lib.ListN.{length, drop}
 use lib.Seq.{take-length}
 use Rattle.linkstate.specs.Lists.{each, lookup, member}
 use Rattle.linkstate.specs.Bytes.{bytesAt}
-use Rattle.linkstate.specs.Kinds.{kind, kinds, carriedAs, hasType, codes, codeOfType, wrongInA}
+use Rattle.linkstate.specs.Kinds.{codes}
 use Rattle.linkstate.specs.Replies.{accepted, runA}
 use Rattle.linkstate.specs.Elements.{Element, element, cut, elements, faults}
 use Rattle.linkstate.specs.Attributes.{Attribute, attribute}
 use Rattle.linkstate.specs.Sides.{Advertisement, ofLive}
+use Rattle.isis.specs.Types.{typeInA, types, hasType, codeOfType, wrongInA}
 use Rattle.isis.specs.MaskHeader.{lFlag, headerLength, maskTooLong, lForNobody, advertisement}
 use Rattle.isis.specs.RunA.{listElements, checkAttribute, checkAsla, checkA, attributesOf, liveAsla, aslaAdvertisements, sideA}
 use Rattle.linkstate.proofs.ElementLaws.{at-place, rest-place}
@@ -73,7 +74,7 @@ unfolding checkAttribute
 attribute-right at t v h = unfaulted (wrongInA t (length v)) 4 runA at accepted h .0
 
 asla-is-no-kind : member (codeOfType 16) codes ≡ true → ⊥
-unfolding codeOfType lookup kinds kind hasType carriedAs
+unfolding codeOfType lookup types typeInA hasType
 asla-is-no-kind h = zero-is-no-code h
 
 -- The list of a live ASLA, where it is read.

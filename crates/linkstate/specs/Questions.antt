@@ -5,6 +5,7 @@ use Prim.Native.Nat.{ℕ, _+_}
 use lib.Dec.{eqb, ltb}
 use lib.ListN.{length}
 use Rattle.linkstate.specs.Lists.{empty, put}
+use Rattle.linkstate.specs.Limits.{lastNumber}
 use Rattle.linkstate.specs.Bytes.{bytesAt}
 use Rattle.linkstate.specs.Kinds.{isCode, isLinkCode}
 use Rattle.linkstate.specs.Masks.{user, asNumber}
@@ -33,8 +34,8 @@ pub record Source : Type 0 where
 -- R6. An application number above 63; the general set has no number.
 unfoldable pub numberTooHigh : Subject → Bool
 numberTooHigh generally = false
-numberTooHigh (standardNo n) = ltb 63 n
-numberTooHigh (userNo n) = ltb 63 n
+numberTooHigh (standardNo n) = ltb lastNumber n
+numberTooHigh (userNo n) = ltb lastNumber n
 
 -- The attributes of the subject's set.
 unfoldable pub setOf : Source → Subject → ℕ → List Attribute
