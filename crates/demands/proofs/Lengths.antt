@@ -125,37 +125,6 @@ type-right t n w m = go (lookup-cases (hasType t) (λ q. q .code) 0 types)
     go (inl r) = rw (r .3) (found (r .0) (r .1) (r .2))
     go (inr e) = absurd (zero-is-no-code (rw e at m))
 
--- Only type 18 is a TE metric.
-metricRow : TypeInA → Bool
-metricRow q = cond (eqb (q .type) 18) (eqb (q .code) 1092) (not (eqb (q .code) 1092))
-
-metric-rows : all metricRow types ≡ true
-unfolding all metricRow types typeInA
-metric-rows = refl
-
-metric-known : codeOfType 18 ≡ 0 → ⊥
-unfolding codeOfType lookup types typeInA hasType
-metric-known e = omega arith
-
-pub metric-type : (t : ℕ) → eqb t 18 ≡ eqb (codeOfType t) 1092
-unfolding codeOfType metricRow hasType
-metric-type t = go (lookup-cases (hasType t) (λ q. q .code) 0 types)
-  where
-    same : (x y : Bool) → cond x y (not y) ≡ true → x ≡ y
-    same true true h = refl
-    same true false h = absurd (false≢true h)
-    same false true h = absurd (false≢true h)
-    same false false h = refl
-
-    other : lookup (hasType t) (λ q. q .code) 0 types ≡ 0 → (b : Bool) → eqb t 18 ≡ b → b ≡ false
-    other e true i = absurd (metric-known (subst (λ (x : ℕ). codeOfType x ≡ 0) (eqb-true t 18 i) e))
-    other e false i = refl
-
-    go : ((q : TypeInA) × List·Memᴰ q types × (hasType t q ≡ true) × (lookup (hasType t) (λ q. q .code) 0 types ≡ q .code)) ⊎ (lookup (hasType t) (λ q. q .code) 0 types ≡ 0)
-        → eqb t 18 ≡ eqb (lookup (hasType t) (λ q. q .code) 0 types) 1092
-    go (inl r) = rw (r .3, eqb-true t (r .0 .type) (r .2)) (same (eqb (r .0 .type) 18) (eqb (r .0 .code) 1092) (all-mem metricRow types metric-rows (r .1)))
-    go (inr e) = rw e (other e (eqb t 18) refl)
-
 -- SRLGs: any multiple of four is right.
 pub fours-right : (n : ℕ) → 4 + 4 * n ≤ 2052 → RightLength 1096 (4 * n)
 unfolding limit wrongAtTop any kinds kind hasCode fits

@@ -19,12 +19,13 @@ use Rattle.linkstate.specs.Sides.{Advertisement, ofLive}
 use Rattle.isis.specs.Types.{typeInA, types, hasType, codeOfType, wrongInA}
 use Rattle.isis.specs.MaskHeader.{lFlag, headerLength, maskTooLong, lForNobody, advertisement}
 use Rattle.isis.specs.RunA.{listElements, checkAttribute, checkAsla, checkA, attributesOf, liveAsla, aslaAdvertisements, sideA}
+use Rattle.isis.proofs.TypeLaws.{metric-type}
 use Rattle.linkstate.proofs.ElementLaws.{at-place, rest-place}
 use Rattle.linkstate.proofs.ListLaws.{or-l, or-r, keep-mem, each-mem}
 use Rattle.rivals.proofs.RunLaws.{faults-mem}
 use Rattle.demands.specs.Demands.{inA}
 use Rattle.demands.proofs.Passed.{unfaulted}
-use Rattle.demands.proofs.Lengths.{RightLength, lengthInBgpLs, type-right, metric-type, zero-is-no-code}
+use Rattle.demands.proofs.Lengths.{RightLength, lengthInBgpLs, type-right, zero-is-no-code}
 use Rattle.demands.proofs.SetValues.{Sound}
 
 -- An attribute of a run A: its value stands there as it was sent, and has a right length if its kind is known.

@@ -1,15 +1,21 @@
--- The table of types against the classifier's range, and what a rule says of lengths.
-use mathlib.Core.Path.{_≡_, refl, sym, ap, ap₂, _∙_}
+-- The table of types against the classifier's range, and what a rule says of lengths and codes.
+use mathlib.Core.Path.{_≡_, refl, sym, ap, ap₂, _∙_, subst}
 use mathlib.Core.Bool.{Bool, true, false, cond, _||_, not}
+use mathlib.Core.List.{List, [], _∷_}
 use Prim.Native.Nat.{ℕ, _+_, _-_, _≤_, _<_}
 use native.Mathlib.Omega.{arith}
 use borrow.Author.Tests.{eqb-true, ne-eqb}
-use lib.Dec.{eqb}
+use lib.Dec.{eqb, lit<}
+use lib.ListN.{getD}
+use Rattle.linkstate.specs.Lists.{lookup}
 use Rattle.linkstate.specs.Kinds as T
-use Rattle.isis.specs.Types.{types, hasType, wrongInA}
-use Rattle.kinds.specs.declared.Kind.the-variants.{Application, Unknown}
+use Rattle.linkstate.specs.Kinds.{linkCodes}
+use Rattle.isis.specs.Types.{TypeInA, types, hasType, codeOfType, wrongInA}
+use Rattle.kinds.specs.declared.Kind.{Kind}
+use Rattle.kinds.specs.declared.Kind.the-variants.{Link, Application, Srlg, Asla, Unknown}
 use Rattle.kinds.specs.declared.Size.the-variants.{Exactly, Any}
-use Rattle.kinds.specs.Rules.{rule, fitsIn}
+use Rattle.kinds.specs.declared.Rule.{Rule}
+use Rattle.kinds.specs.Rules.{rule, fitsIn, gridCodes}
 use Rattle.kinds.proofs.Laws.{seven, Once, alone, once, size-fits, by-rule, any-kept}
 use Rattle.isis_kinds.specs.Rules.{typeRule, ruleOfType}
 use Rattle.isis_kinds.proofs.Computing.{computing}
@@ -66,3 +72,46 @@ eight-in-a t n e f = go (eqb t 14) refl f
     go : (b : Bool) → eqb t 14 ≡ b → b || eqb t 34 ≡ true → wrongInA t n ≡ false
     go true g h = ap₂ wrongInA (eqb-true t 14 g) e
     go false g h = ap₂ wrongInA (eqb-true t 34 h) e
+
+-- ---- the code of a kind
+
+-- A kind is that of a type with a code: its row is the code's.
+abbrev pub TypeOf : Kind → ℕ → Type 0
+TypeOf (Link i) c = (i < 3) × (c ≡ getD linkCodes i 0)
+TypeOf (Application i) c = (i < 10) × (c ≡ getD gridCodes i 0)
+TypeOf Srlg c = ⊥
+TypeOf Asla c = c ≡ 0
+TypeOf Unknown c = c ≡ 0
+
+-- every row of the table stands in its place
+Placed : List TypeInA → Type 0
+Placed [] = Unit {0}
+Placed (q ∷ qs) = TypeOf ((typeRule q) .kind) (q .code) × Placed qs
+
+placed : Placed types
+unfolding computing Placed
+placed = ((lit< tt, refl), ((lit< tt, refl), ((lit< tt, refl), ((lit< tt, refl), ((lit< tt, refl), ((lit< tt, refl), ((lit< tt, refl), ((lit< tt, refl), ((lit< tt, refl), ((lit< tt, refl), ((lit< tt, refl), ((lit< tt, refl), ((lit< tt, refl), tt)))))))))))))
+
+-- the row that is found, or none
+module _ (t : ℕ) where
+  found-right : (qs : List TypeInA) → Placed qs → TypeOf ((lookup (hasType t) typeRule (rule Unknown Any 0) qs) .kind) (lookup (hasType t) (λ q. q .code) 0 qs)
+  unfolding Placed lookup
+  found-right [] h = refl
+  found-right (q ∷ qs) h = go (hasType t q) (found-right qs (h .1))
+    where
+      go : (b : Bool) → TypeOf ((lookup (hasType t) typeRule (rule Unknown Any 0) qs) .kind) (lookup (hasType t) (λ q. q .code) 0 qs)
+          → TypeOf ((cond b (typeRule q) (lookup (hasType t) typeRule (rule Unknown Any 0) qs)) .kind) (cond b (q .code) (lookup (hasType t) (λ q. q .code) 0 qs))
+      go true r = h .0
+      go false r = r
+
+  pub type-of : TypeOf ((ruleOfType t) .kind) (codeOfType t)
+  unfolding computing
+  type-of = go (eqb t 16) refl
+    where
+      go : (b : Bool) → eqb t 16 ≡ b → TypeOf ((cond b (rule Asla Any 1122) (lookup (hasType t) typeRule (rule Unknown Any 0) types)) .kind) (lookup (hasType t) (λ q. q .code) 0 types)
+      go true e = ap codeOfType (eqb-true t 16 e)
+      go false e = found-right types placed
+
+-- As the code has it.
+pub kind-read : (t : ℕ) (r : Rule) (k : Kind) → r ≡ ruleOfType t → r .kind ≡ k → TypeOf k (codeOfType t)
+kind-read t r k e h = subst (λ (x : Kind). TypeOf x (codeOfType t)) (sym (ap (λ (x : Rule). x .kind) e) ∙ h) (type-of t)
