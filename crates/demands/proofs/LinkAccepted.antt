@@ -13,8 +13,9 @@ use Rattle.isis.specs.MaskHeader.{lFlag, headerLength, maskTooLong, lForNobody}
 use Rattle.isis.specs.RunA.{listElements, checkAttribute, checkAsla, checkA}
 use Rattle.isis.specs.RunB.{afterNeighbour, identifierBytes, identifiers, srlgValues, knownIdentifiers, checkIdentifier, ignored, checkSrlg, checkB}
 use Rattle.isis.specs.Link.{linkVerdict, exportLink}
+use Rattle.rivals.specs.Signed.{LinkAccepted}
 use Rattle.rivals.proofs.Acceptance.{By, by-none, by-then, by-fault, by-cond, by-if, by-faults, by-refuses, accepted-only5, only5-accepted}
-use Rattle.demands.specs.Demands.{ofChecks, LinkAccepted}
+use Rattle.demands.specs.Demands.{ofChecks}
 
 cut-off : (run : Run) (at : ℕ) → By ofChecks (fault 3 run at)
 unfolding member
@@ -66,7 +67,7 @@ link-by a b c =
     (by-then (by-if (not (eqb (length c % 4) 0)) 2 refl)
     (by-then (by-faults refl runA checkA a-by (elements 1 0 a)) (by-faults refl runB checkB b-by (elements 1 0 b))))
 
-pub link-accepted : (a b c : List ℕ) → LinkAccepted (linkVerdict a b c) (exportLink a b c)
+pub link-accepted : (a b c : List ℕ) → LinkAccepted ofChecks (linkVerdict a b c) (exportLink a b c)
 unfolding exportLink member
 link-accepted a b c =
     let numbers = by-refuses (link-by a b c) in
