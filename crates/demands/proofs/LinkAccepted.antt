@@ -6,6 +6,7 @@ use Prim.Native.Nat.{ℕ, _+_, _%_}
 use lib.Dec.{ltb, eqb}
 use lib.ListN.{length}
 use Rattle.linkstate.specs.Lists.{any, member}
+use Rattle.linkstate.specs.Limits.{mostInAB, mostInC}
 use Rattle.linkstate.specs.Replies.{Run, accepted, fault, runA, runB}
 use Rattle.linkstate.specs.Elements.{elements}
 use Rattle.isis.specs.Types.{wrongInA}
@@ -63,7 +64,7 @@ b-by at t value = by-cond (eqb t 238) (srlg-by at value (afterNeighbour value)) 
 link-by : (a b c : List ℕ) → By ofChecks (linkVerdict a b c)
 unfolding linkVerdict member
 link-by a b c =
-    by-then (by-if (ltb 2048 (length a) || ltb 2048 (length b) || ltb 1024 (length c)) 1 refl)
+    by-then (by-if (ltb mostInAB (length a) || ltb mostInAB (length b) || ltb mostInC (length c)) 1 refl)
     (by-then (by-if (not (eqb (length c % 4) 0)) 2 refl)
     (by-then (by-faults refl runA checkA a-by (elements 1 0 a)) (by-faults refl runB checkB b-by (elements 1 0 b))))
 

@@ -9,6 +9,7 @@ use borrow.Author.Tests.{not-true}
 use lib.Dec.{eqb, ltb}
 use lib.ListN.{length}
 use Rattle.linkstate.specs.Lists.{all, empty, member, put}
+use Rattle.linkstate.specs.Limits.{mostInBgpLs}
 use Rattle.linkstate.specs.Kinds.{isCode, wrongAtTop, wrongInside}
 use Rattle.linkstate.specs.Attributes.{Attribute, ofKind, srlgs}
 use Rattle.linkstate.specs.Replies.{Run, runA, runBgpLs, refusalAt, Refusal, Verdict, accepted, refused, fault, faultOfCall, refusedIf, _then_, unless, count, absent, found, askRefused, Asked, bytes, exportRefused, Exported}
@@ -108,7 +109,7 @@ refused-asked s x h whom k list n c = rw (n, c, h)
 
 pub run-by : (r : List ℕ) → By ofRuns (runVerdict r)
 unfolding runVerdict checkTop checkAsla checkInner member
-run-by r = by-then (by-if (ltb 524288 (length r)) 1 refl) (by-faults refl runBgpLs checkTop top (elements 2 0 r))
+run-by r = by-then (by-if (ltb mostInBgpLs (length r)) 1 refl) (by-faults refl runBgpLs checkTop top (elements 2 0 r))
   where
     lengths : (b : Bool) (at : ℕ) → By ofRuns (cond b (fault 4 runBgpLs at) accepted)
     lengths b at = by-cond b (by-fault 4 runBgpLs at refl) by-none

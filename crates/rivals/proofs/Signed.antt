@@ -2,6 +2,7 @@
 -- answer for them. Assumes nothing.
 use mathlib.Core.List.{List}
 use Prim.Native.Nat.{ℕ, _+_, _*_}
+use Rattle.linkstate.specs.Limits.{otherApplications}
 use Rattle.linkstate.specs.Questions.{Source}
 use Rattle.linkstate.specs.Meaning.{Meaning, meaning}
 use Rattle.linkstate.specs.BgpLs.{runSource}
@@ -15,7 +16,7 @@ use Rattle.rivals.proofs.ExportRead.{export-answers}
 use Rattle.rivals.proofs.Acceptance.{by-refuses, run-by, accepted-asked, asked-accepted}
 
 module _ {top set : ℕ} where
-  pub of-meaning : (m : Meaning) → WellFormed m → Within top set m → OfMeaning m (top + (8 + set) + 127 * (24 + set)) (20 + set)
+  pub of-meaning : (m : Meaning) → WellFormed m → Within top set m → OfMeaning m (top + (8 + set) + otherApplications * (24 + set)) (20 + set)
   of-meaning m ok within =
       record {
         roundTrip = export-is-rival m ok .same;
@@ -27,7 +28,7 @@ module _ {top set : ℕ} where
       }
 
   pub of-link : (s : Source) (sent : Sent) → AnsweredBy s sent (meaning s) → WellFormed (meaning s) → Within top set (meaning s)
-      → OfLink s sent (top + (8 + set) + 127 * (24 + set)) (20 + set)
+      → OfLink s sent (top + (8 + set) + otherApplications * (24 + set)) (20 + set)
   of-link s sent answers ok within = record { answers = answers; exported = of-meaning (meaning s) ok within }
 
 pub of-run : (r : List ℕ) → RunAccepted r
