@@ -7,7 +7,7 @@ use lib.ListN.{length}
 use Rattle.linkstate.specs.Lists.{member}
 use Rattle.linkstate.specs.Limits.{mostInAB, mostInC}
 use Rattle.linkstate.specs.Masks.{others}
-use Rattle.linkstate.specs.Replies.{Verdict, refusedIf, _then_, runA, runB, Exported}
+use Rattle.linkstate.specs.Replies.{place, Verdict, refusedIf, _then_, runA, runB, Exported}
 use Rattle.linkstate.specs.Elements.{elements, faults}
 use Rattle.linkstate.specs.Sides.{Side, named, generalSet, applicationSet, rsvpTeKind, bandwidthKind}
 use Rattle.linkstate.specs.Questions.{Source, write}
@@ -32,7 +32,7 @@ sideOf a b c k = cond (eqb k 1096) (sideB b c) (sideA a)
 unfoldable pub linkSource : List ℕ → List ℕ → List ℕ → Source
 linkSource a b c =
     record {
-      run = runA;
+      spot = place runA;
       bytes = a;
       verdict = linkVerdict a b c;
       bandwidth = λ k. bandwidthKind k (sideA a);

@@ -8,7 +8,7 @@ use Rattle.linkstate.specs.Lists.{each, member}
 use Rattle.linkstate.specs.Limits.{mostInBgpLs}
 use Rattle.linkstate.specs.Kinds.{wrongAtTop, wrongInside}
 use Rattle.linkstate.specs.Masks.{others}
-use Rattle.linkstate.specs.Replies.{Verdict, accepted, fault, refusedIf, _then_, runBgpLs}
+use Rattle.linkstate.specs.Replies.{place, Verdict, accepted, fault, refusedIf, _then_, runBgpLs}
 use Rattle.linkstate.specs.Elements.{Element, element, cut, elements, faults}
 use Rattle.linkstate.specs.Attributes.{Attribute, attribute}
 use Rattle.linkstate.specs.Sides.{Advertisement, Side, named, generalSet, applicationSet}
@@ -87,7 +87,7 @@ runSide r = record { legacy = topLevel r; live = aslas r }
 unfoldable pub runSource : List ℕ → Source
 runSource r =
     record {
-      run = runBgpLs;
+      spot = place runBgpLs;
       bytes = r;
       verdict = runVerdict r;
       bandwidth = λ k. topLevel r;
