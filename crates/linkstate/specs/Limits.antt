@@ -40,3 +40,13 @@ mostOfIsis = 310644
 
 abbrev pub longestOfIsis : ℕ
 longestOfIsis = 2404
+
+-- The middle of an export: the most bytes of a value, as no run of a link is longer; the most sources of SRLGs; and the most numbers that a source's words can tell.
+abbrev pub mostBytes : ℕ
+mostBytes = 4096
+
+abbrev pub mostSources : ℕ
+mostSources = 128
+
+abbrev pub mostNumbers : ℕ
+mostNumbers = 1024
