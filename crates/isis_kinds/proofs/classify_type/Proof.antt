@@ -5,10 +5,11 @@ use native.Mathlib.Omega.{arith}
 use Prim.Native.Nat.{ℕ, _<_, _-_}
 use mir.Val.{Fits}
 use mir.Syntax.{w64}
-use Rattle.kinds.proofs.Computing.{computing}
-use Rattle.kinds.proofs.Laws.{type-at, type-unknown, eight, four}
-use Rattle.kinds.proofs.classify_type.Statement.{statement}
-use Rattle.kinds.proofs.classify_type.Tie as tie
+use Rattle.kinds.proofs.Laws.{eight, four}
+use Rattle.isis_kinds.proofs.Computing.{computing}
+use Rattle.isis_kinds.proofs.Laws.{type-at, type-unknown}
+use Rattle.isis_kinds.proofs.classify_type.Statement.{statement}
+use Rattle.isis_kinds.proofs.classify_type.Tie as tie
 
 sub-t20 : tie.Need-sub-t20
 sub-t20 c = search needs
