@@ -6,7 +6,7 @@ ghost use lib.ListN.{length, take};
 ghost use Rattle.linkstate.specs.Kinds.{isCode, isLinkCode, formOf};
 ghost use Rattle.linkstate.specs.Replies.{refusedIf, _then_};
 ghost use Rattle.linkstate.specs.Questions.{numberTooHigh, srlgAnswer};
-ghost use Rattle.replies.specs.Told.{toldRun, toldAnswer, toldAsked, toldChecked, subjectOf};
+ghost use Rattle.replies.specs.Told.{toldAnswer, toldAsked, toldChecked, subjectOf, toldSpot};
 ghost use Rattle.answering.specs.Rows.{ReadableRow, rowAnswer};
 use kinds::Kind;
 use replies::Answer;
@@ -59,7 +59,7 @@ pub fn check_question(whom: Subject, code: usize) -> Checked
 // The reply of a kind other than SRLG whose first value stands at a place of the run; place 0 says that there is none.
 pub fn answer_row(s: &[u8], run: Run, code: usize, place: usize, len: usize) -> Answer
     requires { ⌜ ReadableRow (formOf code) (length (now s)) place len ⌝ }
-    ensures { λ r. ⌜ toldAnswer r ≡ rowAnswer (now (s .entry)) (toldRun run) code place len ⌝ }
+    ensures { λ r. ⌜ toldAnswer r ≡ rowAnswer (now (s .entry)) (toldSpot run) code place len ⌝ }
 {
     if place == 0 {
         return Answer::Absent;

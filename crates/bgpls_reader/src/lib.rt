@@ -5,7 +5,7 @@ ghost use mathlib.Core.Bool.{true, false};
 ghost use Prim.Native.Nat.{_≤_};
 ghost use lib.ListN.{length};
 ghost use Rattle.linkstate.specs.Kinds.{isCode};
-ghost use Rattle.linkstate.specs.Replies.{accepted, runBgpLs};
+ghost use Rattle.linkstate.specs.Replies.{accepted, runBgpLs, place};
 ghost use Rattle.linkstate.specs.Attributes.{srlgs};
 ghost use Rattle.linkstate.specs.Questions.{numberTooHigh, given, srlgAnswer, answer, ask, value, listNamed};
 ghost use Rattle.linkstate.specs.BgpLs.{runVerdict, runSource};
@@ -100,7 +100,7 @@ fn answer_srlg(r: &[u8], whom: Subject, list: &mut [u32]) -> Answer
 // The answer to a question that nothing refuses but 5.
 fn answer_accepted(r: &[u8], whom: Subject, code: usize, list: &mut [u32]) -> Answer
     requires { ⌜ (runVerdict (now r) ≡ accepted) × (numberTooHigh (subjectOf whom) ≡ false) × (isCode code ≡ true) ⌝ }
-    ensures { λ x. ⌜ toldAsked x (now (list .exit)) ≡ answer runBgpLs code (given (runSource (now (r .entry))) (subjectOf whom) code) (now (list .entry)) ⌝ }
+    ensures { λ x. ⌜ toldAsked x (now (list .exit)) ≡ answer (place runBgpLs) code (given (runSource (now (r .entry))) (subjectOf whom) code) (now (list .entry)) ⌝ }
 {
     if code == 1096 {
         return answer_srlg(r, whom, list);

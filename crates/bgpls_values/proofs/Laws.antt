@@ -10,7 +10,7 @@ use lib.ListN.{length, take, drop, length-take, length-drop}
 use Rattle.linkstate.specs.Lists.{empty, keep}
 use Rattle.linkstate.specs.Bytes.{bytesAt}
 use Rattle.linkstate.specs.Kinds.{isCode, isLinkCode, formOf, wrongAtTop, wrongInside}
-use Rattle.linkstate.specs.Replies.{runBgpLs, accepted}
+use Rattle.linkstate.specs.Replies.{runBgpLs, accepted, place}
 use Rattle.linkstate.specs.Attributes.{Attribute, ofKind, readingAs}
 use Rattle.linkstate.specs.Sides.{generalSet, applicationSet}
 use Rattle.linkstate.specs.Meaning.{Accepted}
@@ -161,10 +161,10 @@ module _ (r : List ℕ) (ok : runVerdict r ≡ accepted) (whom : Whom) (low : nu
   unfolding wrongAtTop
   readable z = (lies-within, readable-in-bgpls k n c d (subst (λ (x : ℕ). wrongAtTop k x ≡ false) (f .len) right))
 
-  pub answers : firstOf runBgpLs (ofKind k (given (runSource r) (subjectOf whom) k)) ≡ rowAnswer r runBgpLs k p n
+  pub answers : firstOf (place runBgpLs) (ofKind k (given (runSource r) (subjectOf whom) k)) ≡ rowAnswer r (place runBgpLs) k p n
   answers =
-      first-present r runBgpLs k (ofKind k (given (runSource r) (subjectOf whom) k)) (f .first) (f .rest) (f .is) (facts .1) (facts .0 .placed) (own-bytes r runBgpLs (f .first) (formOf k) (sym (facts .0 .bytes)))
-      ∙ ap₂ (rowAnswer r runBgpLs k) (f .place) (f .len)
+      first-present r (place runBgpLs) k (ofKind k (given (runSource r) (subjectOf whom) k)) (f .first) (f .rest) (f .is) (facts .1) (facts .0 .placed) (own-bytes r (place runBgpLs) (f .first) (formOf k) (sym (facts .0 .bytes)))
+      ∙ ap₂ (rowAnswer r (place runBgpLs) k) (f .place) (f .len)
 
   pub part-is-value : take (p + n - p) (drop p r) ≡ bytesOfFirst r (ofKind k (given (runSource r) (subjectOf whom) k))
   unfolding bytesOfFirst

@@ -4,7 +4,7 @@ ghost use mathlib.Core.Bool.{true, false};
 ghost use Prim.Native.Nat.{_≤_};
 ghost use lib.Dec.{eqb};
 ghost use lib.ListN.{length};
-ghost use Rattle.linkstate.specs.Replies.{accepted, runBgpLs};
+ghost use Rattle.linkstate.specs.Replies.{accepted, runBgpLs, place};
 ghost use Rattle.linkstate.specs.Kinds.{isCode};
 ghost use Rattle.linkstate.specs.Attributes.{ofKind};
 ghost use Rattle.linkstate.specs.Questions.{numberTooHigh, given, firstOf, bytesOfFirst};
@@ -59,7 +59,7 @@ pub fn find_value(r: &[u8], whom: Subject, code: usize) -> Found
 // The reply of a kind other than SRLG.
 pub fn answer_value(r: &[u8], whom: Subject, code: usize) -> Answer
     requires { ⌜ (runVerdict (now r) ≡ accepted) × (numberTooHigh (subjectOf whom) ≡ false) × (isCode code ≡ true) × (eqb code 1096 ≡ false) ⌝ }
-    ensures { λ x. ⌜ toldAnswer x ≡ firstOf runBgpLs (ofKind code (given (runSource (now (r .entry))) (subjectOf whom) code)) ⌝ }
+    ensures { λ x. ⌜ toldAnswer x ≡ firstOf (place runBgpLs) (ofKind code (given (runSource (now (r .entry))) (subjectOf whom) code)) ⌝ }
 {
     let Found::At { place, len } = find_value(r, whom, code) else {
         return Answer::Absent;

@@ -6,6 +6,7 @@ use native.Mathlib.Nat.{add-zero}
 use native.Mathlib.Omega.{arith}
 use borrow.Author.Tests.{lt-ltb, le-ltb}
 use lib.ListN.{length, getD, length-append}
+use Rattle.linkstate.specs.Limits.{mostNumbers}
 use Rattle.linkstate.specs.Lists.{numbers, each}
 use Rattle.linkstate.specs.Kinds.{applicationCodes}
 use Rattle.linkstate.specs.Masks.{user}
@@ -15,7 +16,6 @@ use Rattle.naming.specs.Names.{inBoth}
 use Rattle.kinds.specs.Rules.{gridCodes, rowIn}
 use Rattle.tlv_bytes.specs.Tlvs.{inTlvs, Wrote}
 use Rattle.tlv_bytes.proofs.Laws.{tlvs-small, length-value, front-most, same-room, same-write, no-write, behind-room, behind-write}
-use Rattle.srlg_sources.specs.Classes.{mostNumbers}
 use Rattle.srlg_bytes.specs.Standing.{srlgSize, countIn, numbersIn, Standing, Written}
 use Rattle.srlg_bytes.proofs.Laws.{length-srlgs, class-few, standing-on, size-bound}
 use Rattle.grids.specs.Grids.{rowValue, gridValue, setOf, RowFits}

@@ -8,8 +8,8 @@ use native.Mathlib.Omega.{arith}
 use borrow.Author.Tests.{eq-eqb, ne-eqb, eqb-true}
 use lib.Dec.{eqb}
 use lib.ListN.{length, getD}
+use Rattle.linkstate.specs.Limits.{mostNumbers}
 use Rattle.tlv_bytes.specs.Tlvs.{valueSize}
-use Rattle.srlg_sources.specs.Classes.{mostNumbers}
 use Rattle.srlg_bytes.specs.Standing.{countIn}
 use Rattle.grids.specs.Grids.{rowRead}
 use Rattle.grids.specs.Slots.{cell, cellRow}

@@ -5,8 +5,8 @@ use mathlib.Core.List.{List, []}
 use Prim.Native.Nat.{ℕ, zero, suc, _+_, _-_, _≤_, _<_}
 use lib.Dec.{eqb}
 use lib.ListN.{length, getD}
+use Rattle.linkstate.specs.Limits.{mostNumbers}
 use Rattle.tlv_bytes.specs.Tlvs.{valueSize}
-use Rattle.srlg_sources.specs.Classes.{mostNumbers}
 use Rattle.srlg_bytes.specs.Standing.{srlgSize, countIn}
 use Rattle.grids.specs.Slots.{cell, cellRow, slotSize}
 use Rattle.asla_bytes.specs.Fronts.{frontSize}

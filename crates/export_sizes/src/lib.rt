@@ -3,7 +3,7 @@ ghost use mathlib.Core.Path.{_≡_};
 ghost use mathlib.Core.List.{[]};
 ghost use Prim.Native.Nat.{_-_, _≤_, _<_};
 ghost use lib.ListN.{length, getD};
-ghost use Rattle.srlg_sources.specs.Classes.{mostNumbers};
+ghost use Rattle.linkstate.specs.Limits.{mostNumbers};
 ghost use Rattle.srlg_bytes.specs.Standing.{countIn};
 ghost use Rattle.export_sizes.specs.Sizes.{aslaOf, setSize, aslaSize, linkSize, firstEntry, sumFrom, entrySize, wholeSize, Measurable};
 use grids::Row;

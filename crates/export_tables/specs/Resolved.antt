@@ -4,6 +4,7 @@ use mathlib.Core.Bool.{Bool, true}
 use mathlib.Core.List.{List, map}
 use Prim.Native.Nat.{ℕ, _+_, _*_, _≤_, _<_}
 use lib.ListN.{length, getD}
+use Rattle.linkstate.specs.Limits.{mostNumbers}
 use Rattle.linkstate.specs.Kinds.{codes}
 use Rattle.linkstate.specs.Attributes.{srlgs}
 use Rattle.linkstate.specs.Sides.{Side, generalSet, applicationSet, rsvpTeKind}
@@ -11,7 +12,6 @@ use Rattle.linkstate.specs.Meaning.{Meaning, row}
 use Rattle.linkstate.specs.Export.{topValue}
 use Rattle.naming.specs.declared.Names.{Names}
 use Rattle.naming.specs.Names.{Tells}
-use Rattle.srlg_sources.specs.Classes.{mostNumbers}
 use Rattle.srlg_table.specs.declared.Used.{Used}
 use Rattle.srlg_classes.specs.Owned.{classAt, Roomy}
 use Rattle.srlg_classes.specs.Sided.{Sourced}

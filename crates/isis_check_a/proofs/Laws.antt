@@ -10,11 +10,11 @@ use borrow.Author.Tests.{lt-ltb, le-ltb, ltb-true, ltb-false, ne-eqb}
 use lib.Dec.{ltb}
 use lib.ListN.{length, take, drop, getD, length-drop}
 use lib.Seq.{take-all, take-nil, take-take, length-take-le}
-use Rattle.linkstate.specs.Kinds.{wrongInA}
 use Rattle.linkstate.specs.Replies.{runA, accepted, fault}
 use Rattle.linkstate.specs.Elements.{elements, faults}
 use Rattle.linkstate.proofs.WalkLaws.{left}
 use Rattle.frames.proofs.Laws.{IsWhole, value-length, turn-passed, turn-refused}
+use Rattle.isis.specs.Types.{wrongInA}
 use Rattle.isis.specs.MaskHeader.{lFlag, headerLength, maskTooLong, lForNobody}
 use Rattle.isis.specs.RunA.{listElements, checkAttribute, checkAsla, checkA}
 use Rattle.isis_check_a.specs.declared.Header.{Header}

@@ -16,7 +16,6 @@ use Rattle.linkstate.specs.Masks.{bit, inMasks}
 use Rattle.linkstate.specs.Replies.{Run, runA, Verdict, accepted, refused, Refusal, fault}
 use Rattle.linkstate.specs.Elements.{Element, element, elements, faults}
 use Rattle.linkstate.specs.Sides.{Advertisement, names}
-use Rattle.linkstate.specs.Kinds.{wrongInA}
 use Rattle.linkstate.proofs.ListLaws.{and-l, and-r, and-false, or-l, or-r}
 use Rattle.linkstate.proofs.WalkLaws.{left, typeAt, type-one, each-end, each-turn}
 use Rattle.replies.specs.declared.Refusal.{Refusal as Fault}
@@ -31,6 +30,7 @@ use Rattle.naming.proofs.Laws.{Ahead, ahead-start, ahead-end, ahead-turn, adds-
 use Rattle.frames.specs.declared.Frame.the-variants as Frame
 use Rattle.frames.specs.Frames.{frameIn}
 use Rattle.frames.proofs.Laws.{IsWhole, frame-says, turn-end, turn-cut, turn-passed, turn-refused}
+use Rattle.isis.specs.Types.{wrongInA}
 use Rattle.isis.specs.MaskHeader.{lFlag, sabmLength, udabmLength, headerLength, maskTooLong, lForNobody, advertisement}
 use Rattle.isis.specs.RunA.{attributesOf, listElements, liveAsla, aslaAdvertisements, checkAttribute, checkAsla, checkA}
 use Rattle.isis_check_a.specs.declared.Header.{Header}

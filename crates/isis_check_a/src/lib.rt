@@ -5,9 +5,9 @@ ghost use Prim.Native.Nat.{_+_, _≤_, _<_};
 ghost use lib.ListN.{length, take, drop};
 ghost use Rattle.linkstate.specs.Replies.{runA, fault};
 ghost use Rattle.linkstate.specs.Elements.{element, elements, faults};
-ghost use Rattle.linkstate.specs.Kinds.{wrongInA};
 ghost use Rattle.replies.specs.Told.{toldRun, toldChecked};
 ghost use Rattle.naming.specs.Names.{Adds, Checks, ChecksBehind};
+ghost use Rattle.isis.specs.Types.{wrongInA};
 ghost use Rattle.isis.specs.RunA.{checkAttribute, checkAsla, checkA, aslaAdvertisements, sideA};
 ghost use Rattle.isis_check_a.specs.Headers.{headerOf, tooLong, forNobody, bytesBefore, masksIn, advertisedAt, valueIn};
 use frames::Frame;
@@ -94,7 +94,7 @@ pub fn refused(number: u8, run: Run, at: usize) -> Checked
 fn wrong_by_rule(t: u8, n: usize) -> bool
     ensures { λ r. ⌜ r ≡ wrongInA t n ⌝ }
 {
-    let rule = kinds::classify_type(t);
+    let rule = isis_kinds::classify_type(t);
     let size = rule.size;
     !kinds::fits(size, n)
 }

@@ -4,12 +4,12 @@ use mathlib.Core.Bool.{Bool, _||_}
 use mathlib.Core.List.{List, [], _∷_}
 use Prim.Native.Nat.{ℕ, _+_, _≤_, _<_}
 use lib.ListN.{length, getD, replicate}
+use Rattle.linkstate.specs.Limits.{mostSources}
 use Rattle.linkstate.specs.Replies.{accepted, runA, runB}
 use Rattle.linkstate.specs.Elements.{elements, faults}
 use Rattle.naming.specs.declared.Names.{Names}
 use Rattle.naming.specs.Names.{inBoth, Tells}
 use Rattle.srlg_ranks.specs.Ranks.{inWords}
-use Rattle.srlg_sources.specs.Classes.{mostSources}
 use Rattle.srlg_blocks.specs.Blocks.{sizeOf}
 use Rattle.srlg_table.specs.declared.Used.{Used}
 use Rattle.set_table.specs.Tables.{howMany}

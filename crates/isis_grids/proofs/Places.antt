@@ -12,19 +12,19 @@ use Rattle.linkstate.specs.Lists.{each, keep, empty}
 use Rattle.linkstate.specs.Bytes.{bytesAt}
 use Rattle.linkstate.specs.Replies.{Verdict, accepted, runA, fault}
 use Rattle.linkstate.specs.Elements.{Element, element, cut, elements, faults}
-use Rattle.linkstate.specs.Kinds.{codeOfType, wrongInA}
 use Rattle.linkstate.specs.Attributes.{Attribute, attribute, ofKind, firstValue, valueOf}
 use Rattle.linkstate.specs.Sides.{ofLive}
 use Rattle.linkstate.proofs.ElementLaws.{at-place}
 use Rattle.linkstate.proofs.WalkLaws.{then-first, then-second, not-accepted}
-use Rattle.kinds.proofs.Computing.{computing}
+use Rattle.isis_kinds.proofs.Computing.{computing}
 use Rattle.octets.proofs.Laws.{bytesAt-add}
+use Rattle.isis.specs.Types.{codeOfType, wrongInA}
 use Rattle.isis.specs.MaskHeader.{headerLength}
 use Rattle.isis.specs.RunA.{listElements, checkAttribute, checkAsla, checkA, attributesOf, aslaAdvertisements, sideA}
+use Rattle.isis.proofs.TypeLaws.{wrongOfCode, right-code, metric-type}
 use Rattle.isis_grids.specs.declared.Which.{Which}
-use Rattle.isis_grids.specs.Grid.{firstRow, rowOf, bgplsValue, wrongOfCode}
+use Rattle.isis_grids.specs.Grid.{firstRow, rowOf, bgplsValue}
 use Rattle.isis_grids.specs.Selected.{selects, selected}
-use Rattle.isis_grids.proofs.Types.{right-code, metric-type}
 use Rattle.isis_grids.proofs.Grids.{All, all-member, all-each}
 use Rattle.isis_grids.proofs.Aslas.{headed, list-ok, all-selected, live-all}
 

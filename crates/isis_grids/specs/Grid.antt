@@ -1,10 +1,8 @@
 -- Sets on side A as grids (rule W7): one row per kind, of place and length or absent.
-use mathlib.Core.Bool.{Bool, cond, _&&_, not}
+use mathlib.Core.Bool.{cond}
 use mathlib.Core.List.{List, [], _∷_}
 use Prim.Native.Nat.{ℕ}
 use lib.Dec.{eqb}
-use Rattle.linkstate.specs.Lists.{any}
-use Rattle.linkstate.specs.Kinds.{kinds, hasCode, fits}
 use Rattle.linkstate.specs.Replies.{Verdict, accepted}
 use Rattle.linkstate.specs.Attributes.{Attribute, ofKind}
 
@@ -24,7 +22,3 @@ unchecked at t v = accepted
 -- K1. The BGP-LS value bytes of a code whose value has these bytes in run A: a TE metric gets a zero in front.
 unfoldable pub bgplsValue : ℕ → List ℕ → List ℕ
 bgplsValue c v = cond (eqb c 1092) (0 ∷ v) v
-
--- R4. Whether a code is known and its values in run A do not have n bytes.
-unfoldable pub wrongOfCode : ℕ → ℕ → Bool
-wrongOfCode c n = any (λ q. hasCode c q && not (fits (q .isisSize) n)) kinds

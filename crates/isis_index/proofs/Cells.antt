@@ -7,10 +7,11 @@ use native.Mathlib.Omega.{arith}
 use borrow.Author.Tests.{ne-eqb, leb-true}
 use lib.Dec.{eqb}
 use lib.ListN.{length, getD}
-use Rattle.linkstate.specs.Kinds.{linkCodes, codeOfType}
+use Rattle.linkstate.specs.Kinds.{linkCodes}
 use Rattle.linkstate.specs.Attributes.{Attribute}
 use Rattle.masks.specs.Sets.{turnedPlace}
 use Rattle.kinds.specs.Rules.{gridCodes}
+use Rattle.isis.specs.Types.{codeOfType}
 use Rattle.grids.specs.Slots.{cell, IsSet}
 use Rattle.set_table.specs.Tables.{cellOf, first, Table, Given, onlyAt, slotAt}
 use Rattle.set_table.proofs.Tables.{first-none, first-assoc, given-none}

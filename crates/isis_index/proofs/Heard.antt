@@ -7,9 +7,10 @@ use native.Mathlib.Omega.{arith}
 use borrow.Author.Tests.{eqb-true, eqb-false, eq-eqb, ne-eqb, leb-true}
 use lib.Dec.{eqb}
 use lib.ListN.{length, getD}
-use Rattle.linkstate.specs.Kinds.{linkCodes, codeOfType}
+use Rattle.linkstate.specs.Kinds.{linkCodes}
 use Rattle.masks.specs.Sets.{turnedPlace}
 use Rattle.kinds.specs.Rules.{gridCodes}
+use Rattle.isis.specs.Types.{codeOfType}
 use Rattle.srlg_sources.proofs.Joins.{any-none}
 use Rattle.set_table.specs.Tables.{cellOf, Table, Given, onlyAt, slotAt, inPair, reaches, toNamed, Having, Within}
 use Rattle.set_table.proofs.Named.{reaches-own}

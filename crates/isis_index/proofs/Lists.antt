@@ -10,10 +10,10 @@ use Rattle.linkstate.specs.Lists.{each}
 use Rattle.linkstate.specs.Bytes.{bytesAt}
 use Rattle.linkstate.specs.Replies.{accepted, runA, fault}
 use Rattle.linkstate.specs.Elements.{elements, faults}
-use Rattle.linkstate.specs.Kinds.{codeOfType, wrongInA}
 use Rattle.linkstate.specs.Attributes.{Attribute, attribute}
 use Rattle.linkstate.proofs.WalkLaws.{left, each-end, not-accepted}
 use Rattle.octets.proofs.Laws.{length-bytesAt, getD-bytesAt}
+use Rattle.isis.specs.Types.{codeOfType, wrongInA}
 use Rattle.isis.specs.RunA.{checkAttribute, attributesOf}
 use Rattle.isis_grids.proofs.Walks.{left-all, inside, passed, rest-ok, turn}
 use Rattle.set_table.specs.Tables.{Table}

@@ -13,7 +13,8 @@ use Rattle.linkstate.specs.Kinds.{linkCodes}
 use Rattle.linkstate.specs.Attributes.{Attribute, valueOf}
 use Rattle.masks.specs.Sets.{turnedPlace}
 use Rattle.kinds.specs.Rules.{gridCodes, rowIn}
-use Rattle.kinds.proofs.Computing.{computing}
+use Rattle.isis_kinds.proofs.Computing.{computing}
+use Rattle.isis.proofs.TypeLaws.{wrongOfCode}
 use Rattle.naming.specs.declared.Names.{Names}
 use Rattle.naming.specs.Names.{inBoth}
 use Rattle.grids.specs.Grids.{rowValue, gridValue, bandwidthOf, Alike}
@@ -21,7 +22,6 @@ use Rattle.grids.specs.Slots.{cell, cellRow, slotGrid, linkRows, IsSet}
 use Rattle.grids.proofs.Laws.{grid-at, row-numbers, slot-row, length-slot}
 use Rattle.set_table.specs.Tables.{first, CellFits, Fitting, Table, slotAt}
 use Rattle.set_table.proofs.Tables.{set-fitting, row-table}
-use Rattle.isis_grids.specs.Grid.{wrongOfCode}
 use Rattle.isis_grids.proofs.Types.{ten-codes, three-codes}
 use Rattle.isis_grids.proofs.Grids.{All}
 use Rattle.isis_grids.proofs.Places.{Stands}

@@ -9,13 +9,13 @@ use lib.ListN.{length, getD}
 use Rattle.linkstate.specs.Lists.{any, each}
 use Rattle.linkstate.specs.Bytes.{bytesAt}
 use Rattle.linkstate.specs.Elements.{elements}
-use Rattle.linkstate.specs.Kinds.{codeOfType, wrongInA}
 use Rattle.linkstate.specs.Attributes.{Attribute, attribute}
 use Rattle.linkstate.specs.Sides.{names}
-use Rattle.kinds.proofs.Computing.{computing}
+use Rattle.isis_kinds.proofs.Computing.{computing}
 use Rattle.octets.proofs.Laws.{length-bytesAt}
 use Rattle.masks.specs.Sets.{turnedPlace}
 use Rattle.masks.proofs.Steps.{turned-back}
+use Rattle.isis.specs.Types.{codeOfType, wrongInA}
 use Rattle.isis.specs.RunA.{attributesOf, aslaAdvertisements}
 use Rattle.isis_check_a.proofs.Laws.{sub-tlv-other}
 use Rattle.isis_grids.specs.declared.Which.{Which}

@@ -12,13 +12,14 @@ use Rattle.linkstate.specs.Bytes.{bytesAt}
 use Rattle.linkstate.specs.Kinds.{linkCodes}
 use Rattle.linkstate.specs.Attributes.{Attribute, ofKind, firstValue, valueOf}
 use Rattle.kinds.specs.Rules.{gridCodes}
-use Rattle.kinds.proofs.Computing.{computing}
+use Rattle.isis_kinds.proofs.Computing.{computing}
+use Rattle.isis.proofs.TypeLaws.{wrongOfCode}
 use Rattle.tlv_bytes.specs.Tlvs.{front, valueAt}
 use Rattle.grids.specs.Grids.{rowValue}
 use Rattle.grids.specs.Slots.{cellRow}
 use Rattle.set_table.specs.Tables.{cellOf, first}
 use Rattle.set_table.proofs.Tables.{first-free, first-taken, no-value}
-use Rattle.isis_grids.specs.Grid.{firstRow, rowOf, bgplsValue, wrongOfCode}
+use Rattle.isis_grids.specs.Grid.{firstRow, rowOf, bgplsValue}
 use Rattle.isis_grids.proofs.Types.{ten-codes, three-codes}
 use Rattle.isis_grids.proofs.Grids.{All}
 use Rattle.isis_grids.proofs.Places.{Stands, First, absent, present, first-of, some-bytes, within, value-none}

@@ -5,18 +5,19 @@ use mathlib.Core.List.{List, [], _∷_}
 use Prim.Native.Nat.{ℕ, _+_, _-_, _≤_, _<_}
 use lib.Dec.{eqb, leb}
 use lib.ListN.{length, take, drop, getD}
+use Rattle.linkstate.specs.Limits.{mostBytes}
 use Rattle.linkstate.specs.Lists.{any, each}
 use Rattle.linkstate.specs.Bytes.{bytesAt}
 use Rattle.linkstate.specs.Replies.{accepted, runA}
 use Rattle.linkstate.specs.Elements.{Element, element, elements, faults}
-use Rattle.linkstate.specs.Kinds.{linkCodes, wrongInA, codeOfType}
+use Rattle.linkstate.specs.Kinds.{linkCodes}
 use Rattle.linkstate.specs.Attributes.{Attribute}
 use Rattle.linkstate.specs.Sides.{Advertisement, names}
 use Rattle.masks.specs.Sets.{turnedPlace}
 use Rattle.kinds.specs.Rules.{gridCodes}
-use Rattle.grids.specs.Grids.{mostBytes}
 use Rattle.grids.specs.Slots.{cell}
 use Rattle.set_table.specs.Tables.{cellOf, first, Table, slotAt, inPair, Slotted, Having, emptyRow}
+use Rattle.isis.specs.Types.{wrongInA, codeOfType}
 use Rattle.isis.specs.RunA.{checkAttribute, checkA, attributesOf, aslaAdvertisements}
 use Rattle.isis_grids.specs.declared.Which.{Which}
 use Rattle.isis_grids.specs.declared.Which.the-variants.{Naming, General, RsvpTeAlone, WithoutL}

@@ -24,7 +24,7 @@ fn enter_legacy(a: &[u8], sets: &mut [[u32; 12]], t: u8, place: usize, n: usize)
     requires { ⌜ Table (now a) (now sets) × (3 ≤ length (now sets)) × Right (now a) t place n ⌝ }
     ensures { λ _. ⌜ ((v : List ℕ) → Took (now (a .entry)) (now (sets .entry)) (now (sets .exit)) fromLegacy (attributeAt t place n v ∷ [])) ⌝ }
 {
-    let rule = kinds::classify_type(t);
+    let rule = isis_kinds::classify_type(t);
     let kind = rule.kind;
     match kind {
         Kind::Link(k) => set_table::enter_link(sets, k, place, n),
@@ -40,7 +40,7 @@ fn enter_general(a: &[u8], sets: &mut [[u32; 12]], t: u8, place: usize, n: usize
     requires { ⌜ Table (now a) (now sets) × (3 ≤ length (now sets)) × Right (now a) t place n ⌝ }
     ensures { λ _. ⌜ ((v : List ℕ) → Took (now (a .entry)) (now (sets .entry)) (now (sets .exit)) heardByAll (attributeAt t place n v ∷ [])) ⌝ }
 {
-    let rule = kinds::classify_type(t);
+    let rule = isis_kinds::classify_type(t);
     let kind = rule.kind;
     match kind {
         Kind::Link(k) => {
@@ -70,7 +70,7 @@ fn enter_for(
     requires { ⌜ Ready (now a) (now own) (now sets) (now have) × Right (now a) t place n × Within standard user (owning (now own)) ⌝ }
     ensures { λ _. ⌜ ((v : List ℕ) → TookFor (now (a .entry)) (now (own .entry)) (now (sets .entry)) (now (have .entry)) (now (sets .exit)) (now (have .exit)) (heard standard user) (attributeAt t place n v ∷ [])) ⌝ }
 {
-    let rule = kinds::classify_type(t);
+    let rule = isis_kinds::classify_type(t);
     let kind = rule.kind;
     match kind {
         Kind::Link(k) => {

@@ -10,7 +10,7 @@ use lib.Dec.{eqb}
 use lib.ListN.{length}
 use Rattle.linkstate.specs.Lists.{empty, member, numbers}
 use Rattle.linkstate.specs.Masks.{user, others, inNumber}
-use Rattle.linkstate.specs.Replies.{runA, Verdict, Asked, absent, unless, accepted, listed}
+use Rattle.linkstate.specs.Replies.{runA, Verdict, Asked, absent, unless, accepted, listed, place}
 use Rattle.linkstate.specs.Sides.{named}
 use Rattle.linkstate.specs.Attributes.{Attribute, srlgs}
 use Rattle.linkstate.specs.Questions.{Subject, setOf, given, beforeAnswer, unwritten, bytesOfFirst, srlgAnswer, answer, ask, listNamed}
@@ -43,11 +43,11 @@ unfolding linkSource
 of-link a b c v e = e
 
 -- Places lie in run A, and the bytes are its own.
-pub answered : (a b c : List ℕ) (whom : Subject) (k : ℕ) (list : List ℕ) (x : Asked) → beforeAnswer (linkSource a b c) whom k ≡ accepted → x ≡ answer runA k (given (linkSource a b c) whom k) list → x ≡ ask (linkSource a b c) whom k list
+pub answered : (a b c : List ℕ) (whom : Subject) (k : ℕ) (list : List ℕ) (x : Asked) → beforeAnswer (linkSource a b c) whom k ≡ accepted → x ≡ answer (place runA) k (given (linkSource a b c) whom k) list → x ≡ ask (linkSource a b c) whom k list
 unfolding linkSource
 answered a b c whom k list x e h = h ∙ of-run
   where
-    of-run : answer runA k (given (linkSource a b c) whom k) list ≡ ask (linkSource a b c) whom k list
+    of-run : answer (place runA) k (given (linkSource a b c) whom k) list ≡ ask (linkSource a b c) whom k list
     of-run = ask-answered (linkSource a b c) whom k list e
 
 pub source-bytes : (a b c v : List ℕ) (ts : List Attribute) → v ≡ bytesOfFirst a ts → v ≡ bytesOfFirst ((linkSource a b c) .bytes) ts

@@ -2,7 +2,7 @@
 // Any bytes, any subject and any code are taken; every refusal is document 01's, and after one nothing was written.
 ghost use mathlib.Core.Path.{_≡_};
 ghost use mathlib.Core.Bool.{false};
-ghost use Rattle.linkstate.specs.Replies.{runA};
+ghost use Rattle.linkstate.specs.Replies.{runA, place};
 ghost use Rattle.linkstate.specs.Attributes.{srlgs};
 ghost use Rattle.linkstate.specs.Questions.{numberTooHigh, given, srlgAnswer, answer, ask, value, listNamed};
 ghost use Rattle.isis.specs.RunB.{sideB};
@@ -43,7 +43,7 @@ fn answer_accepted(
     list: &mut [u32],
 ) -> Answer
     requires { ⌜ Asked (now a) (now b) (now c) (subjectOf whom) code names ⌝ }
-    ensures { λ r. ⌜ toldAsked r (now (list .exit)) ≡ answer runA code (given (linkSource (now (a .entry)) (now (b .entry)) (now (c .entry))) (subjectOf whom) code) (now (list .entry)) ⌝ }
+    ensures { λ r. ⌜ toldAsked r (now (list .exit)) ≡ answer (place runA) code (given (linkSource (now (a .entry)) (now (b .entry)) (now (c .entry))) (subjectOf whom) code) (now (list .entry)) ⌝ }
 {
     if code == 1096 {
         let m = names.b;

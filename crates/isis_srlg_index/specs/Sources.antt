@@ -5,13 +5,13 @@ use lib.Dec.{eqb}
 use mathlib.Core.List.{List, [], map, _++_}
 use Prim.Native.Nat.{ℕ, _+_, _*_, _/_, _≤_, _<_}
 use lib.ListN.{length, getD, set, take, drop}
+use Rattle.linkstate.specs.Limits.{mostNumbers}
 use Rattle.linkstate.specs.Lists.{put, each, all, member}
 use Rattle.linkstate.specs.Bytes.{words}
 use Rattle.linkstate.specs.Elements.{Element, elements, faults}
 use Rattle.linkstate.proofs.WalkLaws.{left}
 use Rattle.masks.specs.Sets.{turnedPlace}
 use Rattle.srlg_ranks.specs.Ranks.{inWords}
-use Rattle.srlg_sources.specs.Classes.{mostNumbers}
 use Rattle.srlg_classes.specs.Sided.{carried, Carried, Sourced}
 use Rattle.linkstate.specs.Sides.{Side, names}
 use Rattle.isis.specs.MaskHeader.{sabmLength, udabmLength, headerLength, maskTooLong, advertisement}

@@ -1,67 +1,43 @@
 -- The value of a row that a question to an accepted link is given stands in run A, with a length that can be read.
 use mathlib.Core.Path.{_≡_, refl, sym, ap, _∙_, subst}
-use mathlib.Core.Bool.{Bool, true, false, cond, _&&_, _||_, not}
+use mathlib.Core.Bool.{Bool, true, false, cond}
 use mathlib.Core.List.{List, [], _∷_}
 use Prim.Native.Nat.{ℕ, _+_, _-_, _≤_}
 use native.Mathlib.Omega.{arith}
 use borrow.Author.Tests.{eqb-true}
 use lib.Dec.{eqb}
 use lib.ListN.{length, take, drop, getD}
-use Rattle.linkstate.specs.Lists.{empty, any, all}
+use Rattle.linkstate.specs.Lists.{empty}
 use Rattle.linkstate.specs.Bytes.{bytesAt}
 use Rattle.linkstate.specs.Kinds as T
-use Rattle.linkstate.specs.Kinds.{Form, isCode, formOf, kinds}
-use Rattle.linkstate.specs.Replies.{Reply, accepted, runA}
+use Rattle.linkstate.specs.Kinds.{Form, isCode, formOf}
+use Rattle.linkstate.specs.Replies.{Reply, accepted, runA, place}
 use Rattle.linkstate.specs.Elements.{elements, faults}
 use Rattle.linkstate.specs.Attributes.{Attribute, ofKind, valueOf, readingAs}
 use Rattle.linkstate.specs.Sides.{names, ofLive, generalSet}
 use Rattle.linkstate.specs.Questions.{Subject, given, firstOf, bytesOfFirst}
-use Rattle.linkstate.proofs.Computing.{computing}
+use Rattle.isis_kinds.proofs.Computing.{computing}
 use Rattle.octets.proofs.Laws.{part-is}
 use Rattle.isis.specs.RunA.{checkA, sideA}
 use Rattle.isis.specs.Link.{linkSource}
+use Rattle.isis.proofs.TypeLaws.{wrongOfCode, none-wrong}
+use Rattle.isis_kinds.proofs.Lengths.{readable-in-a}
 use Rattle.rules.specs.declared.Rule.{Rule}
 use Rattle.rules.specs.declared.Rule.the-variants.{ByL, Naming, General, Legacy, NamingFirst, AloneFirst, LegacyFirst}
 use Rattle.rules.specs.Rules.{takenBy, ruleOn}
 use Rattle.rules.proofs.Laws.{rule-taken}
 use Rattle.readings.specs.Standing.{standing}
 use Rattle.readings.proofs.Laws.{own-bytes, zero-in-front}
-use Rattle.readings.proofs.Lengths.{readable-in-a}
 use Rattle.answering.specs.Rows.{ReadableRow, rowAnswer}
 use Rattle.answering.proofs.Laws.{first-absent, first-present}
 use Rattle.isis_grids.specs.declared.Which.the-variants as W
-use Rattle.isis_grids.specs.Grid.{firstRow, rowOf, bgplsValue, wrongOfCode}
+use Rattle.isis_grids.specs.Grid.{firstRow, rowOf, bgplsValue}
 use Rattle.isis_grids.specs.Selected.{selects}
 use Rattle.isis_grids.proofs.Grids.{All, all-append}
 use Rattle.isis_grids.proofs.Places.{Stands, legacy-stands, live-stands, First, absent, present, first-of, some-bytes, within}
 use Rattle.naming.specs.declared.Names.{Names}
 use Rattle.isis_values.specs.Asked.{AskedInA}
 use Rattle.isis_values.proofs.Given.{given-in-a}
-
--- No value of a kind other than SRLG is empty: a computed test over the table.
-module _ (k : ℕ) where
-  rowNotEmpty : T.Kind → Bool
-  rowNotEmpty q = eqb (q .code) 1096 || not (T.fits (q .isisSize) 0)
-
-  not-empty : eqb k 1096 ≡ false → (qs : List T.Kind) → all rowNotEmpty qs ≡ true → any (T.hasCode k) qs ≡ true → any (λ q. T.hasCode k q && not (T.fits (q .isisSize) 0)) qs ≡ true
-  unfolding any all rowNotEmpty T.hasCode
-  not-empty s [] t h = h
-  not-empty s (q ∷ qs) t h = go (eqb k (q .code)) refl (not (T.fits (q .isisSize) 0)) (eqb (q .code) 1096) refl t h (λ i j. not-empty s qs i j)
-    where
-      go : (x : Bool) → eqb k (q .code) ≡ x → (y z : Bool) → eqb (q .code) 1096 ≡ z → (z || y) && all rowNotEmpty qs ≡ true → x || any (T.hasCode k) qs ≡ true
-          → (all rowNotEmpty qs ≡ true → any (T.hasCode k) qs ≡ true → any (λ q. T.hasCode k q && not (T.fits (q .isisSize) 0)) qs ≡ true)
-          → (x && y) || any (λ q. T.hasCode k q && not (T.fits (q .isisSize) 0)) qs ≡ true
-      go true e true z f t h r = refl
-      go true e false true f t h r = absurd (let u : eqb k 1096 ≡ true = ap (λ (i : ℕ). eqb i 1096) (eqb-true k (q .code) e) ∙ f in let v : _≡_ {A = ℕ} 0 1 = cc in omega arith)
-      go true e false false f t h r = absurd (let v : _≡_ {A = ℕ} 0 1 = cc in omega arith)
-      go false e true true f t h r = r t h
-      go false e true false f t h r = r t h
-      go false e false true f t h r = r t h
-      go false e false false f t h r = absurd (let v : _≡_ {A = ℕ} 0 1 = cc in omega arith)
-
-pub none-wrong : (k : ℕ) → isCode k ≡ true → eqb k 1096 ≡ false → wrongOfCode k 0 ≡ true
-unfolding computing wrongOfCode rowNotEmpty
-none-wrong k h s = not-empty k s kinds refl h
 
 -- No code is 0.
 no-zero : isCode 0 ≡ false
@@ -113,14 +89,14 @@ module _ (a : List ℕ) (whom : Subject) (k : ℕ) (m : Names) (q : AskedInA a w
   lies : (t : Attribute) → t .code ≡ k → Stands a t → t .at + t .len ≤ length a
   lies t j st = within a t st (some-bytes a t st (ap (λ (x : ℕ). wrongOfCode x 0) j ∙ none-wrong k (q .known) (q .other)))
 
-  reads : (t : Attribute) → t .code ≡ k → Stands a t → readingAs (formOf k) runA t ≡ readingAs (formOf k) runA (standing a (t .at) (t .len))
+  reads : (t : Attribute) → t .code ≡ k → Stands a t → readingAs (formOf k) (place runA) t ≡ readingAs (formOf k) (place runA) (standing a (t .at) (t .len))
   unfolding bgplsValue
   reads t j st = go (eqb k 1092) refl (st .value ∙ ap (λ (x : ℕ). bgplsValue x (bytesAt a (t .at) (t .len))) j)
     where
-      go : (z : Bool) → eqb k 1092 ≡ z → t .value ≡ cond z (0 ∷ bytesAt a (t .at) (t .len)) (bytesAt a (t .at) (t .len)) → readingAs (formOf k) runA t ≡ readingAs (formOf k) runA (standing a (t .at) (t .len))
+      go : (z : Bool) → eqb k 1092 ≡ z → t .value ≡ cond z (0 ∷ bytesAt a (t .at) (t .len)) (bytesAt a (t .at) (t .len)) → readingAs (formOf k) (place runA) t ≡ readingAs (formOf k) (place runA) (standing a (t .at) (t .len))
       go true z v =
-          subst (λ (f : Form). readingAs f runA t ≡ readingAs f runA (standing a (t .at) (t .len))) (sym (ap formOf (eqb-true k 1092 z) ∙ metric-form)) (zero-in-front a runA t v)
-      go false z v = own-bytes a runA t (formOf k) v
+          subst (λ (f : Form). readingAs f (place runA) t ≡ readingAs f (place runA) (standing a (t .at) (t .len))) (sym (ap formOf (eqb-true k 1092 z) ∙ metric-form)) (zero-in-front a (place runA) t v)
+      go false z v = own-bytes a (place runA) t (formOf k) v
 
   pub row-readable : ReadableRow (formOf k) (length a) (getD row 0 0) (getD row 1 0)
   unfolding wrongOfCode
@@ -131,16 +107,16 @@ module _ (a : List ℕ) (whom : Subject) (k : ℕ) (m : Names) (q : AskedInA a w
       go (present t us i j st) =
           rw (row-present t us i) (λ z. (lies t j st, readable-in-a k (t .len) (q .known) (q .other) (sym (ap (λ (x : ℕ). wrongOfCode x (t .len)) j) ∙ st .right)))
 
-  row-reply : firstOf runA (ofKind k (given (linkSource a b c) whom k)) ≡ rowAnswer a runA k (getD row 0 0) (getD row 1 0)
+  row-reply : firstOf (place runA) (ofKind k (given (linkSource a b c) whom k)) ≡ rowAnswer a (place runA) k (getD row 0 0) (getD row 1 0)
   row-reply = go first
     where
-      go : First a k (given (linkSource a b c) whom k) → firstOf runA (ofKind k (given (linkSource a b c) whom k)) ≡ rowAnswer a runA k (getD row 0 0) (getD row 1 0)
-      go (absent i) = first-absent a runA k (ofKind k (given (linkSource a b c) whom k)) i ∙ sym (ap (λ (x : List ℕ). rowAnswer a runA k (getD x 0 0) (getD x 1 0)) (row-absent i))
+      go : First a k (given (linkSource a b c) whom k) → firstOf (place runA) (ofKind k (given (linkSource a b c) whom k)) ≡ rowAnswer a (place runA) k (getD row 0 0) (getD row 1 0)
+      go (absent i) = first-absent a (place runA) k (ofKind k (given (linkSource a b c) whom k)) i ∙ sym (ap (λ (x : List ℕ). rowAnswer a (place runA) k (getD x 0 0) (getD x 1 0)) (row-absent i))
       go (present t us i j st) =
-          first-present a runA k (ofKind k (given (linkSource a b c) whom k)) t us i j (st .placed) (reads t j st)
-          ∙ sym (ap (λ (x : List ℕ). rowAnswer a runA k (getD x 0 0) (getD x 1 0)) (row-present t us i))
+          first-present a (place runA) k (ofKind k (given (linkSource a b c) whom k)) t us i j (st .placed) (reads t j st)
+          ∙ sym (ap (λ (x : List ℕ). rowAnswer a (place runA) k (getD x 0 0) (getD x 1 0)) (row-present t us i))
 
-  pub row-answers : (r : Reply) → r ≡ rowAnswer a runA k (getD row 0 0) (getD row 1 0) → r ≡ firstOf runA (ofKind k (given (linkSource a b c) whom k))
+  pub row-answers : (r : Reply) → r ≡ rowAnswer a (place runA) k (getD row 0 0) (getD row 1 0) → r ≡ firstOf (place runA) (ofKind k (given (linkSource a b c) whom k))
   row-answers r h = h ∙ sym row-reply
 
   pub row-within : (getD row 0 0 ≡ 0 → ⊥) → getD row 0 0 + getD row 1 0 ≤ length a

@@ -8,14 +8,16 @@ use lib.ListN.{getD}
 use Rattle.linkstate.specs.Lists.{empty}
 use Rattle.linkstate.specs.Replies.{accepted, runA}
 use Rattle.linkstate.specs.Elements.{elements, faults}
-use Rattle.linkstate.specs.Kinds.{codeOfType, isCode}
+use Rattle.linkstate.specs.Kinds.{isCode}
 use Rattle.linkstate.specs.Attributes.{Attribute, valueOf}
 use Rattle.linkstate.specs.Sides.{names, ofLive}
+use Rattle.isis.specs.Types.{codeOfType}
 use Rattle.isis.specs.RunA.{checkA, sideA}
 use Rattle.rules.specs.declared.Rule.{Rule}
 use Rattle.rules.specs.declared.Rule.the-variants.{NamingFirst}
 use Rattle.linkstate.specs.Questions.{Subject, given}
 use Rattle.isis.specs.Link.{linkSource}
+use Rattle.isis.proofs.TypeLaws.{none-wrong}
 use Rattle.naming.specs.declared.Names.{Names}
 use Rattle.rules.specs.Rules.{takenBy, givenOn}
 use Rattle.isis_grids.specs.declared.Which.{Which}
@@ -28,7 +30,7 @@ use Rattle.isis_grids.proofs.Rows.{first-present, first-absent}
 use Rattle.isis_grids.proofs.Places.{live-stands, value-none}
 use Rattle.isis_values.specs.Asked.{AskedInA}
 use Rattle.isis_values.proofs.Given.{given-in-a}
-use Rattle.isis_values.proofs.Laws.{none-wrong, some-type}
+use Rattle.isis_values.proofs.Laws.{some-type}
 
 -- What a rule takes is a list with the same row.
 pub takes : (a : List ℕ) (k : ℕ) (rule r : Rule) (ts : List Attribute) (row : List ℕ) → rule ≡ r → rowOf k ts ≡ rowOf k (takenBy r k (sideA a)) → row ≡ rowOf k ts → row ≡ rowOf k (takenBy rule k (sideA a))

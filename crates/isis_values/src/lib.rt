@@ -5,12 +5,13 @@ ghost use mathlib.Core.Bool.{true, false};
 ghost use mathlib.Core.List.{List, _++_};
 ghost use Prim.Native.Nat.{ℕ};
 ghost use lib.Dec.{eqb};
-ghost use Rattle.linkstate.specs.Replies.{accepted, runA};
+ghost use Rattle.linkstate.specs.Replies.{accepted, runA, place};
 ghost use Rattle.linkstate.specs.Elements.{elements, faults};
-ghost use Rattle.linkstate.specs.Kinds.{codeOfType, isCode};
+ghost use Rattle.linkstate.specs.Kinds.{isCode};
 ghost use Rattle.linkstate.specs.Attributes.{ofKind};
 ghost use Rattle.linkstate.specs.Sides.{ofLive};
 ghost use Rattle.linkstate.specs.Questions.{given, firstOf, bytesOfFirst};
+ghost use Rattle.isis.specs.Types.{codeOfType};
 ghost use Rattle.isis.specs.RunA.{checkA, sideA};
 ghost use Rattle.isis.specs.Link.{linkSource};
 ghost use Rattle.replies.specs.Told.{subjectOf, toldAnswer};
@@ -91,7 +92,7 @@ pub fn find_row(a: &[u8], whom: Subject, code: usize, m: Names) -> [usize; 2]
 // The reply of a kind other than SRLG.
 pub fn answer_value(a: &[u8], whom: Subject, code: usize, m: Names) -> Answer
     requires { ⌜ AskedInA (now a) (subjectOf whom) code m ⌝ }
-    ensures { λ x. ⌜ ((b c : List ℕ) → toldAnswer x ≡ firstOf runA (ofKind code (given (linkSource (now (a .entry)) b c) (subjectOf whom) code))) ⌝ }
+    ensures { λ x. ⌜ ((b c : List ℕ) → toldAnswer x ≡ firstOf (place runA) (ofKind code (given (linkSource (now (a .entry)) b c) (subjectOf whom) code))) ⌝ }
 {
     let row = find_row(a, whom, code, m);
     let place = row[0];

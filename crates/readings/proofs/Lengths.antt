@@ -1,8 +1,8 @@
 -- A value of a right length can be read by its kind's form: one computed test over the table of kinds, for the lengths of IS-IS and of BGP-LS alike.
-use mathlib.Core.Path.{_≡_, refl, sym, ap, _∙_, subst}
+use mathlib.Core.Path.{_≡_, refl, ap, _∙_}
 use mathlib.Core.Bool.{Bool, true, false, cond, _&&_, _||_, not}
 use mathlib.Core.List.{List, [], _∷_}
-use Prim.Native.Nat.{ℕ, _≤_}
+use Prim.Native.Nat.{ℕ}
 use native.Mathlib.Omega.{arith}
 use borrow.Author.Tests.{eqb-true, leb-true}
 use lib.Dec.{eqb, leb}
@@ -12,7 +12,7 @@ use Rattle.linkstate.proofs.Computing.{computing}
 use Rattle.readings.specs.Standing.{Readable}
 
 -- Whether every length of a size can be read by a form.
-readsAll : Form → Size → Bool
+unfoldable pub readsAll : Form → Size → Bool
 readsAll wholeNumber (exactly k) = leb 3 k && leb k 4
 readsAll wholeNumber (foursFrom l) = false
 readsAll wholeNumber (foursWithin l m) = false
@@ -36,7 +36,7 @@ and-r false y h = absurd (let z : _≡_ {A = ℕ} 0 1 = cc in omega arith)
 never : {A : Type 0} → false ≡ true → A
 never e = absurd (let z : _≡_ {A = ℕ} 0 1 = cc in omega arith)
 
-reads : (f : Form) (s : Size) (n : ℕ) → readsAll f s ≡ true → fits s n ≡ true → Readable f n
+pub reads : (f : Form) (s : Size) (n : ℕ) → readsAll f s ≡ true → fits s n ≡ true → Readable f n
 unfolding readsAll fits
 reads wholeNumber (exactly k) n h g =
     let e : n ≡ k = eqb-true n k g in
@@ -78,11 +78,7 @@ module _ (size : Kind → Size) where
           reads (q .form) (size q) n (form (eqb (q .code) 1096) refl (eqb-true c (q .code) e) (and-l (rowReads q) (all rowReads qs) t)) (right (fits (size q) n) _ v)
       go false e i v r = r i v
 
--- The lengths of run A, and of a BGP-LS run.
-pub readable-in-a : (c n : ℕ) → isCode c ≡ true → eqb c 1096 ≡ false → any (λ q. hasCode c q && not (fits (q .isisSize) n)) kinds ≡ false → Readable (formOf c) n
-unfolding computing rowReads readsAll
-readable-in-a c n k s w = in-rows (λ q. q .isisSize) c n s kinds refl k w
-
+-- The lengths of a BGP-LS run.
 pub readable-in-bgpls : (c n : ℕ) → isCode c ≡ true → eqb c 1096 ≡ false → any (λ q. hasCode c q && not (fits (q .bgplsSize) n)) kinds ≡ false → Readable (formOf c) n
 unfolding computing rowReads readsAll
 readable-in-bgpls c n k s w = in-rows (λ q. q .bgplsSize) c n s kinds refl k w

@@ -5,7 +5,7 @@ ghost use lib.ListN.{length};
 ghost use Rattle.linkstate.specs.Bytes.{number, bytesAt};
 ghost use Rattle.linkstate.specs.Attributes.{readingAs};
 ghost use Rattle.kinds.specs.Rules.{toldForm};
-ghost use Rattle.replies.specs.Told.{toldRun, toldReading};
+ghost use Rattle.replies.specs.Told.{toldReading, toldSpot};
 ghost use Rattle.readings.specs.Standing.{Readable, standing};
 use kinds::Form;
 use replies::Place;
@@ -28,7 +28,7 @@ fn read_number(s: &[u8], at: usize, len: usize) -> u32
 // so the last arm is never taken and its 0 is nobody's answer; the form has its arm because a match names every case.
 pub fn read_value(s: &[u8], run: Run, form: Form, at: usize, len: usize) -> Reading
     requires { ⌜ (at + len ≤ length (now s)) × Readable (toldForm form) len ⌝ }
-    ensures { λ r. ⌜ toldReading r ≡ readingAs (toldForm form) (toldRun run) (standing (now (s .entry)) at len) ⌝ }
+    ensures { λ r. ⌜ toldReading r ≡ readingAs (toldForm form) (toldSpot run) (standing (now (s .entry)) at len) ⌝ }
 {
     match form {
         Form::WholeNumber => Reading::Number(read_number(s, at, len)),

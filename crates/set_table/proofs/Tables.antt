@@ -8,13 +8,14 @@ use lib.ListN.{length, getD, set, length-set, List·getD-eq-default}
 use lib.Seq.{getD-set-same, getD-set-other}
 use native.Mathlib.Omega.{arith}
 use borrow.Author.Tests.{eqb-true, eqb-false, eq-eqb, ne-eqb, ltb-true, ltb-false}
+use Rattle.linkstate.specs.Limits.{mostBytes}
 use Rattle.linkstate.specs.Lists.{numbers}
 use Rattle.linkstate.proofs.ListLaws.{and-l, and-r}
 use Rattle.kinds.specs.Rules.{gridCodes, rowIn}
 use Rattle.kinds.proofs.Computing.{computing}
 use Rattle.tlv_bytes.specs.Tlvs.{inTlvs, front, valueAt}
 use Rattle.tlv_bytes.proofs.Laws.{length-value, value-none, front-most}
-use Rattle.grids.specs.Grids.{rowValue, gridValue, RowFits, Fits, Alike, mostBytes}
+use Rattle.grids.specs.Grids.{rowValue, gridValue, RowFits, Fits, Alike}
 use Rattle.grids.specs.Slots.{cell, cellRow, slotGrid, slotValues, slotMark, slotSize, IsSet, Slots}
 use Rattle.grids.proofs.Laws.{row-numbers, slot-row, length-slot}
 use Rattle.srlg_sources.proofs.Marks.{At, here, there, at-row}

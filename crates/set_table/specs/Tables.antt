@@ -5,10 +5,11 @@ use mathlib.Core.List.{List, [], map}
 use Prim.Native.Nat.{ℕ, zero, suc, _+_, _-_, _*_, _/_, _%_, _≤_, _<_}
 use lib.Dec.{eqb, leb, ltb}
 use lib.ListN.{length, getD, set, replicate}
+use Rattle.linkstate.specs.Limits.{mostBytes}
 use Rattle.linkstate.specs.Lists.{any, numbers}
 use Rattle.linkstate.specs.Masks.{one, inNumber}
 use Rattle.masks.specs.Sets.{turnedPlace}
-use Rattle.grids.specs.Grids.{rowValue, mostBytes}
+use Rattle.grids.specs.Grids.{rowValue}
 use Rattle.grids.specs.Slots.{cell, cellRow, IsSet}
 use Rattle.tlv_bytes.specs.Tlvs.{front, valueAt}
 use Rattle.set_table.specs.Marks.{valueMark, setMark, setSize}

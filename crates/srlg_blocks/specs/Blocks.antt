@@ -5,9 +5,9 @@ use mathlib.Core.List.{List, [], _∷_}
 use Prim.Native.Nat.{ℕ, zero, suc, _+_, _≤_, _<_}
 use lib.Dec.{eqb, ltb}
 use lib.ListN.{length, getD}
+use Rattle.linkstate.specs.Limits.{mostSources}
 use Rattle.linkstate.specs.Lists.{numbers, keep}
 use Rattle.srlg_ranks.specs.Ranks.{inWords}
-use Rattle.srlg_sources.specs.Classes.{mostSources}
 
 -- How many of the bits of two masks pass a test.
 unfoldable pub sizeOf : (ℕ → Bool) → ℕ

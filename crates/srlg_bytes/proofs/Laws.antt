@@ -8,6 +8,7 @@ use borrow.Author.Tests.{eq-eqb, ne-eqb, eqb-true, eqb-false, ltb-true, ltb-fals
 use lib.Dec.{eqb, ltb}
 use lib.ListN.{length, getD, set, drop, length-drop}
 use lib.Seq.{getD-set-same, getD-set-other}
+use Rattle.linkstate.specs.Limits.{mostNumbers}
 use Rattle.linkstate.specs.Lists.{each, put}
 use Rattle.linkstate.specs.Bytes.{two, bytesAt, bytesOfWords}
 use Rattle.linkstate.specs.Masks.{inNumber}
@@ -16,7 +17,7 @@ use Rattle.octets.proofs.Laws.{bytesAt-before, bytesAt-put}
 use Rattle.srlg.proofs.Laws.{length-bytesOfWords}
 use Rattle.srlg_ranks.specs.Ranks.{keepFrom, inWords, picked, Inside}
 use Rattle.srlg_ranks.proofs.Laws.{keep-same}
-use Rattle.srlg_sources.specs.Classes.{mostNumbers, hasSource, inClass, classNumbers, Class}
+use Rattle.srlg_sources.specs.Classes.{hasSource, inClass, classNumbers, Class}
 use Rattle.srlg_sources.proofs.Joins.{any-same}
 use Rattle.tlv_bytes.specs.Tlvs.{Wrote}
 use Rattle.tlv_bytes.proofs.Laws.{length-tlv, tlv-absent, tlv-present, tlv-written, same-write, no-write}

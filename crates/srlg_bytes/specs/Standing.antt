@@ -5,9 +5,10 @@ use mathlib.Core.List.{List, [], _∷_}
 use Prim.Native.Nat.{ℕ, _+_, _*_, _≤_, _<_}
 use lib.Dec.{eqb}
 use lib.ListN.{length, getD}
+use Rattle.linkstate.specs.Limits.{mostNumbers}
 use Rattle.linkstate.specs.Bytes.{bytesAt, bytesOfWords}
 use Rattle.tlv_bytes.specs.Tlvs.{inTlvs, Wrote}
-use Rattle.srlg_sources.specs.Classes.{mostNumbers, classNumbers, Class}
+use Rattle.srlg_sources.specs.Classes.{classNumbers, Class}
 use Rattle.srlg_bytes.specs.declared.Numbers.{Numbers}
 use Rattle.srlg_bytes.specs.declared.Numbers.the-variants.{Present, Absent}
 

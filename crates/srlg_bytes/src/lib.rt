@@ -3,10 +3,10 @@ ghost use mathlib.Core.Path.{_≡_};
 ghost use mathlib.Core.Bool.{false};
 ghost use Prim.Native.Nat.{ℕ, _+_, _*_, _/_, _≤_, _<_};
 ghost use lib.ListN.{length, getD, take, drop};
+ghost use Rattle.linkstate.specs.Limits.{mostNumbers};
 ghost use Rattle.linkstate.specs.Bytes.{bytesOfWords};
 ghost use Rattle.linkstate.specs.Masks.{inNumber};
 ghost use Rattle.srlg_ranks.specs.Ranks.{keepFrom, inWords, picked, Inside};
-ghost use Rattle.srlg_sources.specs.Classes.{mostNumbers};
 ghost use Rattle.tlv_bytes.specs.Tlvs.{Wrote};
 ghost use Rattle.srlg_bytes.specs.Standing.{srlgTlv, srlgSize, countIn, numbersIn, countRead, Classes, Standing, Written};
 

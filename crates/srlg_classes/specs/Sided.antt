@@ -4,6 +4,7 @@ use mathlib.Core.Bool.{Bool, true, false, _&&_}
 use mathlib.Core.List.{List, []}
 use Prim.Native.Nat.{ℕ, _≤_, _<_}
 use lib.ListN.{length, getD}
+use Rattle.linkstate.specs.Limits.{mostSources, mostNumbers}
 use Rattle.linkstate.specs.Lists.{numbers, any, all, member}
 use Rattle.linkstate.specs.Attributes.{srlgs}
 use Rattle.linkstate.specs.Sides.{Side, names, namedWithL, ofLive, generalSet, applicationSet, rsvpTeKind}
@@ -12,7 +13,7 @@ use Rattle.srlg.specs.Ascending.{ascending}
 use Rattle.srlg_ranks.specs.Ranks.{keepFrom, inWords, picked}
 use Rattle.srlg_sources.specs.Sources.{inRows, numbersOf}
 use Rattle.srlg_blocks.specs.Blocks.{naming}
-use Rattle.srlg_sources.specs.Classes.{mostSources, mostNumbers, classNumbers, Classed, classOf}
+use Rattle.srlg_sources.specs.Classes.{classNumbers, Classed, classOf}
 use Rattle.srlg_classes.specs.declared.Classes.{Classes}
 use Rattle.srlg_classes.specs.Owned.{inNamed}
 

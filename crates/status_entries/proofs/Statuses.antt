@@ -8,8 +8,8 @@ use native.Mathlib.Omega.{arith}
 use lib.Dec.{eqb, ltb}
 use lib.ListN.{length, getD}
 use Rattle.linkstate.specs.Lists.{empty, any, put}
-use Rattle.linkstate.specs.Kinds.{isCode, isLinkCode, wrongInA, wrongAtTop, wrongInside}
-use Rattle.linkstate.specs.Replies.{Run, runA, runB, runBgpLs, place, Refusal, refusalAt, Verdict, accepted, refused, fault, faultOfCall, refusedIf, _then_, unless, count, Reply, absent, found, askRefused, Named, listed, namedRefused, Length, bytes, exportRefused, Exported}
+use Rattle.linkstate.specs.Kinds.{isCode, isLinkCode, wrongAtTop, wrongInside}
+use Rattle.linkstate.specs.Replies.{Run, runA, runB, runBgpLs, place, Refusal, refusalAt, Verdict, accepted, refused, fault, faultOfCall, refusedIf, _then_, unless, count, Reply, absent, found, askRefused, Named, listed, namedRefused, Length, bytes, exportRefused, Exported, Place}
 use Rattle.linkstate.specs.Replies as R
 use Rattle.linkstate.specs.Elements.{Element, element, cut, elements, faults}
 use Rattle.linkstate.specs.Attributes.{Attribute, ofKind, srlgs}
@@ -24,6 +24,7 @@ use Rattle.linkstate.specs.Meaning.{meaning}
 use Rattle.linkstate.specs.Export.{export}
 use Rattle.isis.specs.RunA as A
 use Rattle.isis.specs.RunB as B
+use Rattle.isis.specs.Types.{wrongInA}
 use Rattle.isis.specs.MaskHeader.{headerLength, maskTooLong, lForNobody, lFlag}
 use Rattle.isis.specs.Link.{linkVerdict, linkSource, exportLink}
 use Rattle.isis.specs.Why.{linkWhy, sideWhy, standA, standOf}
@@ -163,10 +164,10 @@ reply-told bits (found (R.part p n)) k = inl (omega arith, omega arith)
 reply-told bits (found (R.count n)) k = inl (omega arith, omega arith)
 reply-told bits (askRefused r) k = inr (refusal-told r k)
 
-known-first : (run : Run) (ts : List Attribute) → KnownReply (firstOf run ts)
+known-first : (spot : ℕ → Place) (ts : List Attribute) → KnownReply (firstOf spot ts)
 unfolding firstOf
-known-first run [] = tt
-known-first run (t ∷ ts) = tt
+known-first spot [] = tt
+known-first spot (t ∷ ts) = tt
 
 known-srlgs : (ns list : List ℕ) → KnownReply ((srlgAnswer ns list) .reply)
 unfolding srlgAnswer unwritten refusedIf faultOfCall fault refusalAt place unless
@@ -222,10 +223,10 @@ module _ (s : Source) (sound : Sound (s .verdict)) where
   known-ask whom k list = go (beforeAnswer s whom k) (before-sound whom k) (eqb k 1096)
     where
       go : (v : Verdict) → Sound v → (b : Bool)
-          → KnownReply ((unless v (λ r. unwritten list (askRefused r)) (cond b (srlgAnswer (srlgs (given s whom k)) list) (unwritten list (firstOf (s .run) (ofKind k (given s whom k)))))) .reply)
+          → KnownReply ((unless v (λ r. unwritten list (askRefused r)) (cond b (srlgAnswer (srlgs (given s whom k)) list) (unwritten list (firstOf (s .spot) (ofKind k (given s whom k)))))) .reply)
       go (refused r) (known p) b = p
       go accepted p true = known-srlgs (srlgs (given s whom k)) list
-      go accepted p false = known-first (s .run) (ofKind k (given s whom k))
+      go accepted p false = known-first (s .spot) (ofKind k (given s whom k))
 
   ask-tells : (whom : Subject) (k : ℕ) (list : List ℕ) → Tells 0 5 (askWords s whom k list)
   unfolding askWords

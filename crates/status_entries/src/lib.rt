@@ -7,12 +7,12 @@ ghost use lib.Dec.{eqb};
 ghost use lib.ListN.{length};
 ghost use Rattle.linkstate.specs.Bytes.{number, bytesAt};
 ghost use Rattle.linkstate.specs.Kinds.{formOf};
-ghost use Rattle.linkstate.specs.Replies.{accepted, runA};
+ghost use Rattle.linkstate.specs.Replies.{accepted, runA, place};
 ghost use Rattle.linkstate.specs.Attributes.{ofKind, readingAs};
 ghost use Rattle.linkstate.specs.Questions.{given, beforeAnswer, ask};
 ghost use Rattle.linkstate.specs.BgpLs.{runSource};
 ghost use Rattle.isis.specs.Link.{linkSource};
-ghost use Rattle.replies.specs.Told.{subjectOf, toldRun};
+ghost use Rattle.replies.specs.Told.{subjectOf, toldSpot};
 ghost use Rattle.readings.specs.Standing.{Readable, standing};
 ghost use Rattle.statuses.specs.Words.{words, readingWords, askWords, placeWords, valueWords};
 ghost use Rattle.isis_values.specs.Asked.{AskedInA};
@@ -29,7 +29,7 @@ use statuses::Words;
 // What the value of a code that stands at a place of a run reads as; the bits of a bandwidth are its own bytes.
 fn standing_words(s: &[u8], run: Run, code: usize, place: usize, len: usize) -> Words
     requires { ⌜ (place + len ≤ length (now s)) × Readable (formOf code) len ⌝ }
-    ensures { λ r. ⌜ words r ≡ readingWords (number (bytesAt (now (s .entry)) place len)) (readingAs (formOf code) (toldRun run) (standing (now (s .entry)) place len)) ⌝ }
+    ensures { λ r. ⌜ words r ≡ readingWords (number (bytesAt (now (s .entry)) place len)) (readingAs (formOf code) (toldSpot run) (standing (now (s .entry)) place len)) ⌝ }
 {
     let form = kinds::form_of(code);
     if let Form::Float = form {
@@ -109,7 +109,7 @@ pub fn ask_run(r: &[u8], whom: Subject, code: usize, list: &mut [u32]) -> Words
 // Where the value that a question to a link asks for stands in run A, by whom side A names.
 fn place_in_a(a: &[u8], whom: Subject, code: usize, m: Names) -> Words
     requires { ⌜ AskedInA (now a) (subjectOf whom) code m ⌝ }
-    ensures { λ r. ⌜ ((b c : List ℕ) → words r ≡ placeWords runA (ofKind code (given (linkSource (now (a .entry)) b c) (subjectOf whom) code))) ⌝ }
+    ensures { λ r. ⌜ ((b c : List ℕ) → words r ≡ placeWords (place runA) (ofKind code (given (linkSource (now (a .entry)) b c) (subjectOf whom) code))) ⌝ }
 {
     let row = isis_values::find_row(a, whom, code, m);
     let place = row[0];

@@ -13,7 +13,7 @@ use Rattle.linkstate.specs.Lists.{any}
 use Rattle.linkstate.specs.Masks.{user}
 use Rattle.linkstate.specs.Replies as R
 use Rattle.linkstate.specs.Replies.{accepted, refused, Refusal, unless}
-use Rattle.linkstate.specs.Kinds.{isCode, isLinkCode, codeOfType}
+use Rattle.linkstate.specs.Kinds.{isCode, isLinkCode}
 use Rattle.linkstate.specs.Elements.{elements}
 use Rattle.linkstate.specs.Sides.{Side, general, names, named, namedWithL, ofLive, rsvpTeAlone}
 use Rattle.linkstate.specs.BgpLs.{runVerdict, runSide}
@@ -21,8 +21,9 @@ use Rattle.linkstate.specs.Questions.{Source, Subject, generally, standardNo, u
 use Rattle.linkstate.specs.Why as W
 use Rattle.linkstate.specs.Why.{because, whyRefused, Standing, namesWithL, has, holder, first, _orElse_, legacyWhy, applicationWhy, rsvpTeWhy, subjectWhy, carriedWhy, bandwidthWhy, unlessAskRefused}
 use Rattle.linkstate.specs.RunWhy.{standRun, topWhy}
-use Rattle.linkstate.proofs.Computing.{computing}
+use Rattle.isis_kinds.proofs.Computing.{computing}
 use Rattle.isis.specs.RunA as I
+use Rattle.isis.specs.Types.{codeOfType}
 use Rattle.isis.specs.RunA.{sideA}
 use Rattle.isis.specs.RunB.{sideB}
 use Rattle.isis.specs.Why.{standA, standB, standOf, sideWhy}

@@ -2,7 +2,7 @@
 use Rattle.bgpls_values.proofs.Laws.{First, found-first, found-none, readable, answers}
 use Rattle.answering.specs.Rows.{rowAnswer}
 use Rattle.answering.proofs.Laws.{first-absent}
-use Rattle.linkstate.specs.Replies.{runBgpLs}
+use Rattle.linkstate.specs.Replies.{runBgpLs, place}
 use mathlib.Core.Path.{sym, _∙_}
 use borrow.Author.Needs.{needs}
 use Rattle.bgpls_values.proofs.answer_value.Statement.{statement}
@@ -19,7 +19,7 @@ enum-told c = search needs
 
 returns : tie.Need-returns
 unfolding rowAnswer
-returns c = let a = c .before .before .before .before .args in sym (first-absent (a .r .now) runBgpLs (a .code) _ (found-none _ (sym (c .enum-told .given .1) ∙ c .before .before .find-value .ensures)))
+returns c = let a = c .before .before .before .before .args in sym (first-absent (a .r .now) (place runBgpLs) (a .code) _ (found-none _ (sym (c .enum-told .given .1) ∙ c .before .before .find-value .ensures)))
 
 answer-row-requires : tie.Need-answer-row-requires
 answer-row-requires c κs = let q = c .before .before .before .before .before in let p = q .pre in

@@ -4,10 +4,12 @@ use mathlib.Core.Path.{_∙_, ap}
 use denote.Ref.{now}
 use lib.ListN.{getD}
 use Prim.Native.Nat.{ℕ}
-use Rattle.linkstate.specs.Kinds.{codeOfType, linkCodes}
+use Rattle.linkstate.specs.Kinds.{linkCodes}
+use Rattle.isis.specs.Types.{codeOfType}
+use Rattle.isis_kinds.proofs.Laws.{kind-read}
 use Rattle.set_table.specs.Tables.{cellOf}
 use Rattle.isis_index.specs.Index.{owning, heard}
-use Rattle.isis_index.proofs.Codes.{kind-read, value-grid, value-link}
+use Rattle.isis_index.proofs.Codes.{value-grid, value-link}
 use Rattle.isis_index.proofs.Cells.{maximum-only, unheard-link, nothing}
 use Rattle.isis_index.proofs.Heard.{heard-legacy, heard-without, heard-alone, alone-link, for-only, for-named, for-none}
 use borrow.Author.Needs.{needs}

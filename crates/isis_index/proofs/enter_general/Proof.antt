@@ -4,10 +4,12 @@ use mathlib.Core.Path.{_∙_, ap}
 use denote.Ref.{now}
 use lib.ListN.{getD}
 use Prim.Native.Nat.{ℕ}
-use Rattle.linkstate.specs.Kinds.{codeOfType, linkCodes}
+use Rattle.linkstate.specs.Kinds.{linkCodes}
+use Rattle.isis.specs.Types.{codeOfType}
+use Rattle.isis_kinds.proofs.Laws.{kind-read}
 use Rattle.set_table.specs.Tables.{cellOf}
 use Rattle.isis_index.specs.Index.{heardByAll}
-use Rattle.isis_index.proofs.Codes.{kind-read, value-grid, value-link}
+use Rattle.isis_index.proofs.Codes.{value-grid, value-link}
 use Rattle.isis_index.proofs.Cells.{general-grid, maximum-only, unheard-link, nothing, took-only, took-none, a-set, all-without, all-legacy, all-alone}
 use borrow.Author.Needs.{needs}
 use Rattle.isis_index.proofs.enter_general.Statement.{statement}

@@ -1,10 +1,11 @@
 -- `isis_index::enter_legacy` meets its contract, kind by kind. Assumes nothing.
 use native.Mathlib.Omega.{arith}
 use denote.Ref.{now}
-use Rattle.linkstate.specs.Kinds.{codeOfType}
+use Rattle.isis.specs.Types.{codeOfType}
+use Rattle.isis_kinds.proofs.Laws.{kind-read}
 use Rattle.set_table.specs.Tables.{cellOf}
 use Rattle.isis_index.specs.Index.{fromLegacy}
-use Rattle.isis_index.proofs.Codes.{kind-read, value-grid, value-link}
+use Rattle.isis_index.proofs.Codes.{value-grid, value-link}
 use Rattle.isis_index.proofs.Cells.{legacy-grid, legacy-link, nothing, took-only, took-none, a-set}
 use borrow.Author.Needs.{needs}
 use Rattle.isis_index.proofs.enter_legacy.Statement.{statement}

@@ -2,7 +2,7 @@
 use Rattle.status_entries.proofs.Laws.{asked-refused, asked-first, asked-row, none-first}
 use Rattle.bgpls_reader.proofs.Laws.{of-run}
 use Rattle.bgpls_values.proofs.Laws.{found-first, found-none, readable, answers, part-is-value, placed}
-use Rattle.linkstate.specs.Replies.{absent, runBgpLs}
+use Rattle.linkstate.specs.Replies.{absent, runBgpLs, place}
 use Rattle.linkstate.specs.BgpLs.{runSource}
 use Rattle.answering.proofs.Entries.{question-low, question-known, by-question, by-bytes, by-nothing}
 use Rattle.replies.specs.Told.{subjectOf, toldChecked}
@@ -69,7 +69,7 @@ returns-3 c list =
     let a = b .args in let s = runSource (a .r .now) in let k = a .code in let whom = subjectOf (a .whom) in
     let q = sym (ap toldChecked (c .before .before .before .before .before .before .before .enum-told .given .1)) ∙ c .before .before .before .before .before .before .before .before .before .check-question .ensures in
     let v = of-run (a .r .now) _ (sym (ap toldChecked (c .before .before .before .before .enum-told2 .given .1)) ∙ c .before .before .before .before .before .before .check-run .ensures) in
-    asked-first s whom k list (by-nothing s whom k q v) (eqb-false k 1096 (b .pre)) absent (none-first runBgpLs _ (found-none _ (sym (c .before .enum-told3 .given .1) ∙ c .before .before .before .find-value .ensures))) _ (c .no-words .ensures)
+    asked-first s whom k list (by-nothing s whom k q v) (eqb-false k 1096 (b .pre)) absent (none-first (place runBgpLs) _ (found-none _ (sym (c .before .enum-told3 .given .1) ∙ c .before .before .before .find-value .ensures))) _ (c .no-words .ensures)
 
 standing-words-requires : tie.Need-standing-words-requires
 standing-words-requires c κs =

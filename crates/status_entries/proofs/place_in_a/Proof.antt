@@ -2,7 +2,7 @@
 use Rattle.status_entries.proofs.Laws.{row-placed, row-not-placed}
 use Rattle.isis_values.proofs.Laws.{row-answers}
 use Rattle.isis_grids.specs.Grid.{rowOf}
-use Rattle.linkstate.specs.Replies.{runA}
+use Rattle.linkstate.specs.Replies.{runA, place}
 use mathlib.Core.Path.{refl, sym, _∙_}
 use borrow.Author.Needs.{needs}
 use Rattle.status_entries.proofs.place_in_a.Statement.{statement}
@@ -22,7 +22,7 @@ no-words-requires c κs = search needs
 
 returns : tie.Need-returns
 returns c = let q = c .before .before .before .before in
-    λ b d. c .no-words .ensures ∙ row-not-placed (q .args .a .now) runA (q .args .code) (c .before .before .find-row .result) _ (sym (row-answers _ _ _ _ (q .pre) b d _ (c .before .before .find-row .ensures b d) _ refl)) (c .before .if1 .taken)
+    λ b d. c .no-words .ensures ∙ row-not-placed (q .args .a .now) (place runA) (q .args .code) (c .before .before .find-row .result) _ (sym (row-answers _ _ _ _ (q .pre) b d _ (c .before .before .find-row .ensures b d) _ refl)) (c .before .if1 .taken)
 
 place-words-requires : tie.Need-place-words-requires
 place-words-requires c κs = search needs

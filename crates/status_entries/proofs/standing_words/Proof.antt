@@ -3,7 +3,7 @@ use Rattle.status_entries.proofs.Laws.{float-words, other-words}
 use Rattle.octets.proofs.Laws.{part-is, length-bytesAt}
 use Rattle.kinds.specs.Rules.{toldForm}
 use Rattle.readings.specs.Standing.{Readable}
-use Rattle.replies.specs.Told.{toldRun}
+use Rattle.replies.specs.Told.{toldSpot}
 use Rattle.linkstate.specs.Kinds.{Form}
 use lib.ListN.{length}
 use mathlib.Core.Path.{sym, ap, _∙_, subst}
@@ -39,7 +39,7 @@ bits-words-requires c κs =
 returns : tie.Need-returns
 returns c =
     let a = c .before .before .before .before .before .before .args in
-    c .bits-words .ensures ∙ float-words (a .s .now) (toldRun (a .run)) (a .place) (a .len) _ (sym (c .before .before .before .before .form-of .ensures) ∙ ap toldForm (c .before .before .enum-told .given .1))
+    c .bits-words .ensures ∙ float-words (a .s .now) (toldSpot (a .run)) (a .place) (a .len) _ (sym (c .before .before .before .before .form-of .ensures) ∙ ap toldForm (c .before .before .enum-told .given .1))
 
 read-value-requires : tie.Need-read-value-requires
 read-value-requires c κs =
@@ -51,7 +51,7 @@ reading-words-requires c κs = search needs
 returns-2 : tie.Need-returns-2
 returns-2 c =
     let a = c .before .before .before .before .before .args in
-    other-words (a .s .now) (toldRun (a .run)) (a .place) (a .len) (c .before .before .before .form-of .result) (c .before .before .match .keys2) _ (c .before .before .before .form-of .ensures) _ (c .before .read-value .ensures) _ (c .reading-words .ensures)
+    other-words (a .s .now) (toldSpot (a .run)) (a .place) (a .len) (c .before .before .before .form-of .result) (c .before .before .match .keys2) _ (c .before .before .before .form-of .ensures) _ (c .before .read-value .ensures) _ (c .reading-words .ensures)
 
 pub standing-words-spec : {M : Type 1} → statement M
 standing-words-spec =

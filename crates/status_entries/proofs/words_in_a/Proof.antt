@@ -2,7 +2,7 @@
 use Rattle.status_entries.proofs.Laws.{asked-first, asked-row}
 use Rattle.isis_values.proofs.Laws.{row-readable, row-answers, row-part}
 use Rattle.answering.proofs.Laws.{row-absent}
-use Rattle.linkstate.specs.Replies.{absent, runA}
+use Rattle.linkstate.specs.Replies.{absent, runA, place}
 use Rattle.isis.specs.Link.{linkSource}
 use Rattle.replies.specs.Told.{subjectOf}
 use borrow.Author.Tests.{eqb-false}
@@ -28,7 +28,7 @@ returns : tie.Need-returns
 unfolding linkSource
 returns c = let q = c .before .before .before .before in let a = q .args in
     λ b d list e. asked-first (linkSource (a .a .now) b d) (subjectOf (a .whom)) (a .code) list e (eqb-false (a .code) 1096 (q .pre .other)) absent
-    (sym (row-answers _ _ _ _ (q .pre) b d _ (c .before .before .find-row .ensures b d) absent (row-absent (a .a .now) runA (a .code) _ _ (c .before .if1 .taken)))) _ (c .no-words .ensures)
+    (sym (row-answers _ _ _ _ (q .pre) b d _ (c .before .before .find-row .ensures b d) absent (row-absent (a .a .now) (place runA) (a .code) _ _ (c .before .if1 .taken)))) _ (c .no-words .ensures)
 
 standing-words-requires : tie.Need-standing-words-requires
 standing-words-requires c κs = row-readable _ _ _ _ (c .before .before .before .pre) [] [] _ (c .before .find-row .ensures [] []) (c .if1 .left)
