@@ -21,7 +21,7 @@ use Rattle.replies.specs.declared.Refusal.{Refusal}
 use Rattle.replies.specs.declared.Written.the-variants.{Bytes, Refused}
 use Rattle.masks.specs.Sets.{turnedPlace, inSent}
 use Rattle.masks.proofs.Steps.{zero-none}
-use Rattle.naming.specs.Names.{inBoth}
+use Rattle.masks.specs.Applications.{inBoth}
 use Rattle.tlv_bytes.specs.Tlvs.{inTlvs}
 use Rattle.tlv_bytes.proofs.Laws.{empty-is, tlvs-same}
 use Rattle.srlg_bytes.specs.Standing.{numbersIn}

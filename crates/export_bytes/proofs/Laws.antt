@@ -12,7 +12,7 @@ use Rattle.linkstate.specs.Kinds.{applicationCodes}
 use Rattle.linkstate.specs.Masks.{user}
 use Rattle.linkstate.proofs.ListLaws.{each-append}
 use Rattle.masks.specs.Sets.{inSent}
-use Rattle.naming.specs.Names.{inBoth}
+use Rattle.masks.specs.Applications.{inBoth}
 use Rattle.kinds.specs.Rules.{gridCodes, rowIn}
 use Rattle.tlv_bytes.specs.Tlvs.{inTlvs, Wrote}
 use Rattle.tlv_bytes.proofs.Laws.{tlvs-small, length-value, front-most, same-room, same-write, no-write, behind-room, behind-write}

@@ -7,7 +7,7 @@ use Rattle.linkstate.specs.Lists.{numbers, each}
 use Rattle.linkstate.specs.Replies.{accepted, bytes, Exported}
 use Rattle.linkstate.specs.Questions.{write}
 use Rattle.linkstate.specs.Export.{tlv, bytesOf, aslaValue}
-use Rattle.naming.specs.Names.{inBoth}
+use Rattle.masks.specs.Applications.{inBoth}
 use Rattle.tlv_bytes.specs.Tlvs.{inTlvs}
 use Rattle.srlg_bytes.specs.Standing.{numbersIn, Classes, Standing}
 use Rattle.grids.specs.Grids.{setOf, topOf}

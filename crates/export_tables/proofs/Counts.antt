@@ -12,11 +12,11 @@ use Rattle.linkstate.specs.Masks.{one, inNumber}
 use Rattle.linkstate.proofs.ListLaws.{keep-append}
 use Rattle.linkstate.proofs.MaskLaws.{one-le}
 use Rattle.masks.specs.Sets.{turnedPlace, inSent}
-use Rattle.naming.specs.Names.{inBoth}
+use Rattle.masks.specs.Applications.{inBoth, inPair}
 use Rattle.srlg_ranks.specs.Ranks.{inWords}
 use Rattle.srlg_blocks.specs.Blocks.{sizeOf}
 use Rattle.srlg_blocks.proofs.Sizes.{size-same}
-use Rattle.set_table.specs.Tables.{howMany, inPair}
+use Rattle.set_table.specs.Tables.{howMany}
 use Rattle.set_table.proofs.Assigns.{many-same, many-split, many-pair}
 use Rattle.set_groups.specs.Table.{left}
 use Rattle.set_groups.proofs.Joined.{numbers-last}

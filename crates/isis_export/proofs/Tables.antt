@@ -10,9 +10,9 @@ use Rattle.linkstate.specs.Sides.{named}
 use Rattle.linkstate.specs.Meaning.{meaning}
 use Rattle.masks.specs.Sets.{inSent}
 use Rattle.naming.specs.declared.Names.{Names}
-use Rattle.naming.specs.Names.{inBoth}
+use Rattle.masks.specs.Applications.{inBoth, inPair}
 use Rattle.naming.proofs.Laws.{side-named}
-use Rattle.set_table.specs.Tables.{howMany, inPair, Owned, Begun}
+use Rattle.set_table.specs.Tables.{howMany, Owned, Begun}
 use Rattle.set_table.proofs.Assigns.{many-same}
 use Rattle.set_groups.specs.Table.{left}
 use Rattle.export_tables.specs.Resolved.{Resolves, Listed, Room}

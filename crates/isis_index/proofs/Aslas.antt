@@ -28,7 +28,7 @@ use Rattle.isis_grids.specs.declared.Which.{Which}
 use Rattle.isis_grids.specs.declared.Which.the-variants.{Naming, General, RsvpTeAlone, WithoutL}
 use Rattle.isis_grids.specs.Selected.{selects, selected, Headed}
 use Rattle.isis_grids.proofs.Aslas.{headed, list-ok, list-behind, selected-flagged, selected-too-long, selected-read}
-use Rattle.set_table.specs.Tables.{inPair}
+use Rattle.masks.specs.Applications.{inPair}
 use Rattle.isis_index.specs.Index.{Source, live, heardByAll, heard, hereIn, partOf, Here, Told}
 use Rattle.isis_index.proofs.Pairs.{read-alone, pair-names, alone-is}
 

@@ -13,19 +13,19 @@ use Rattle.linkstate.specs.Replies.{accepted, runA}
 use Rattle.linkstate.specs.Elements.{Element, elements, faults}
 use Rattle.linkstate.specs.Kinds.{linkCodes}
 use Rattle.linkstate.specs.Attributes.{Attribute, valueOf}
-use Rattle.linkstate.specs.Sides.{Side, names, named, namedWithL, ofLive, generalSet, applicationSet, rsvpTeKind, rsvpTeAlone, maximumBandwidth}
-use Rattle.linkstate.specs.Sides.{reservableBandwidth, bandwidthKind}
+use Rattle.linkstate.specs.Sides.{Side, names, named, namedWithL, ofLive, generalSet, applicationSet, rsvpTeKind, rsvpTeAlone, maximumBandwidth, reservableBandwidth, bandwidthKind}
 use Rattle.masks.specs.Sets.{turnedPlace}
 use Rattle.kinds.specs.Rules.{gridCodes}
 use Rattle.naming.specs.declared.Names.{Names}
-use Rattle.naming.specs.Names.{inBoth, Tells}
+use Rattle.naming.specs.Names.{Tells}
+use Rattle.masks.specs.Applications.{inBoth, inPair}
 use Rattle.naming.proofs.Laws.{side-named, side-flagged}
 use Rattle.rules.specs.declared.Rule.{Rule}
 use Rattle.rules.specs.declared.Rule.the-variants.{ByL, Legacy, NamingFirst}
 use Rattle.rules.specs.Rules.{rsvpTeRule, takenBy}
 use Rattle.rules.proofs.Laws.{rsvp-te-taken}
 use Rattle.grids.specs.Slots.{cell, IsSet, slotOf}
-use Rattle.set_table.specs.Tables.{first, Table, Given, slotAt, inPair, Gave}
+use Rattle.set_table.specs.Tables.{first, Table, Given, slotAt, Gave}
 use Rattle.set_table.proofs.Tables.{first-none, first-free, first-taken, slots-of}
 use Rattle.isis.specs.RunA.{checkA, attributesOf, sideA}
 use Rattle.isis_grids.specs.declared.Which.{Which}

@@ -12,11 +12,11 @@ use Rattle.masks.specs.Sets.{turnedPlace}
 use Rattle.kinds.specs.Rules.{gridCodes}
 use Rattle.isis.specs.Types.{codeOfType}
 use Rattle.srlg_sources.proofs.Joins.{any-none}
-use Rattle.set_table.specs.Tables.{cellOf, Table, Given, onlyAt, slotAt, inPair, reaches, toNamed, Having, Within}
+use Rattle.set_table.specs.Tables.{cellOf, Table, Given, onlyAt, slotAt, reaches, toNamed, Having, Within}
+use Rattle.masks.specs.Applications.{inPair}
 use Rattle.set_table.proofs.Named.{reaches-own}
 use Rattle.isis_grids.specs.declared.Which.the-variants.{RsvpTeAlone, WithoutL}
-use Rattle.isis_index.specs.Index.{legacy, live, Spot, general, old, bandwidth, maximum, alone, own, sourceOf, slotIn, cellAt, codeOf, owning, Valid}
-use Rattle.isis_index.specs.Index.{Ground, Kept, told, heard, attributeAt, TookFor, Ready}
+use Rattle.isis_index.specs.Index.{legacy, live, Spot, general, old, bandwidth, maximum, alone, own, sourceOf, slotIn, cellAt, codeOf, owning, Valid, Ground, Kept, told, heard, attributeAt, TookFor, Ready}
 use Rattle.isis_index.proofs.Codes.{grid-same, link-same, grid-link, link-grid, link-first}
 use Rattle.isis_index.proofs.Cells.{own-high, place-low, adds-by, given-nothing, kept-only}
 

@@ -14,8 +14,7 @@ use Rattle.linkstate.proofs.ListLaws.{any-no, mem-any, numbers-mem, mem-numbers
 use Rattle.masks.specs.Sets.{turnedPlace, inSent}
 use Rattle.masks.proofs.Laws.{same-members}
 use Rattle.masks.proofs.Steps.{turned-back, turned-below, zero-none}
-use Rattle.naming.specs.Names.{inBoth}
-use Rattle.set_table.specs.Tables.{inPair}
+use Rattle.masks.specs.Applications.{inBoth, inPair}
 use Rattle.set_table.proofs.Named.{pair-low, pair-high}
 use Rattle.isis_index.proofs.Codes.{every, every-at, same, same-eq}
 use Rattle.isis_index.proofs.Cells.{place-low}

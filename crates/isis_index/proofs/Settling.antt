@@ -12,7 +12,8 @@ use lib.ListN.{length, getD, set}
 use lib.Seq.{getD-set-other}
 use Rattle.linkstate.specs.Masks.{inNumber}
 use Rattle.grids.specs.Slots.{cell, cellRow, IsSet}
-use Rattle.set_table.specs.Tables.{cellOf, first, CellFits, Table, Value, Given, onlyAt, inPair, hasPlace, Gave}
+use Rattle.set_table.specs.Tables.{cellOf, first, CellFits, Table, Value, Given, onlyAt, hasPlace, Gave}
+use Rattle.masks.specs.Applications.{inPair}
 use Rattle.set_table.proofs.Tables.{first-none, given-none, given-then, given-as}
 use Rattle.set_table.proofs.Owns.{gave-then, gave-as}
 use Rattle.isis_index.specs.Settled.{withMaximum, settled, fromOld}

@@ -16,7 +16,7 @@ use Rattle.kinds.specs.Rules.{gridCodes, rowIn}
 use Rattle.isis_kinds.proofs.Computing.{computing}
 use Rattle.isis.proofs.TypeLaws.{wrongOfCode}
 use Rattle.naming.specs.declared.Names.{Names}
-use Rattle.naming.specs.Names.{inBoth}
+use Rattle.masks.specs.Applications.{inBoth}
 use Rattle.grids.specs.Grids.{rowValue, gridValue, bandwidthOf, Alike}
 use Rattle.grids.specs.Slots.{cell, cellRow, slotGrid, linkRows, IsSet}
 use Rattle.grids.proofs.Laws.{grid-at, row-numbers, slot-row, length-slot}

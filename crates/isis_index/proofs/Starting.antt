@@ -13,8 +13,9 @@ use Rattle.linkstate.specs.Sides.{Advertisement}
 use Rattle.masks.specs.Sets.{turnedPlace, inSent}
 use Rattle.masks.proofs.Steps.{turned-back}
 use Rattle.naming.specs.declared.Names.{Names}
-use Rattle.naming.specs.Names.{inBoth, Tells}
-use Rattle.set_table.specs.Tables.{slotAt, inPair, Begun}
+use Rattle.naming.specs.Names.{Tells}
+use Rattle.masks.specs.Applications.{inBoth, inPair}
+use Rattle.set_table.specs.Tables.{slotAt, Begun}
 use Rattle.isis_index.specs.Index.{owning, Ground, Owning}
 use Rattle.isis_index.specs.Started.{Started}
 use Rattle.isis_index.proofs.Cells.{place-low}

@@ -21,9 +21,9 @@ use Rattle.isis_check_a.proofs.Laws.{sub-tlv-other}
 use Rattle.isis_grids.specs.declared.Which.{Which}
 use Rattle.isis_grids.specs.Selected.{selected}
 use Rattle.isis_grids.proofs.Aslas.{selected-other}
-use Rattle.set_table.specs.Tables.{cellOf, inPair, Within}
-use Rattle.isis_index.specs.Index.{cellIn, Source, legacy, live, Spot, takes, sourceOf, codeOf, owning, Valid, Adds, Right, fromLegacy, heardByAll, heard}
-use Rattle.isis_index.specs.Index.{told, attributeAt, Took, TookFor, Ready, hereIn, partOf, Here, Owning, Told, ReadAs, Gains}
+use Rattle.set_table.specs.Tables.{cellOf, Within}
+use Rattle.masks.specs.Applications.{inPair}
+use Rattle.isis_index.specs.Index.{cellIn, Source, legacy, live, Spot, takes, sourceOf, codeOf, owning, Valid, Adds, Right, fromLegacy, heardByAll, heard, told, attributeAt, Took, TookFor, Ready, hereIn, partOf, Here, Owning, Told, ReadAs, Gains}
 use Rattle.isis_index.specs.declared.Asla.{Asla}
 use Rattle.isis_index.specs.declared.Asla.the-variants.{Unread, ForAll, ForNamed}
 use Rattle.isis_index.proofs.Cells.{cell-one, cell-none, no-code, place-low, adds-cells, adds-none, all-legacy}

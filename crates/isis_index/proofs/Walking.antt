@@ -20,11 +20,11 @@ use Rattle.masks.proofs.Steps.{zero-none}
 use Rattle.isis.specs.RunA.{checkA, aslaAdvertisements, sideA}
 use Rattle.isis_grids.proofs.Walks.{left-all, inside, passed, rest-ok, turn}
 use Rattle.grids.specs.Slots.{cell}
-use Rattle.set_table.specs.Tables.{slotAt, inPair, Having}
+use Rattle.set_table.specs.Tables.{slotAt, Having}
+use Rattle.masks.specs.Applications.{inPair}
 use Rattle.set_table.proofs.Tables.{first-free}
 use Rattle.set_table.proofs.Assigns.{empty-cell, empty-table}
-use Rattle.isis_index.specs.Index.{cellIn, Source, takes, sourceOf, slotIn, cellAt, codeOf, owning, Ground, Ready, inRun, hereIn, Here, Owning, Gains}
-use Rattle.isis_index.specs.Index.{Empty, Walked}
+use Rattle.isis_index.specs.Index.{cellIn, Source, takes, sourceOf, slotIn, cellAt, codeOf, owning, Ground, Ready, inRun, hereIn, Here, Owning, Gains, Empty, Walked}
 use Rattle.isis_index.proofs.Cells.{spot-inside, adds-then, adds-none}
 use Rattle.isis_index.proofs.Heard.{ground-same}
 

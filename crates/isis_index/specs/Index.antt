@@ -16,7 +16,8 @@ use Rattle.linkstate.specs.Sides.{Advertisement, names}
 use Rattle.masks.specs.Sets.{turnedPlace}
 use Rattle.kinds.specs.Rules.{gridCodes}
 use Rattle.grids.specs.Slots.{cell}
-use Rattle.set_table.specs.Tables.{cellOf, first, Table, slotAt, inPair, Slotted, Having, emptyRow}
+use Rattle.set_table.specs.Tables.{cellOf, first, Table, slotAt, Slotted, Having, emptyRow}
+use Rattle.masks.specs.Applications.{inPair}
 use Rattle.isis.specs.Types.{wrongInA, codeOfType}
 use Rattle.isis.specs.RunA.{checkAttribute, checkA, attributesOf, aslaAdvertisements}
 use Rattle.isis_grids.specs.declared.Which.{Which}

@@ -21,7 +21,7 @@ use Rattle.octets.proofs.Laws.{put-nil, put-then, front-is}
 use Rattle.masks.specs.Sets.{turnedPlace}
 use Rattle.masks.proofs.Steps.{zero-none}
 use Rattle.naming.specs.declared.Names.{Names}
-use Rattle.naming.specs.Names.{inBoth}
+use Rattle.masks.specs.Applications.{inBoth}
 use Rattle.naming.proofs.Laws.{side-flagged, in-none}
 use Rattle.srlg.proofs.Laws.{Order, less, more, same, order}
 use Rattle.srlg_ranks.specs.Ranks.{inWords}

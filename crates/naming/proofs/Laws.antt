@@ -16,7 +16,8 @@ use Rattle.naming.specs.declared.Names.{Names}
 use Rattle.linkstate.specs.Replies.{Verdict}
 use Rattle.naming.specs.declared.Checking.{Checking}
 use Rattle.naming.specs.declared.Checking.the-variants.{Refused, Accepted}
-use Rattle.naming.specs.Names.{inBoth, advertised, Tells, Adds, Joins, toldChecking, Checks, ChecksBehind}
+use Rattle.naming.specs.Names.{advertised, Tells, Adds, Joins, toldChecking, Checks, ChecksBehind}
+use Rattle.masks.specs.Applications.{inBoth}
 
 -- ---- two numbers
 

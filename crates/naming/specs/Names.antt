@@ -12,10 +12,7 @@ use Rattle.replies.specs.Told.{toldRefusal}
 use Rattle.naming.specs.declared.Names.{Names}
 use Rattle.naming.specs.declared.Checking.{Checking}
 use Rattle.naming.specs.declared.Checking.the-variants.{Refused, Accepted}
-
--- A8. Whether two numbers with the bytes of a standard and a user mask hold an application: `inMasks`, of numbers.
-unfoldable pub inBoth : ℕ → ℕ → ℕ → Bool
-inBoth standard user n = cond (ltb n 64) (inSent standard n) (inSent user (n - 64))
+use Rattle.masks.specs.Applications.{inBoth}
 
 -- The advertisement of an L-flag and two masks; whom it names does not depend on its attributes.
 abbrev pub advertised : Bool → List ℕ → List ℕ → Advertisement

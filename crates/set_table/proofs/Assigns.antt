@@ -15,7 +15,8 @@ use Rattle.masks.proofs.Steps.{zero-none}
 use Rattle.srlg_ranks.proofs.Bits.{lowest}
 use Rattle.grids.specs.Slots.{cell, IsSet}
 use Rattle.set_table.specs.Marks.{valueMark, valueSize, total, setMark, setSize}
-use Rattle.set_table.specs.Tables.{CellFits, rowValues, Fitting, Summed, Table, slotAt, inPair, Owned, howMany, emptyRow, Assigned, Begun}
+use Rattle.set_table.specs.Tables.{CellFits, rowValues, Fitting, Summed, Table, slotAt, Owned, howMany, emptyRow, Assigned, Begun}
+use Rattle.masks.specs.Applications.{inPair}
 use Rattle.set_table.proofs.Marks.{none-mark, none-size, total-none}
 use Rattle.set_table.proofs.Tables.{value-at, ten-values, no-value}
 use Rattle.set_table.proofs.Bits.{lowestBit, others, bit-low, bit-there, others-less, other-was}

@@ -13,6 +13,7 @@ use Rattle.grids.specs.Grids.{rowValue}
 use Rattle.grids.specs.Slots.{cell, cellRow, IsSet}
 use Rattle.tlv_bytes.specs.Tlvs.{front, valueAt}
 use Rattle.set_table.specs.Marks.{valueMark, setMark, setSize}
+use Rattle.masks.specs.Applications.{inPair}
 
 -- A cell of place and length.
 abbrev pub cellOf : ℕ → ℕ → ℕ
@@ -93,9 +94,6 @@ pub record Free (sets own : List (List ℕ)) (base bits k : ℕ) : Type 0 where
   pub apart : (i j : ℕ) → i < 64 → j < 64 → inNumber bits i ≡ true → inNumber bits j ≡ true → slotAt own (base + i) ≡ slotAt own (base + j) → i ≡ j
 
 -- Whether two masks have a place; whether a slot is that of such a place, and what comes to the cells of kind k of such slots.
-unfoldable pub inPair : ℕ → ℕ → ℕ → Bool
-inPair standard user p = cond (ltb p 64) (inNumber standard p) (inNumber user (p - 64))
-
 unfoldable pub reaches : List (List ℕ) → ℕ → ℕ → ℕ → Bool
 reaches own standard user s = any (λ p. inPair standard user p && eqb (slotAt own p) s) (numbers 0 128)
 

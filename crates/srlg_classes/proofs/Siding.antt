@@ -17,7 +17,8 @@ use Rattle.linkstate.proofs.ListLaws.{any-keep, empty-nil}
 use Rattle.masks.specs.Sets.{turnedPlace}
 use Rattle.naming.specs.declared.Names.{Names}
 use Rattle.naming.specs.Names as naming
-use Rattle.naming.specs.Names.{inBoth, Tells}
+use Rattle.naming.specs.Names.{Tells}
+use Rattle.masks.specs.Applications.{inBoth}
 use Rattle.naming.proofs.Laws.{side-named, side-flagged}
 use Rattle.srlg_ranks.specs.Ranks.{keepFrom, inWords, picked}
 use Rattle.srlg_sources.specs.Classes.{classNumbers, Classed, classOf}

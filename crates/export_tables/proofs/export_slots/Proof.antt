@@ -9,7 +9,7 @@ use lib.ListN.{length}
 use borrow.Author.Needs.{needs}
 use Rattle.linkstate.specs.Sides.{Side}
 use Rattle.srlg_classes.specs.Sided.{Classified}
-use Rattle.naming.specs.Names.{inBoth}
+use Rattle.masks.specs.Applications.{inBoth}
 use Rattle.export_tables.specs.Resolved.{Listed}
 use Rattle.export_tables.proofs.Described.{placed, general-low, room, tables, entered, describes}
 use Rattle.export_tables.proofs.export_slots.Statement.{statement}
