@@ -15,7 +15,7 @@ use Rattle.kinds.specs.declared.Kind.{Kind}
 use Rattle.kinds.specs.declared.Rule.{Rule}
 use Rattle.kinds.specs.Rules.{ruleOfCode, isKnown, isLink}
 use Rattle.kinds.proofs.Laws.{code-known, code-link}
-use Rattle.readings.specs.Standing.{standing}
+use Rattle.answering.specs.Standing.{standing}
 use Rattle.answering.specs.Rows.{rowAnswer}
 
 -- Whether a code is known is told by its rule's kind.

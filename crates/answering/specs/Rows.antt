@@ -8,7 +8,7 @@ use lib.ListN.{length}
 use Rattle.linkstate.specs.Kinds.{Form, formOf}
 use Rattle.linkstate.specs.Replies.{Place, Reply, absent, found}
 use Rattle.linkstate.specs.Attributes.{readingAs}
-use Rattle.readings.specs.Standing.{Readable, standing}
+use Rattle.answering.specs.Standing.{Readable, standing}
 
 -- K4, R12. Absent, or what stands there reads as.
 unfoldable pub rowAnswer : List ℕ → (ℕ → Place) → ℕ → ℕ → ℕ → Reply

@@ -27,9 +27,9 @@ use Rattle.kinds.proofs.Laws.{wrong-at-top, wrong-inside, code-link}
 use Rattle.replies.specs.declared.Subject.{Subject as Whom}
 use Rattle.replies.specs.declared.Subject.the-variants.{General, Standard, User}
 use Rattle.replies.specs.Told.{subjectOf}
-use Rattle.readings.specs.Standing.{Readable, standing}
-use Rattle.readings.proofs.Laws.{own-bytes}
-use Rattle.readings.proofs.Lengths.{readable-in-bgpls}
+use Rattle.answering.specs.Standing.{Readable, standing}
+use Rattle.answering.proofs.ReadingLaws.{own-bytes}
+use Rattle.answering.proofs.Lengths.{readable-in-bgpls}
 use Rattle.answering.specs.Rows.{ReadableRow, rowAnswer}
 use Rattle.answering.proofs.Laws.{first-absent, first-present}
 use Rattle.bgpls_find.specs.declared.Set.{Set}

@@ -9,8 +9,8 @@ use Rattle.linkstate.specs.Kinds.{fits, isCode, formOf}
 use Rattle.linkstate.proofs.ListLaws.{any-mem, mem-any, all-mem}
 use Rattle.isis.specs.Types.{TypeInA, types}
 use Rattle.isis.proofs.TypeLaws.{wrongOfCode, code-tested}
-use Rattle.readings.specs.Standing.{Readable}
-use Rattle.readings.proofs.Lengths.{readsAll, reads}
+use Rattle.answering.specs.Standing.{Readable}
+use Rattle.answering.proofs.Lengths.{readsAll, reads}
 use Rattle.isis_kinds.proofs.Computing.{computing}
 
 -- Whether every length that a type may have can be read: a computed test over the table.

@@ -26,8 +26,8 @@ use Rattle.rules.specs.declared.Rule.{Rule}
 use Rattle.rules.specs.declared.Rule.the-variants.{ByL, Naming, General, Legacy, NamingFirst, AloneFirst, LegacyFirst}
 use Rattle.rules.specs.Rules.{takenBy, ruleOn}
 use Rattle.rules.proofs.Laws.{rule-taken}
-use Rattle.readings.specs.Standing.{standing}
-use Rattle.readings.proofs.Laws.{own-bytes, zero-in-front}
+use Rattle.answering.specs.Standing.{standing}
+use Rattle.answering.proofs.ReadingLaws.{own-bytes, zero-in-front}
 use Rattle.answering.specs.Rows.{ReadableRow, rowAnswer}
 use Rattle.answering.proofs.Laws.{first-absent, first-present}
 use Rattle.isis_grids.specs.declared.Which.the-variants as W

@@ -22,7 +22,7 @@ use Rattle.kinds.specs.declared.Form.{Form as CodeForm}
 use Rattle.kinds.specs.declared.Form.the-variants.{WholeNumber, TwoNumbers, Float, PlaceAndLength, SrlgCount}
 use Rattle.kinds.specs.Rules.{toldForm}
 use Rattle.kinds.proofs.Form.{the-type}
-use Rattle.readings.specs.Standing.{standing}
+use Rattle.answering.specs.Standing.{standing}
 use Rattle.answering.specs.Rows.{rowAnswer}
 use Rattle.answering.proofs.Laws.{row-found}
 use Rattle.answering.proofs.Entries.{ask-refused, ask-answered, answer-other, value-part}

@@ -13,7 +13,7 @@ ghost use Rattle.linkstate.specs.Questions.{given, beforeAnswer, ask};
 ghost use Rattle.linkstate.specs.BgpLs.{runSource};
 ghost use Rattle.isis.specs.Link.{linkSource};
 ghost use Rattle.replies.specs.Told.{subjectOf, toldSpot};
-ghost use Rattle.readings.specs.Standing.{Readable, standing};
+ghost use Rattle.answering.specs.Standing.{Readable, standing};
 ghost use Rattle.statuses.specs.Words.{words, readingWords, askWords, placeWords, valueWords};
 ghost use Rattle.isis_values.specs.Asked.{AskedInA};
 ghost use Rattle.status_entries.specs.Answered.{Answers};
@@ -35,7 +35,7 @@ fn standing_words(s: &[u8], run: Run, code: usize, place: usize, len: usize) -> 
     if let Form::Float = form {
         return statuses::bits_words(&s[place..place + len]);
     }
-    statuses::reading_words(readings::read_value(s, run, form, place, len))
+    statuses::reading_words(answering::read_value(s, run, form, place, len))
 }
 
 // What the value that a question to a link asks for reads as, by whom side A names.

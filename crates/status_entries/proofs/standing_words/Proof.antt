@@ -2,7 +2,7 @@
 use Rattle.status_entries.proofs.Laws.{float-words, other-words}
 use Rattle.octets.proofs.Laws.{part-is, length-bytesAt}
 use Rattle.kinds.specs.Rules.{toldForm}
-use Rattle.readings.specs.Standing.{Readable}
+use Rattle.answering.specs.Standing.{Readable}
 use Rattle.replies.specs.Told.{toldSpot}
 use Rattle.linkstate.specs.Kinds.{Form}
 use lib.ListN.{length}

@@ -1,11 +1,11 @@
 -- Each form reads what it says; SRLGs never come here.
-use Rattle.readings.proofs.Laws.{readable-as, reads-whole, reads-pair, reads-float, reads-part}
+use Rattle.answering.proofs.ReadingLaws.{readable-as, reads-whole, reads-pair, reads-float, reads-part}
 use Rattle.kinds.specs.declared.Form.the-variants.{WholeNumber, TwoNumbers, Float, PlaceAndLength, SrlgCount}
 use native.Mathlib.Omega.{arith}
 use mathlib.Core.Path.{ap}
 use borrow.Author.Needs.{needs}
-use Rattle.readings.proofs.read_value.Statement.{statement}
-use Rattle.readings.proofs.read_value.Tie as tie
+use Rattle.answering.proofs.read_value.Statement.{statement}
+use Rattle.answering.proofs.read_value.Tie as tie
 
 enum-told : tie.Need-enum-told
 enum-told c = search needs

@@ -9,7 +9,7 @@ use lib.Dec.{eqb, leb}
 use Rattle.linkstate.specs.Lists.{any, all, lookup}
 use Rattle.linkstate.specs.Kinds.{Kind, Size, exactly, foursFrom, foursWithin, fits, Form, wholeNumber, twoNumbers, float, placeAndLength, srlgCount, kinds, hasCode, isCode, formOf}
 use Rattle.linkstate.proofs.Computing.{computing}
-use Rattle.readings.specs.Standing.{Readable}
+use Rattle.answering.specs.Standing.{Readable}
 
 -- Whether every length of a size can be read by a form.
 unfoldable pub readsAll : Form → Size → Bool

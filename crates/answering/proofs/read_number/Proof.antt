@@ -4,8 +4,8 @@ use native.Mathlib.Omega.{arith}
 use Prim.Native.Nat.{ℕ}
 use mathlib.Core.Path.{_≡_, sym, ap, _∙_}
 use borrow.Author.Needs.{needs}
-use Rattle.readings.proofs.read_number.Statement.{statement}
-use Rattle.readings.proofs.read_number.Tie as tie
+use Rattle.answering.proofs.read_number.Statement.{statement}
+use Rattle.answering.proofs.read_number.Tie as tie
 
 read24-requires : tie.Need-read24-requires
 read24-requires c κs = search needs

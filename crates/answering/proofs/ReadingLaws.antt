@@ -15,7 +15,7 @@ use Rattle.octets.proofs.Laws.{bytesAt-add, length-bytesAt}
 use Rattle.kinds.specs.declared.Form.{Form}
 use Rattle.kinds.specs.declared.Form.the-variants.{WholeNumber, TwoNumbers, Float, PlaceAndLength}
 use Rattle.kinds.specs.Rules.{toldForm}
-use Rattle.readings.specs.Standing.{Readable, standing}
+use Rattle.answering.specs.Standing.{Readable, standing}
 
 -- A form's own length.
 pub readable-as : (f g : Form) (n : ℕ) → f ≡ g → Readable (toldForm f) n → Readable (toldForm g) n
