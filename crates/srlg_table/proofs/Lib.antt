@@ -1,2 +1,3 @@
+pub mod ChainLaws
 mod Words
 pub mod Tabling

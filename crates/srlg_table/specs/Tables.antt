@@ -8,7 +8,7 @@ use lib.ListN.{length, getD, set}
 use Rattle.linkstate.specs.Limits.{mostSources}
 use Rattle.srlg_ranks.specs.Ranks.{keepFrom, inWords}
 use Rattle.srlg_sources.specs.Classes.{hasSource, inClass}
-use Rattle.chains.specs.Chains.{Chain}
+use Rattle.srlg_table.specs.Chains.{Chain}
 use Rattle.srlg_table.specs.Marks.{markOf}
 
 -- The same bits below n.

@@ -7,8 +7,10 @@ ghost use lib.ListN.{length, getD};
 ghost use Rattle.linkstate.specs.Masks.{asNumber, inNumber};
 ghost use Rattle.srlg_ranks.specs.Ranks.{inWords};
 ghost use Rattle.srlg_sources.specs.Classes.{inClass};
-ghost use Rattle.srlg_table.specs.Marks as marks;
 ghost use Rattle.srlg_table.specs.Tables.{Equal, Counts, Rowed, Table, Finds, Adds, withClass, Given};
+ghost use Rattle.srlg_table.specs.Marks as marks;
+
+
 
 // How many words of bits are used, and how many sources there are.
 pub struct Used {

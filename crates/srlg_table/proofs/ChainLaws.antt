@@ -3,7 +3,7 @@ use Prim.Native.Nat.{ℕ, suc, _≤_, _<_}
 use mathlib.Core.Path.{_≡_, sym, _∙_, ap}
 use native.Mathlib.Omega.{arith}
 use Rattle.srlg.proofs.Laws.{Order, less, more, same, order}
-use Rattle.chains.specs.Chains.{Chain, Search}
+use Rattle.srlg_table.specs.Chains.{Chain, Search}
 
 module _ (buckets : ℕ) (bucket next first : ℕ → ℕ) (count : ℕ) (chain : Chain buckets bucket next first count) where
   module _ (b : ℕ) (Not : ℕ → Type 0) where
