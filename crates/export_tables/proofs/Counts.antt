@@ -14,8 +14,8 @@ use Rattle.linkstate.proofs.MaskLaws.{one-le}
 use Rattle.masks.specs.Sets.{turnedPlace, inSent}
 use Rattle.masks.specs.Applications.{inBoth, inPair}
 use Rattle.srlg_ranks.specs.Ranks.{inWords}
-use Rattle.srlg_blocks.specs.Blocks.{sizeOf}
-use Rattle.srlg_blocks.proofs.Sizes.{size-same}
+use Rattle.srlg_table.specs.Blocks.{sizeOf}
+use Rattle.srlg_table.proofs.Sizes.{size-same}
 use Rattle.set_table.specs.Tables.{howMany}
 use Rattle.set_table.proofs.Assigns.{many-same, many-split, many-pair}
 use Rattle.set_groups.specs.Table.{left}

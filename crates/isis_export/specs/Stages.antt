@@ -11,7 +11,7 @@ use Rattle.naming.specs.declared.Names.{Names}
 use Rattle.naming.specs.Names.{Tells}
 use Rattle.masks.specs.Applications.{inBoth}
 use Rattle.srlg_ranks.specs.Ranks.{inWords}
-use Rattle.srlg_blocks.specs.Blocks.{sizeOf}
+use Rattle.srlg_table.specs.Blocks.{sizeOf}
 use Rattle.srlg_table.specs.declared.Used.{Used}
 use Rattle.set_table.specs.Tables.{howMany}
 use Rattle.set_groups.specs.Table.{left}

@@ -33,8 +33,8 @@ use Rattle.srlg_sources.specs.Sources.{Small, keyOf, inRows, numbersOf, sourceR
 use Rattle.srlg_sources.proofs.Joins.{any-same, any-none, any-some, any-out}
 use Rattle.srlg_sources.proofs.Marks.{length-keys}
 use Rattle.srlg_sources.proofs.Keying.{numbers-append, numbers-own, numbers-beyond, all-append, all-more, rows-more, own-rows}
-use Rattle.srlg_blocks.specs.Blocks.{namedBy, naming}
-use Rattle.srlg_blocks.proofs.Sizes.{low-bit}
+use Rattle.srlg_table.specs.Blocks.{namedBy, naming}
+use Rattle.srlg_table.proofs.Sizes.{low-bit}
 use Rattle.srlg_classes.specs.Sided.{carried, Carried}
 use Rattle.srlg_classes.proofs.Siding.{both-words}
 use Rattle.srlg_classes.proofs.Carrying.{sourced, values-small}

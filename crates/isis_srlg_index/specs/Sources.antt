@@ -22,7 +22,7 @@ use Rattle.masks.specs.Applications.{inBoth}
 use Rattle.naming.specs.declared.Names.{Names}
 use Rattle.srlg_sources.specs.declared.Keys.{Keys}
 use Rattle.srlg_sources.specs.Sources.{Small, keyOf, inRows, numbersOf, sourceRow}
-use Rattle.srlg_blocks.specs.Blocks.{namedBy}
+use Rattle.srlg_table.specs.Blocks.{namedBy}
 use Rattle.isis_check_a.specs.declared.Header.{Header}
 use Rattle.isis_check_a.specs.Headers.{headerOf}
 use Rattle.isis_tlvs_238.specs.declared.Which.the-variants.{Naming, General}

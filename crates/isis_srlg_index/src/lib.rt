@@ -5,7 +5,7 @@ ghost use Prim.Native.Nat.{ℕ, _+_, _*_, _/_, _≤_, _<_};
 ghost use lib.ListN.{length, take};
 ghost use Rattle.linkstate.specs.Replies.{accepted, runB};
 ghost use Rattle.linkstate.specs.Elements.{element, elements, faults};
-ghost use Rattle.srlg_blocks.specs.Blocks.{namedBy};
+ghost use Rattle.srlg_table.specs.Blocks.{namedBy};
 ghost use Rattle.srlg_classes.specs.Sided.{Carried};
 ghost use Rattle.isis.specs.MaskHeader.{lFlag};
 ghost use Rattle.isis.specs.RunB.{checkB, liveSrlg, sideB};

@@ -22,7 +22,7 @@ use Rattle.masks.specs.Applications.{inBoth}
 use Rattle.naming.proofs.Laws.{side-named, side-flagged}
 use Rattle.srlg_ranks.specs.Ranks.{keepFrom, inWords, picked}
 use Rattle.srlg_sources.specs.Classes.{classNumbers, Classed, classOf}
-use Rattle.srlg_blocks.proofs.Sizes.{low-bit, high-bit}
+use Rattle.srlg_table.proofs.Sizes.{low-bit, high-bit}
 use Rattle.srlg_table.specs.Tables.{Table}
 use Rattle.srlg_table.proofs.Tabling.{none-row}
 use Rattle.srlg_classes.specs.declared.First.{First}

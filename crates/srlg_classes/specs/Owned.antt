@@ -11,7 +11,7 @@ use Rattle.linkstate.specs.Masks.{inNumber}
 use Rattle.naming.specs.declared.Names.{Names}
 use Rattle.srlg_ranks.specs.Ranks.{inWords}
 use Rattle.srlg_sources.specs.Classes.{inClass}
-use Rattle.srlg_blocks.specs.Blocks.{sizeOf, naming, inBlock}
+use Rattle.srlg_table.specs.Blocks.{sizeOf, naming, inBlock}
 use Rattle.srlg_table.specs.declared.Used.{Used}
 use Rattle.srlg_table.specs.Tables.{Equal, Table}
 use Rattle.srlg_classes.specs.declared.First.{First}

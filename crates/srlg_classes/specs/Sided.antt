@@ -12,7 +12,7 @@ use Rattle.masks.specs.Sets.{turnedPlace}
 use Rattle.srlg.specs.Ascending.{ascending}
 use Rattle.srlg_ranks.specs.Ranks.{keepFrom, inWords, picked}
 use Rattle.srlg_sources.specs.Sources.{inRows, numbersOf}
-use Rattle.srlg_blocks.specs.Blocks.{naming}
+use Rattle.srlg_table.specs.Blocks.{naming}
 use Rattle.srlg_sources.specs.Classes.{classNumbers, Classed, classOf}
 use Rattle.srlg_classes.specs.declared.Classes.{Classes}
 use Rattle.srlg_classes.specs.Owned.{inNamed}

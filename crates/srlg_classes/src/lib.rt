@@ -9,7 +9,7 @@ ghost use Rattle.linkstate.specs.Sides.{Side};
 ghost use Rattle.naming.specs.Names.{Tells};
 ghost use Rattle.masks.specs.Applications.{inBoth};
 ghost use Rattle.srlg_ranks.specs.Ranks.{inWords};
-ghost use Rattle.srlg_blocks.specs.Blocks.{sizeOf};
+ghost use Rattle.srlg_table.specs.Blocks.{sizeOf};
 ghost use Rattle.srlg_table.specs.Tables.{Rowed, Table};
 ghost use Rattle.srlg_classes.specs.Owned.{classAt, Slots, inHalf, Gave, Firsts, Assigned, NamedOwn, rsvpClass, FirstOwn, Roomy};
 ghost use Rattle.srlg_classes.specs.Sided.{Sourced, Classified};
@@ -122,10 +122,10 @@ fn give_named(
 {
     let s = masks::without(named.standard, named.lstandard);
     let u = masks::without(named.user, named.luser);
-    if !srlg_blocks::meets(s, u) {
+    if !srlg_table::meets(s, u) {
         return count;
     }
-    let m = srlg_blocks::blocks_of(rows, used.sources, s, u, blocks);
+    let m = srlg_table::blocks_of(rows, used.sources, s, u, blocks);
     assign(rows, used, blocks, m, classes, heads, buckets, own, count)
 }
 

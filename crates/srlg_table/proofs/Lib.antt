@@ -1,3 +1,6 @@
+pub mod Sizes
+mod Splits
+mod Refines
 pub mod ChainLaws
 mod Words
 pub mod Tabling

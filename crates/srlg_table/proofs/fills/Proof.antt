@@ -1,9 +1,9 @@
--- `srlg_blocks::fills` meets its contract. Assumes nothing.
+-- `srlg_table::fills` meets its contract. Assumes nothing.
 use borrow.Author.Tests.{eqb-true, eqb-false}
-use Rattle.srlg_blocks.proofs.Sizes.{alike-is, alike-not}
+use Rattle.srlg_table.proofs.Sizes.{alike-is, alike-not}
 use borrow.Author.Needs.{needs}
-use Rattle.srlg_blocks.proofs.fills.Statement.{statement}
-use Rattle.srlg_blocks.proofs.fills.Tie as tie
+use Rattle.srlg_table.proofs.fills.Statement.{statement}
+use Rattle.srlg_table.proofs.fills.Tie as tie
 
 returns : tie.Need-returns
 returns c = 

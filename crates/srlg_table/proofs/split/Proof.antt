@@ -1,13 +1,13 @@
--- `srlg_blocks::split` meets its contract. Assumes nothing.
+-- `srlg_table::split` meets its contract. Assumes nothing.
 use Prim.Native.Nat.{_+_, _<_}
 use mathlib.Core.List.{[]}
 use lib.ListN.{length, getD, length-set}
 use denote.Ref.{now}
 use native.Mathlib.Omega.{arith}
-use Rattle.srlg_blocks.proofs.Splits.{alike-block, alike-words, split-whole, split-two}
+use Rattle.srlg_table.proofs.Splits.{alike-block, alike-words, split-whole, split-two}
 use borrow.Author.Needs.{needs}
-use Rattle.srlg_blocks.proofs.split.Statement.{statement}
-use Rattle.srlg_blocks.proofs.split.Tie as tie
+use Rattle.srlg_table.proofs.split.Statement.{statement}
+use Rattle.srlg_table.proofs.split.Tie as tie
 
 mul-b : tie.Need-mul-b
 mul-b c = search needs

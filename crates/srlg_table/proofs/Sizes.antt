@@ -18,7 +18,7 @@ use Rattle.masks.proofs.Laws.{same-members}
 use Rattle.masks.proofs.Steps.{zero-none}
 use Rattle.srlg_ranks.specs.Ranks.{inWords}
 use Rattle.srlg_ranks.proofs.Bits.{differ-none, differ-same, or-none}
-use Rattle.srlg_blocks.specs.Blocks.{sizeOf, Alike, inBlock, total}
+use Rattle.srlg_table.specs.Blocks.{sizeOf, Alike, inBlock, total}
 
 -- ---- sizes
 

@@ -16,8 +16,8 @@ use Rattle.srlg.proofs.Laws.{Order, less, more, same, order}
 use Rattle.masks.proofs.Steps.{and-in, zero-none}
 use Rattle.srlg_ranks.specs.Ranks.{inWords}
 use Rattle.srlg_sources.proofs.Joins.{two-words}
-use Rattle.srlg_blocks.specs.Blocks.{sizeOf, Alike, namedBy, naming, inBlock, blockSource, Part, Rest, Cut, whole, two, Split, total, Laid, Blocks}
-use Rattle.srlg_blocks.proofs.Sizes.{size-split, size-same, size-none, pair-bits, low-bit, high-bit, total-same, total-set, total-least, total-more}
+use Rattle.srlg_table.specs.Blocks.{sizeOf, Alike, namedBy, naming, inBlock, blockSource, Part, Rest, Cut, whole, two, Split, total, Laid, Blocks}
+use Rattle.srlg_table.proofs.Sizes.{size-split, size-same, size-none, pair-bits, low-bit, high-bit, total-same, total-set, total-least, total-more}
 
 -- ---- pairs of masks
 

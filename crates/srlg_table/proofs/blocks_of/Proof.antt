@@ -1,4 +1,4 @@
--- `srlg_blocks::blocks_of` meets its contract: the blocks by the sources below i. Assumes nothing.
+-- `srlg_table::blocks_of` meets its contract: the blocks by the sources below i. Assumes nothing.
 use Prim.Native.Nat.{ℕ, suc, _-_, _≤_, _<_}
 use mathlib.Core.Path.{_≡_, refl, _∙_, ap}
 use mathlib.Core.List.{List, [], _∷_}
@@ -6,11 +6,11 @@ use lib.ListN.{length, length-set, set}
 use denote.Ref.{now}
 use native.Mathlib.Omega.{arith}
 use native.Mathlib.Numerals.{add-one}
-use Rattle.srlg_blocks.specs.Blocks.{Blocks}
-use Rattle.srlg_blocks.proofs.Refines.{blocks-first}
+use Rattle.srlg_table.specs.Blocks.{Blocks}
+use Rattle.srlg_table.proofs.Refines.{blocks-first}
 use borrow.Author.Needs.{needs}
-use Rattle.srlg_blocks.proofs.blocks_of.Statement.{statement}
-use Rattle.srlg_blocks.proofs.blocks_of.Tie as tie
+use Rattle.srlg_table.proofs.blocks_of.Statement.{statement}
+use Rattle.srlg_table.proofs.blocks_of.Tie as tie
 
 abbrev Inv-loop : tie.InvT-loop
 Inv-loop rows sources standard user blocks₀ n₀ i₀ blocks n i = (1 < i) × (i ≤ sources) × (length blocks ≡ length blocks₀) × Blocks rows standard user blocks n i

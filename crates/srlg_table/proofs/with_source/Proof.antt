@@ -1,10 +1,10 @@
--- `srlg_blocks::with_source` meets its contract: source i is in the low or in the high word. Assumes nothing.
+-- `srlg_table::with_source` meets its contract: source i is in the low or in the high word. Assumes nothing.
 use denote.Ref.{now}
 use native.Mathlib.Omega.{arith}
-use Rattle.srlg_blocks.proofs.Splits.{part-low, part-high}
+use Rattle.srlg_table.proofs.Splits.{part-low, part-high}
 use borrow.Author.Needs.{needs}
-use Rattle.srlg_blocks.proofs.with_source.Statement.{statement}
-use Rattle.srlg_blocks.proofs.with_source.Tie as tie
+use Rattle.srlg_table.proofs.with_source.Statement.{statement}
+use Rattle.srlg_table.proofs.with_source.Tie as tie
 
 element-copy-out-low : tie.Need-element-copy-out-low
 element-copy-out-low c = search needs

@@ -1,4 +1,4 @@
--- `srlg_blocks::refine` meets its contract: the blocks before k have source i. Assumes nothing.
+-- `srlg_table::refine` meets its contract: the blocks before k have source i. Assumes nothing.
 use Prim.Native.Nat.{ℕ, _-_, _≤_, _<_}
 use mathlib.Core.Path.{_≡_, refl, _∙_, ap}
 use mathlib.Core.List.{List, [], _∷_}
@@ -8,11 +8,11 @@ use lib.ListN.{length, getD}
 use denote.Ref.{now}
 use native.Mathlib.Omega.{arith}
 use borrow.Author.Tests.{eqb-true, not-false}
-use Rattle.srlg_blocks.proofs.Sizes.{masks-none, total-least}
-use Rattle.srlg_blocks.proofs.Refines.{common-block, common-row, minus, Refining, refining-start, refining-pass, refining-split, split-room, still-room, in-block, refined, refined-early}
+use Rattle.srlg_table.proofs.Sizes.{masks-none, total-least}
+use Rattle.srlg_table.proofs.Refines.{common-block, common-row, minus, Refining, refining-start, refining-pass, refining-split, split-room, still-room, in-block, refined, refined-early}
 use borrow.Author.Needs.{needs}
-use Rattle.srlg_blocks.proofs.refine.Statement.{statement}
-use Rattle.srlg_blocks.proofs.refine.Tie as tie
+use Rattle.srlg_table.proofs.refine.Statement.{statement}
+use Rattle.srlg_table.proofs.refine.Tie as tie
 
 abbrev Inv-loop : tie.InvT-loop
 Inv-loop rows i standard user blocks₀ count n₀ s₀ u₀ k₀ blocks n s u k = (length blocks ≡ length blocks₀) × (n ≤ length blocks) × Refining rows i standard user blocks count n k s u

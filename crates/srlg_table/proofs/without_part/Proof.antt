@@ -1,9 +1,9 @@
--- `srlg_blocks::without_part` meets its contract. Assumes nothing.
+-- `srlg_table::without_part` meets its contract. Assumes nothing.
 use denote.Ref.{now}
-use Rattle.srlg_blocks.proofs.Splits.{rest-is}
+use Rattle.srlg_table.proofs.Splits.{rest-is}
 use borrow.Author.Needs.{needs}
-use Rattle.srlg_blocks.proofs.without_part.Statement.{statement}
-use Rattle.srlg_blocks.proofs.without_part.Tie as tie
+use Rattle.srlg_table.proofs.without_part.Statement.{statement}
+use Rattle.srlg_table.proofs.without_part.Tie as tie
 
 element-copy-out-without : tie.Need-element-copy-out-without
 element-copy-out-without c = search needs

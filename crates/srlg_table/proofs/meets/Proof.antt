@@ -1,11 +1,11 @@
--- `srlg_blocks::meets` meets its contract. Assumes nothing.
+-- `srlg_table::meets` meets its contract. Assumes nothing.
 use native.Mathlib.Omega.{arith}
 use mathlib.Core.Bool.{not}
 use borrow.Author.Tests.{not-true, not-false, eqb-true, eqb-false}
-use Rattle.srlg_blocks.proofs.Sizes.{masks-none, masks-some}
+use Rattle.srlg_table.proofs.Sizes.{masks-none, masks-some}
 use borrow.Author.Needs.{needs}
-use Rattle.srlg_blocks.proofs.meets.Statement.{statement}
-use Rattle.srlg_blocks.proofs.meets.Tie as tie
+use Rattle.srlg_table.proofs.meets.Statement.{statement}
+use Rattle.srlg_table.proofs.meets.Tie as tie
 
 returns : tie.Need-returns
 returns c = 

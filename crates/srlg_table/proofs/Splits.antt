@@ -14,8 +14,8 @@ use Rattle.srlg.proofs.Laws.{Order, less, more, same, order}
 use Rattle.srlg_ranks.specs.Ranks.{inWords}
 use Rattle.srlg_ranks.proofs.Bits.{with-in}
 use Rattle.srlg_sources.proofs.Joins.{two-words}
-use Rattle.srlg_blocks.specs.Blocks.{Alike, inBlock, blockSource, Part, Rest, Cut, whole, two, Split}
-use Rattle.srlg_blocks.proofs.Sizes.{pair-bits, low-bit, high-bit}
+use Rattle.srlg_table.specs.Blocks.{Alike, inBlock, blockSource, Part, Rest, Cut, whole, two, Split}
+use Rattle.srlg_table.proofs.Sizes.{pair-bits, low-bit, high-bit}
 
 module _ (b : List ℕ) (x y i : ℕ) where
   abbrev Said : ℕ → Bool → Type 0
