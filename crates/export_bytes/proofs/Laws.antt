@@ -23,8 +23,8 @@ use Rattle.grids.specs.Slots.{slotGrid, IsSet}
 use Rattle.grids.proofs.Laws.{ten}
 use Rattle.set_bytes.specs.Sets.{Writable}
 use Rattle.set_bytes.proofs.Laws.{set-length}
-use Rattle.asla_bytes.specs.Fronts.{frontSize, aslaFront}
-use Rattle.asla_bytes.proofs.Laws.{length-front, asla-is}
+use Rattle.tlv_bytes.specs.Fronts.{frontSize, aslaFront}
+use Rattle.tlv_bytes.proofs.AslaLaws.{length-front, asla-is}
 use Rattle.export_sizes.specs.declared.Asla.{Asla}
 use Rattle.export_sizes.specs.Sizes.{aslaOf, setSize, aslaSize}
 use Rattle.export_bytes.specs.Whole.{slotSet, aslaTlv, entryTlv, aslaTlvs, Tables, Entered, Open}

@@ -38,7 +38,7 @@ fn write_asla(
 {
     let e = export_sizes::read_asla(groups, i);
     let size = export_sizes::set_size(sets, classes, e.slot, e.class);
-    let inner = asla_bytes::write_front(e.standard, e.user, size, out, at);
+    let inner = tlv_bytes::write_front(e.standard, e.user, size, out, at);
     let g = grids::grid_of(sets, e.slot);
     set_bytes::write_set(run, &g, values, rows, classes, places, e.class, out, inner)
 }

@@ -9,7 +9,7 @@ use Rattle.linkstate.specs.Limits.{mostNumbers}
 use Rattle.tlv_bytes.specs.Tlvs.{valueSize}
 use Rattle.srlg_bytes.specs.Standing.{srlgSize, countIn}
 use Rattle.grids.specs.Slots.{cell, cellRow, slotSize}
-use Rattle.asla_bytes.specs.Fronts.{frontSize}
+use Rattle.tlv_bytes.specs.Fronts.{frontSize}
 use Rattle.set_groups.specs.Table.{word, slotIn, classIn}
 use Rattle.export_sizes.specs.declared.Asla.{Asla}
 

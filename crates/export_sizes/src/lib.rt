@@ -52,7 +52,7 @@ fn asla_size(sets: &[[u32; 12]], classes: &[[u64; 4]], e: Asla) -> usize
     requires { ⌜ (e .slot < length (now sets)) × (e .class < length (now classes)) × (countIn (now classes) (e .class) ≤ mostNumbers) ⌝ }
     ensures { λ r. ⌜ (r ≡ aslaSize (now (sets .entry)) (now (classes .entry)) e) × (r ≤ 5000000024) ⌝ }
 {
-    asla_bytes::front_size(e.standard, e.user) + set_size(sets, classes, e.slot, e.class)
+    tlv_bytes::front_size(e.standard, e.user) + set_size(sets, classes, e.slot, e.class)
 }
 
 // How many bytes the TLVs of the link's bandwidths have.

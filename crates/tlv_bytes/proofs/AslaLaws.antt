@@ -15,9 +15,9 @@ use Rattle.linkstate.proofs.MaskLaws.{length-mask}
 use Rattle.octets.proofs.Laws.{put-then}
 use Rattle.masks.specs.Sets.{inSent}
 use Rattle.masks.proofs.Laws.{size-same, mask-same}
 use Rattle.tlv_bytes.specs.Tlvs.{inTlvs, Wrote}
 use Rattle.tlv_bytes.proofs.Laws.{tlvs-same, same-write, behind-room, behind-write}
-use Rattle.asla_bytes.specs.Fronts.{frontSize, aslaFront}
+use Rattle.tlv_bytes.specs.Fronts.{frontSize, aslaFront}
 
 -- ---- pieces
 

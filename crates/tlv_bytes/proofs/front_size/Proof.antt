@@ -1,9 +1,9 @@
--- `asla_bytes::front_size` meets its contract. Assumes nothing.
+-- `tlv_bytes::front_size` meets its contract. Assumes nothing.
 use native.Mathlib.Omega.{arith}
-use Rattle.asla_bytes.proofs.Laws.{size-is}
+use Rattle.tlv_bytes.proofs.AslaLaws.{size-is}
 use borrow.Author.Needs.{needs}
-use Rattle.asla_bytes.proofs.front_size.Statement.{statement}
-use Rattle.asla_bytes.proofs.front_size.Tie as tie
+use Rattle.tlv_bytes.proofs.front_size.Statement.{statement}
+use Rattle.tlv_bytes.proofs.front_size.Tie as tie
 
 mask-size-requires : tie.Need-mask-size-requires
 mask-size-requires c κs = search needs

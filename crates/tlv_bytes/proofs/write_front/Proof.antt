@@ -1,11 +1,11 @@
--- `asla_bytes::write_front` meets its contract: the head, then the masks. Assumes nothing.
+-- `tlv_bytes::write_front` meets its contract: the head, then the masks. Assumes nothing.
 use denote.Ref.{now}
 use mathlib.Core.Path.{refl}
 use native.Mathlib.Omega.{arith}
-use Rattle.asla_bytes.proofs.Laws.{size-is, masks-room, front-written}
+use Rattle.tlv_bytes.proofs.AslaLaws.{size-is, masks-room, front-written}
 use borrow.Author.Needs.{needs}
-use Rattle.asla_bytes.proofs.write_front.Statement.{statement}
-use Rattle.asla_bytes.proofs.write_front.Tie as tie
+use Rattle.tlv_bytes.proofs.write_front.Statement.{statement}
+use Rattle.tlv_bytes.proofs.write_front.Tie as tie
 
 mask-size-requires : tie.Need-mask-size-requires
 mask-size-requires c κs = search needs

@@ -1,8 +1,8 @@
--- `asla_bytes::write_head` meets its contract. Assumes nothing.
-use Rattle.asla_bytes.proofs.Laws.{put-head}
+-- `tlv_bytes::write_asla_head` meets its contract. Assumes nothing.
+use Rattle.tlv_bytes.proofs.AslaLaws.{put-head}
 use borrow.Author.Needs.{needs}
-use Rattle.asla_bytes.proofs.write_head.Statement.{statement}
-use Rattle.asla_bytes.proofs.write_head.Tie as tie
+use Rattle.tlv_bytes.proofs.write_asla_head.Statement.{statement}
+use Rattle.tlv_bytes.proofs.write_asla_head.Tie as tie
 
 cast-write-head : tie.Need-cast-write-head
 cast-write-head c = search needs
@@ -40,8 +40,8 @@ returns c =
     let s = x .before .before .before in
     put-head _ _ _ _ _ _ _ (s .pre .0) (s .pre .1) (x .write-head .ensures) (c .before .before .write32 .ensures) (s .pre .3)
 
-pub write-head-spec : {M : Type 1} → statement M
-write-head-spec =
+pub write-asla-head-spec : {M : Type 1} → statement M
+write-asla-head-spec =
     tie.close
     (tie.spec
     cast-write-head

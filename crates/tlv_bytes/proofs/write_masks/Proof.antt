@@ -1,13 +1,13 @@
--- `asla_bytes::write_masks` meets its contract: one mask, then the other. Assumes nothing.
+-- `tlv_bytes::write_masks` meets its contract: one mask, then the other. Assumes nothing.
 use denote.Ref.{now}
 use native.Mathlib.Omega.{arith}
 use Rattle.linkstate.specs.Masks.{mask}
 use Rattle.masks.specs.Sets.{inSent}
 use Rattle.tlv_bytes.proofs.Laws.{behind-write}
-use Rattle.asla_bytes.proofs.Laws.{mask-wrote, length-masks}
+use Rattle.tlv_bytes.proofs.AslaLaws.{mask-wrote, length-masks}
 use borrow.Author.Needs.{needs}
-use Rattle.asla_bytes.proofs.write_masks.Statement.{statement}
-use Rattle.asla_bytes.proofs.write_masks.Tie as tie
+use Rattle.tlv_bytes.proofs.write_masks.Statement.{statement}
+use Rattle.tlv_bytes.proofs.write_masks.Tie as tie
 
 write-mask-requires : tie.Need-write-mask-requires
 write-mask-requires c κs = search needs
