@@ -24,7 +24,7 @@ use Rattle.masks.proofs.Steps.{zero-none}
 use Rattle.masks.specs.Applications.{inBoth}
 use Rattle.tlv_bytes.specs.Tlvs.{inTlvs}
 use Rattle.tlv_bytes.proofs.Laws.{empty-is, tlvs-same}
-use Rattle.srlg_bytes.specs.Standing.{numbersIn}
+use Rattle.set_bytes.specs.Standing.{numbersIn}
 use Rattle.set_bytes.specs.Sets.{lowCodes, highCodes}
 use Rattle.set_groups.specs.Groups.{Group, groupTlv}
 use Rattle.set_groups.specs.Table.{word, slotIn, classIn, entryGroup, tableGroups}

@@ -16,8 +16,8 @@ use Rattle.masks.specs.Applications.{inBoth}
 use Rattle.kinds.specs.Rules.{gridCodes, rowIn}
 use Rattle.tlv_bytes.specs.Tlvs.{inTlvs, Wrote}
 use Rattle.tlv_bytes.proofs.Laws.{tlvs-small, length-value, front-most, same-room, same-write, no-write, behind-room, behind-write}
-use Rattle.srlg_bytes.specs.Standing.{srlgSize, countIn, numbersIn, Standing, Written}
-use Rattle.srlg_bytes.proofs.Laws.{length-srlgs, class-few, standing-on, size-bound}
+use Rattle.set_bytes.specs.Standing.{srlgSize, countIn, numbersIn, Standing, Written}
+use Rattle.set_bytes.proofs.SrlgLaws.{length-srlgs, class-few, standing-on, size-bound}
 use Rattle.grids.specs.Grids.{rowValue, gridValue, setOf, RowFits}
 use Rattle.grids.specs.Slots.{slotGrid, IsSet}
 use Rattle.grids.proofs.Laws.{ten}

@@ -9,7 +9,7 @@ use Rattle.linkstate.specs.Kinds.{linkCodes}
 use Rattle.kinds.proofs.Computing.{computing}
 use Rattle.tlv_bytes.specs.Tlvs.{inTlvs}
 use Rattle.tlv_bytes.proofs.Laws.{length-three}
-use Rattle.srlg_bytes.specs.Standing.{numbersIn}
+use Rattle.set_bytes.specs.Standing.{numbersIn}
 use Rattle.grids.specs.Grids.{bandwidthOf}
 use Rattle.grids.specs.Slots.{slotGrid, linkRows, cell, cellRow, IsSet}
 use Rattle.set_bytes.specs.Sets.{lowCodes, highCodes}

@@ -9,7 +9,7 @@ use Rattle.linkstate.specs.Questions.{write}
 use Rattle.linkstate.specs.Export.{tlv, bytesOf, aslaValue}
 use Rattle.masks.specs.Applications.{inBoth}
 use Rattle.tlv_bytes.specs.Tlvs.{inTlvs}
-use Rattle.srlg_bytes.specs.Standing.{numbersIn, Classes, Standing}
+use Rattle.set_bytes.specs.Standing.{numbersIn, Classes, Standing}
 use Rattle.grids.specs.Grids.{setOf, topOf}
 use Rattle.grids.specs.Slots.{slotGrid, linkRows, IsSet, Slots}
 use Rattle.set_bytes.specs.Sets.{lowCodes, highCodes}

@@ -7,7 +7,7 @@ ghost use Rattle.linkstate.specs.Meaning.{Meaning};
 ghost use Rattle.linkstate.specs.Export.{export};
 ghost use Rattle.replies.specs.Told.{toldExported};
 ghost use Rattle.tlv_bytes.specs.Tlvs.{inTlvs};
-ghost use Rattle.srlg_bytes.specs.Standing.{numbersIn, Written as Wrote};
+ghost use Rattle.set_bytes.specs.Standing.{numbersIn, Written as Wrote};
 ghost use Rattle.grids.specs.Slots.{slotGrid, IsSet};
 ghost use Rattle.set_bytes.specs.Sets.{lowCodes};
 ghost use Rattle.export_bytes.specs.Whole.{entryTlv, aslaTlvs, topSet, wholeBytes, Tables, Entered, Open, answered};

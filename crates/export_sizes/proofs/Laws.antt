@@ -10,7 +10,7 @@ use lib.Dec.{eqb}
 use lib.ListN.{length, getD}
 use Rattle.linkstate.specs.Limits.{mostNumbers}
 use Rattle.tlv_bytes.specs.Tlvs.{valueSize}
-use Rattle.srlg_bytes.specs.Standing.{countIn}
+use Rattle.set_bytes.specs.Standing.{countIn}
 use Rattle.grids.specs.Grids.{rowRead}
 use Rattle.grids.specs.Slots.{cell, cellRow}
 use Rattle.grids.specs.declared.Row.the-variants.{Present, Absent}

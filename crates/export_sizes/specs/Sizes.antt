@@ -7,7 +7,7 @@ use lib.Dec.{eqb}
 use lib.ListN.{length, getD}
 use Rattle.linkstate.specs.Limits.{mostNumbers}
 use Rattle.tlv_bytes.specs.Tlvs.{valueSize}
-use Rattle.srlg_bytes.specs.Standing.{srlgSize, countIn}
+use Rattle.set_bytes.specs.Standing.{srlgSize, countIn}
 use Rattle.grids.specs.Slots.{cell, cellRow, slotSize}
 use Rattle.tlv_bytes.specs.Fronts.{frontSize}
 use Rattle.set_groups.specs.Table.{word, slotIn, classIn}

@@ -4,7 +4,7 @@ ghost use mathlib.Core.List.{[]};
 ghost use Prim.Native.Nat.{_-_, _≤_, _<_};
 ghost use lib.ListN.{length, getD};
 ghost use Rattle.linkstate.specs.Limits.{mostNumbers};
-ghost use Rattle.srlg_bytes.specs.Standing.{countIn};
+ghost use Rattle.set_bytes.specs.Standing.{countIn};
 ghost use Rattle.export_sizes.specs.Sizes.{aslaOf, setSize, aslaSize, linkSize, firstEntry, sumFrom, entrySize, wholeSize, Measurable};
 use grids::Row;
 
@@ -44,7 +44,7 @@ pub fn set_size(sets: &[[u32; 12]], classes: &[[u64; 4]], s: usize, c: usize) ->
     requires { ⌜ (s < length (now sets)) × (c < length (now classes)) × (countIn (now classes) c ≤ mostNumbers) ⌝ }
     ensures { λ r. ⌜ (r ≡ setSize (now (sets .entry)) (now (classes .entry)) s c) × (r ≤ 5000000000) ⌝ }
 {
-    wide(sets[s][11]) + srlg_bytes::srlgs_size(classes, c)
+    wide(sets[s][11]) + set_bytes::srlgs_size(classes, c)
 }
 
 // How many bytes an ASLA TLV has.

@@ -12,7 +12,7 @@ use Rattle.linkstate.specs.Meaning.{Meaning, row}
 use Rattle.linkstate.specs.Sides.{Side, generalSet, applicationSet, rsvpTeKind}
 use Rattle.masks.specs.Sets.{turnedPlace}
 use Rattle.srlg_sources.specs.Classes.{classOf}
-use Rattle.srlg_bytes.specs.Standing.{numbersIn}
+use Rattle.set_bytes.specs.Standing.{numbersIn}
 use Rattle.srlg_classes.specs.declared.Classes.{Classes}
 use Rattle.srlg_classes.specs.Owned.{slotAt, Slots}
 use Rattle.srlg_classes.specs.Sided.{Has, Classified}

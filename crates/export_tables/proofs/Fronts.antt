@@ -11,7 +11,7 @@ use Rattle.linkstate.specs.Meaning.{Meaning}
 use Rattle.linkstate.specs.Sides.{Side}
 use Rattle.linkstate.proofs.ListLaws.{map-ext, numbers-mem}
 use Rattle.srlg_sources.specs.Classes.{Class, classNumbers, Classed}
-use Rattle.srlg_bytes.specs.Standing.{numbersIn, Classes}
+use Rattle.set_bytes.specs.Standing.{numbersIn, Classes}
 use Rattle.srlg_classes.specs.declared.Classes.{Classes as Told}
 use Rattle.srlg_classes.specs.Sided.{Has, Classified}
 use Rattle.set_groups.specs.Groups.{Group}

@@ -10,7 +10,7 @@ ghost use Rattle.linkstate.specs.Export.{export};
 ghost use Rattle.linkstate.specs.Masks.{inNumber};
 ghost use Rattle.replies.specs.Told.{toldExported};
 ghost use Rattle.masks.specs.Applications.{inBoth, inPair};
-ghost use Rattle.srlg_bytes.specs.Standing.{numbersIn};
+ghost use Rattle.set_bytes.specs.Standing.{numbersIn};
 ghost use Rattle.grids.specs.Slots.{IsSet, Slots};
 ghost use Rattle.set_groups.specs.Table.{left, Placed, Filled};
 ghost use Rattle.set_table.specs.Tables.{howMany};

@@ -1,15 +1,15 @@
--- `srlg_bytes::write_numbers` meets its contract: copied, or made and noted. Assumes nothing.
+-- `set_bytes::write_numbers` meets its contract: copied, or made and noted. Assumes nothing.
 use mathlib.Core.Path.{sym, _∙_, ap}
 use lib.ListN.{length, getD, set}
 use denote.Ref.{now}
 use native.Mathlib.Omega.{arith}
 use Rattle.linkstate.specs.Bytes.{bytesOfWords}
 use Rattle.srlg.proofs.Laws.{length-bytesOfWords}
-use Rattle.srlg_bytes.specs.Standing.{numbersIn}
-use Rattle.srlg_bytes.proofs.Laws.{standing-on, standing-new, copied}
+use Rattle.set_bytes.specs.Standing.{numbersIn}
+use Rattle.set_bytes.proofs.SrlgLaws.{standing-on, standing-new, copied}
 use borrow.Author.Needs.{needs}
-use Rattle.srlg_bytes.proofs.write_numbers.Statement.{statement}
-use Rattle.srlg_bytes.proofs.write_numbers.Tie as tie
+use Rattle.set_bytes.proofs.write_numbers.Statement.{statement}
+use Rattle.set_bytes.proofs.write_numbers.Tie as tie
 
 mul-from : tie.Need-mul-from
 mul-from c = search needs

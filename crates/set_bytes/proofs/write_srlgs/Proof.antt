@@ -1,13 +1,13 @@
--- `srlg_bytes::write_srlgs` meets its contract: no numbers, nothing; else head and numbers. Assumes nothing.
+-- `set_bytes::write_srlgs` meets its contract: no numbers, nothing; else head and numbers. Assumes nothing.
 use mathlib.Core.Path.{sym, _∙_}
 use denote.Ref.{now}
 use native.Mathlib.Omega.{arith}
 use Rattle.srlg.proofs.Laws.{length-bytesOfWords}
-use Rattle.srlg_bytes.specs.Standing.{numbersIn}
-use Rattle.srlg_bytes.proofs.Laws.{read-some, read-none, no-srlgs, size-is, head-stands, srlgs-written}
+use Rattle.set_bytes.specs.Standing.{numbersIn}
+use Rattle.set_bytes.proofs.SrlgLaws.{read-some, read-none, no-srlgs, size-is, head-stands, srlgs-written}
 use borrow.Author.Needs.{needs}
-use Rattle.srlg_bytes.proofs.write_srlgs.Statement.{statement}
-use Rattle.srlg_bytes.proofs.write_srlgs.Tie as tie
+use Rattle.set_bytes.proofs.write_srlgs.Statement.{statement}
+use Rattle.set_bytes.proofs.write_srlgs.Tie as tie
 
 read-count-requires : tie.Need-read-count-requires
 read-count-requires c κs = search needs

@@ -9,8 +9,8 @@ use Rattle.linkstate.specs.Limits.{mostNumbers}
 use Rattle.linkstate.specs.Bytes.{bytesAt, bytesOfWords}
 use Rattle.tlv_bytes.specs.Tlvs.{inTlvs, Wrote}
 use Rattle.srlg_sources.specs.Classes.{classNumbers, Class}
-use Rattle.srlg_bytes.specs.declared.Numbers.{Numbers}
-use Rattle.srlg_bytes.specs.declared.Numbers.the-variants.{Present, Absent}
+use Rattle.set_bytes.specs.declared.Numbers.{Numbers}
+use Rattle.set_bytes.specs.declared.Numbers.the-variants.{Present, Absent}
 
 -- The TLV of SRLGs, none where there are none; how many bytes that of n numbers has.
 abbrev pub srlgTlv : List ℕ → List ℕ

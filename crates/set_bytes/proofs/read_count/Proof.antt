@@ -1,8 +1,8 @@
--- `srlg_bytes::read_count` meets its contract, by its test. Assumes nothing.
+-- `set_bytes::read_count` meets its contract, by its test. Assumes nothing.
 use borrow.Author.Tests.{eq-eqb, ne-eqb}
 use borrow.Author.Needs.{needs}
-use Rattle.srlg_bytes.proofs.read_count.Statement.{statement}
-use Rattle.srlg_bytes.proofs.read_count.Tie as tie
+use Rattle.set_bytes.proofs.read_count.Statement.{statement}
+use Rattle.set_bytes.proofs.read_count.Tie as tie
 
 mul-n : tie.Need-mul-n
 mul-n c = search needs

@@ -1,4 +1,4 @@
--- `srlg_bytes::write_word` meets its contract: what is written, and what the bits left would be written as, is the whole. Assumes nothing.
+-- `set_bytes::write_word` meets its contract: what is written, and what the bits left would be written as, is the whole. Assumes nothing.
 use Prim.Native.Nat.{_+_, _-_, _*_, _<_, _^_}
 use mathlib.Core.Path.{_≡_, refl, _∙_, ap}
 use lib.ListN.{length, drop}
@@ -13,8 +13,8 @@ use Rattle.srlg_ranks.specs.Ranks.{Inside}
 use Rattle.srlg_ranks.proofs.Laws.{share}
 use Rattle.srlg_ranks.proofs.Steps.{turn, share-none, bytes-next, bytes-end}
 use borrow.Author.Needs.{needs}
-use Rattle.srlg_bytes.proofs.write_word.Statement.{statement}
-use Rattle.srlg_bytes.proofs.write_word.Tie as tie
+use Rattle.set_bytes.proofs.write_word.Statement.{statement}
+use Rattle.set_bytes.proofs.write_word.Tie as tie
 
 abbrev Inv-loop : tie.InvT-loop
 Inv-loop values base bits out₀ at x₀ k₀ out x k = (x < 2 ^ 64) × Inside (drop base values) x × (length out ≡ length out₀) × (k + 4 * length (share values base x) ≡ at + 4 * length (share values base bits))

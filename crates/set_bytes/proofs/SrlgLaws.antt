@@ -21,8 +21,8 @@ use Rattle.srlg_sources.specs.Classes.{hasSource, inClass, classNumbers, Class}
 use Rattle.srlg_sources.proofs.Joins.{any-same}
 use Rattle.tlv_bytes.specs.Tlvs.{Wrote}
 use Rattle.tlv_bytes.proofs.Laws.{length-tlv, tlv-absent, tlv-present, tlv-written, same-write, no-write}
-use Rattle.srlg_bytes.specs.Standing.{srlgTlv, srlgSize, countIn, countRead, numbersIn, Classes, Standing}
-use Rattle.srlg_bytes.specs.declared.Numbers.the-variants.{Present, Absent}
+use Rattle.set_bytes.specs.Standing.{srlgTlv, srlgSize, countIn, countRead, numbersIn, Classes, Standing}
+use Rattle.set_bytes.specs.declared.Numbers.the-variants.{Present, Absent}
 
 -- ---- counts and sizes
 

@@ -1,4 +1,4 @@
--- `srlg_bytes::write_first` meets its contract: the numbers of the class's bits. Assumes nothing.
+-- `set_bytes::write_first` meets its contract: the numbers of the class's bits. Assumes nothing.
 use mathlib.Core.Path.{sym, _∙_, ap}
 use mathlib.Core.List.{[]}
 use lib.ListN.{length, getD}
@@ -7,11 +7,11 @@ use native.Mathlib.Omega.{arith}
 use Rattle.linkstate.specs.Bytes.{bytesOfWords}
 use Rattle.srlg.proofs.Laws.{length-bytesOfWords}
 use Rattle.tlv_bytes.proofs.Laws.{same-write}
-use Rattle.srlg_bytes.specs.Standing.{numbersIn}
-use Rattle.srlg_bytes.proofs.Laws.{pair-sources, bits-within, bits-are}
+use Rattle.set_bytes.specs.Standing.{numbersIn}
+use Rattle.set_bytes.proofs.SrlgLaws.{pair-sources, bits-within, bits-are}
 use borrow.Author.Needs.{needs}
-use Rattle.srlg_bytes.proofs.write_first.Statement.{statement}
-use Rattle.srlg_bytes.proofs.write_first.Tie as tie
+use Rattle.set_bytes.proofs.write_first.Statement.{statement}
+use Rattle.set_bytes.proofs.write_first.Tie as tie
 
 mul-low : tie.Need-mul-low
 mul-low c = search needs

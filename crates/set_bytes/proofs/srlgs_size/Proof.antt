@@ -1,14 +1,14 @@
--- `srlg_bytes::srlgs_size` meets its contract. Assumes nothing.
+-- `set_bytes::srlgs_size` meets its contract. Assumes nothing.
 use mathlib.Core.Path.{sym, _∙_, ap}
 use mathlib.Core.List.{[]}
 use lib.ListN.{getD}
 use denote.Ref.{now}
 use native.Mathlib.Omega.{arith}
-use Rattle.srlg_bytes.specs.Standing.{countIn, srlgSize}
-use Rattle.srlg_bytes.proofs.Laws.{count-some, count-none, size-none, size-some}
+use Rattle.set_bytes.specs.Standing.{countIn, srlgSize}
+use Rattle.set_bytes.proofs.SrlgLaws.{count-some, count-none, size-none, size-some}
 use borrow.Author.Needs.{needs}
-use Rattle.srlg_bytes.proofs.srlgs_size.Statement.{statement}
-use Rattle.srlg_bytes.proofs.srlgs_size.Tie as tie
+use Rattle.set_bytes.proofs.srlgs_size.Statement.{statement}
+use Rattle.set_bytes.proofs.srlgs_size.Tie as tie
 
 read-count-requires : tie.Need-read-count-requires
 read-count-requires c κs = search needs

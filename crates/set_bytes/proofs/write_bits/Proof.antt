@@ -1,4 +1,4 @@
--- `srlg_bytes::write_bits` meets its contract: what is written, and what the words to come would be written as, is the whole. Assumes nothing.
+-- `set_bytes::write_bits` meets its contract: what is written, and what the words to come would be written as, is the whole. Assumes nothing.
 use Prim.Native.Nat.{ℕ, _+_, _-_, _*_, _/_, _≤_}
 use mathlib.Core.Path.{_≡_, refl, _∙_, ap}
 use lib.ListN.{length, getD}
@@ -10,10 +10,10 @@ use Rattle.srlg.proofs.Laws.{length-bytesOfWords}
 use Rattle.srlg_ranks.specs.Ranks.{picked}
 use Rattle.srlg_ranks.proofs.Laws.{share, rest, word-end}
 use Rattle.srlg_ranks.proofs.Steps.{length-next, bytes-word, bytes-end}
-use Rattle.srlg_bytes.proofs.Laws.{word-within}
+use Rattle.set_bytes.proofs.SrlgLaws.{word-within}
 use borrow.Author.Needs.{needs}
-use Rattle.srlg_bytes.proofs.write_bits.Statement.{statement}
-use Rattle.srlg_bytes.proofs.write_bits.Tie as tie
+use Rattle.set_bytes.proofs.write_bits.Statement.{statement}
+use Rattle.set_bytes.proofs.write_bits.Tie as tie
 
 abbrev Inv-loop : tie.InvT-loop
 Inv-loop values bits out₀ at n k₀ w₀ out k w = (w ≤ n) × (n ≡ (length values + 63) / 64) × (length out ≡ length out₀) × (k + 4 * length (rest values bits w) ≡ at + 4 * length (picked values bits))
