@@ -29,7 +29,7 @@ use Rattle.set_bytes.specs.Sets.{lowCodes, highCodes}
 use Rattle.set_groups.specs.Groups.{Group, groupTlv}
 use Rattle.set_groups.specs.Table.{word, slotIn, classIn, entryGroup, tableGroups}
 use Rattle.set_groups.proofs.Tlvs.{each-map, each-ext, asla-same, asla-row, tlv-is, groups-are}
-use Rattle.export_sizes.specs.Sizes.{setSize, firstEntry}
+use Rattle.export_bytes.specs.Sizes.{setSize, firstEntry}
 use Rattle.export_bytes.specs.Whole.{slotSet, aslaTlv, entryTlv, aslaTlvs, topSet, wholeBytes, Tables, Entered, answered}
 use Rattle.export_bytes.specs.Describes.{Describes}
 use Rattle.export_bytes.proofs.Laws.{set-size}

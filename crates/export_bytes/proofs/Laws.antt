@@ -25,8 +25,8 @@ use Rattle.set_bytes.specs.Sets.{Writable}
 use Rattle.set_bytes.proofs.Laws.{set-length}
 use Rattle.tlv_bytes.specs.Fronts.{frontSize, aslaFront}
 use Rattle.tlv_bytes.proofs.AslaLaws.{length-front, asla-is}
-use Rattle.export_sizes.specs.declared.Asla.{Asla}
-use Rattle.export_sizes.specs.Sizes.{aslaOf, setSize, aslaSize}
+use Rattle.export_bytes.specs.declared.Asla.{Asla}
+use Rattle.export_bytes.specs.Sizes.{aslaOf, setSize, aslaSize}
 use Rattle.export_bytes.specs.Whole.{slotSet, aslaTlv, entryTlv, aslaTlvs, Tables, Entered, Open}
 
 -- ---- masks, and lists in turn

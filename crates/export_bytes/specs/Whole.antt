@@ -14,8 +14,8 @@ use Rattle.grids.specs.Grids.{setOf, topOf}
 use Rattle.grids.specs.Slots.{slotGrid, linkRows, IsSet, Slots}
 use Rattle.set_bytes.specs.Sets.{lowCodes, highCodes}
 use Rattle.set_groups.specs.Table.{word, slotIn, classIn}
-use Rattle.export_sizes.specs.declared.Asla.{Asla}
-use Rattle.export_sizes.specs.Sizes.{aslaOf}
+use Rattle.export_bytes.specs.declared.Asla.{Asla}
+use Rattle.export_bytes.specs.Sizes.{aslaOf}
 
 -- The set of a slot and a class.
 abbrev pub slotSet : List ℕ → List (List ℕ) → (ℕ → List ℕ) → ℕ → ℕ → ℕ → List ℕ

@@ -15,8 +15,8 @@ use Rattle.grids.specs.Grids.{rowRead}
 use Rattle.grids.specs.Slots.{cell, cellRow}
 use Rattle.grids.specs.declared.Row.the-variants.{Present, Absent}
 use Rattle.grids.proofs.Laws.{row-is}
-use Rattle.export_sizes.specs.Sizes.{aslaOf, setSize, rowSize, linkSize, firstEntry, sumFrom, Measurable}
-use Rattle.export_sizes.specs.declared.Asla.{Asla}
+use Rattle.export_bytes.specs.Sizes.{aslaOf, setSize, rowSize, linkSize, firstEntry, sumFrom, Measurable}
+use Rattle.export_bytes.specs.declared.Asla.{Asla}
 
 -- ---- rows
 

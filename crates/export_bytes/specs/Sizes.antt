@@ -11,7 +11,7 @@ use Rattle.set_bytes.specs.Standing.{srlgSize, countIn}
 use Rattle.grids.specs.Slots.{cell, cellRow, slotSize}
 use Rattle.tlv_bytes.specs.Fronts.{frontSize}
 use Rattle.set_groups.specs.Table.{word, slotIn, classIn}
-use Rattle.export_sizes.specs.declared.Asla.{Asla}
+use Rattle.export_bytes.specs.declared.Asla.{Asla}
 
 -- An entry of the groups, as the code takes it.
 abbrev pub aslaOf : List ℕ → Asla

@@ -1,10 +1,10 @@
--- `export_sizes::first_entry` meets its contract. Assumes nothing.
+-- `export_bytes::first_entry` meets its contract. Assumes nothing.
 use denote.Ref.{now}
 use native.Mathlib.Omega.{arith}
-use Rattle.export_sizes.proofs.Laws.{measured, first-none, first-some}
+use Rattle.export_bytes.proofs.SizeLaws.{measured, first-none, first-some}
 use borrow.Author.Needs.{needs}
-use Rattle.export_sizes.proofs.first_entry.Statement.{statement}
-use Rattle.export_sizes.proofs.first_entry.Tie as tie
+use Rattle.export_bytes.proofs.first_entry.Statement.{statement}
+use Rattle.export_bytes.proofs.first_entry.Tie as tie
 
 read-asla-requires : tie.Need-read-asla-requires
 read-asla-requires c κs = search needs

@@ -1,14 +1,14 @@
--- `export_sizes::link_size` meets its contract, kind by kind. Assumes nothing.
+-- `export_bytes::link_size` meets its contract, kind by kind. Assumes nothing.
 use Prim.Native.Nat.{ℕ, _-_, _*_, _≤_}
 use mathlib.Core.Path.{_≡_, refl, sym, _∙_, ap}
 use denote.Ref.{now}
 use native.Mathlib.Omega.{arith}
-use Rattle.export_sizes.specs.Sizes.{linkSize}
+use Rattle.export_bytes.specs.Sizes.{linkSize}
 use Rattle.grids.proofs.Laws.{row-is}
-use Rattle.export_sizes.proofs.Laws.{link-start, link-none, link-some}
+use Rattle.export_bytes.proofs.SizeLaws.{link-start, link-none, link-some}
 use borrow.Author.Needs.{needs}
-use Rattle.export_sizes.proofs.link_size.Statement.{statement}
-use Rattle.export_sizes.proofs.link_size.Tie as tie
+use Rattle.export_bytes.proofs.link_size.Statement.{statement}
+use Rattle.export_bytes.proofs.link_size.Tie as tie
 
 abbrev Inv-loop : tie.InvT-loop
 Inv-loop sets total₀ k₀ total k = (k ≤ 3) × (total ≡ linkSize sets k) × (total ≤ k * 65541)

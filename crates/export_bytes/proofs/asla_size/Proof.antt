@@ -1,11 +1,11 @@
--- `export_sizes::asla_size` meets its contract. Assumes nothing.
+-- `export_bytes::asla_size` meets its contract. Assumes nothing.
 use Prim.Native.Nat.{ℕ, _+_}
 use mathlib.Core.Path.{ap₂}
 use native.Mathlib.Omega.{arith}
-use Rattle.export_sizes.specs.Sizes.{aslaSize}
+use Rattle.export_bytes.specs.Sizes.{aslaSize}
 use borrow.Author.Needs.{needs}
-use Rattle.export_sizes.proofs.asla_size.Statement.{statement}
-use Rattle.export_sizes.proofs.asla_size.Tie as tie
+use Rattle.export_bytes.proofs.asla_size.Statement.{statement}
+use Rattle.export_bytes.proofs.asla_size.Tie as tie
 
 front-size-requires : tie.Need-front-size-requires
 front-size-requires c κs = search needs

@@ -1,11 +1,11 @@
--- `export_sizes::read_asla` meets its contract. Assumes nothing.
+-- `export_bytes::read_asla` meets its contract. Assumes nothing.
 use mathlib.Core.List.{[]}
 use lib.ListN.{getD}
 use denote.Ref.{now}
-use Rattle.export_sizes.proofs.Laws.{asla-read}
+use Rattle.export_bytes.proofs.SizeLaws.{asla-read}
 use borrow.Author.Needs.{needs}
-use Rattle.export_sizes.proofs.read_asla.Statement.{statement}
-use Rattle.export_sizes.proofs.read_asla.Tie as tie
+use Rattle.export_bytes.proofs.read_asla.Statement.{statement}
+use Rattle.export_bytes.proofs.read_asla.Tie as tie
 
 mul-x : tie.Need-mul-x
 mul-x c = search needs

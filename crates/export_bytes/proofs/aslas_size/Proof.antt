@@ -1,15 +1,15 @@
--- `export_sizes::aslas_size` meets its contract, entry by entry. Assumes nothing.
+-- `export_bytes::aslas_size` meets its contract, entry by entry. Assumes nothing.
 use Prim.Native.Nat.{ℕ, _+_, _-_, _*_, _≤_}
 use mathlib.Core.Path.{_≡_, refl, _∙_, ap}
 use mathlib.Core.List.{[]}
 use lib.ListN.{length, getD}
 use denote.Ref.{now}
 use native.Mathlib.Omega.{arith}
-use Rattle.export_sizes.specs.Sizes.{sumFrom, entrySize, aslaSize}
-use Rattle.export_sizes.proofs.Laws.{measured, sum-start, sum-next}
+use Rattle.export_bytes.specs.Sizes.{sumFrom, entrySize, aslaSize}
+use Rattle.export_bytes.proofs.SizeLaws.{measured, sum-start, sum-next}
 use borrow.Author.Needs.{needs}
-use Rattle.export_sizes.proofs.aslas_size.Statement.{statement}
-use Rattle.export_sizes.proofs.aslas_size.Tie as tie
+use Rattle.export_bytes.proofs.aslas_size.Statement.{statement}
+use Rattle.export_bytes.proofs.aslas_size.Tie as tie
 
 abbrev Inv-loop : tie.InvT-loop
 Inv-loop sets classes groups first total₀ i₀ i-end total i = (first ≤ i) × (i ≤ length groups) × (i-end ≡ length groups) × (total ≡ sumFrom (entrySize sets classes groups) first (i - first)) × (total ≤ i * 5000000024)

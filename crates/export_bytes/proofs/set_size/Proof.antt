@@ -1,11 +1,11 @@
--- `export_sizes::set_size` meets its contract. Assumes nothing.
+-- `export_bytes::set_size` meets its contract. Assumes nothing.
 use Prim.Native.Nat.{ℕ, _+_}
 use mathlib.Core.Path.{ap₂}
 use native.Mathlib.Omega.{arith}
-use Rattle.export_sizes.specs.Sizes.{setSize}
+use Rattle.export_bytes.specs.Sizes.{setSize}
 use borrow.Author.Needs.{needs}
-use Rattle.export_sizes.proofs.set_size.Statement.{statement}
-use Rattle.export_sizes.proofs.set_size.Tie as tie
+use Rattle.export_bytes.proofs.set_size.Statement.{statement}
+use Rattle.export_bytes.proofs.set_size.Tie as tie
 
 mul-wide : tie.Need-mul-wide
 mul-wide c = search needs

@@ -1,11 +1,11 @@
--- `export_sizes::measure` meets its contract. Assumes nothing.
+-- `export_bytes::measure` meets its contract. Assumes nothing.
 use Prim.Native.Nat.{ℕ, _+_}
 use mathlib.Core.Path.{ap₂}
 use native.Mathlib.Omega.{arith}
-use Rattle.export_sizes.specs.Sizes.{wholeSize}
+use Rattle.export_bytes.specs.Sizes.{wholeSize}
 use borrow.Author.Needs.{needs}
-use Rattle.export_sizes.proofs.measure.Statement.{statement}
-use Rattle.export_sizes.proofs.measure.Tie as tie
+use Rattle.export_bytes.proofs.measure.Statement.{statement}
+use Rattle.export_bytes.proofs.measure.Tie as tie
 
 link-size-requires : tie.Need-link-size-requires
 link-size-requires c κs = search needs
