@@ -1,22 +1,87 @@
 // Questions to a BGP-LS run that anybody may have written: ask, value and named.
-// Any bytes, any subject and any code are taken; every refusal is document 01's, and after one nothing was written.
 ghost use mathlib.Core.Path.{_≡_};
 ghost use mathlib.Core.Bool.{true, false};
 ghost use Prim.Native.Nat.{_≤_};
+ghost use lib.Dec.{eqb};
 ghost use lib.ListN.{length};
-ghost use Rattle.linkstate.specs.Kinds.{isCode};
 ghost use Rattle.linkstate.specs.Replies.{accepted, runBgpLs, place};
-ghost use Rattle.linkstate.specs.Attributes.{srlgs};
-ghost use Rattle.linkstate.specs.Questions.{numberTooHigh, given, srlgAnswer, answer, ask, value, listNamed};
+ghost use Rattle.linkstate.specs.Kinds.{isCode};
+ghost use Rattle.linkstate.specs.Attributes.{ofKind, srlgs};
+ghost use Rattle.linkstate.specs.Questions.{numberTooHigh, given, firstOf, bytesOfFirst, srlgAnswer, answer, ask, value, listNamed};
 ghost use Rattle.linkstate.specs.BgpLs.{runVerdict, runSource};
-ghost use Rattle.replies.specs.Told.{subjectOf, toldAsked, toldNamed};
-ghost use Rattle.bgpls_find.specs.Sets.{attributesIn};
+ghost use Rattle.replies.specs.Told.{subjectOf, toldAnswer, toldAsked, toldNamed};
+ghost use Rattle.bgpls_find.specs.Sets.{attributesIn, foundIn};
+ghost use Rattle.bgpls_find.specs.Walks.{Starts};
 ghost use Rattle.bgpls_reader.specs.Room.{Counted};
+use bgpls_find::Found;
+use bgpls_find::Set;
 use bgpls_find::Start;
 use replies::Answer;
 use replies::Checked;
 use replies::Named;
+use replies::Run;
 use replies::Subject;
+
+// The set of attributes that a question is about.
+pub fn set_asked(r: &[u8], whom: Subject, code: usize) -> Start
+    requires { ⌜ (runVerdict (now r) ≡ accepted) × (numberTooHigh (subjectOf whom) ≡ false) ⌝ }
+    ensures { λ s. ⌜ Starts (s .set) (now (r .entry)) (s .first) (s .next) × (attributesIn (s .set) (now (r .entry)) ≡ given (runSource (now (r .entry))) (subjectOf whom) code) ⌝ }
+{
+    if answering::is_link_code(code) {
+        return Start {
+            set: Set::Top,
+            first: 0,
+            next: r.len(),
+        };
+    }
+    match whom {
+        Subject::General => bgpls_find::general_start(r),
+        Subject::Standard(n) => {
+            if n == 0 {
+                return Start {
+                    set: Set::Top,
+                    first: 0,
+                    next: r.len(),
+                };
+            }
+            bgpls_find::set_of(r, n)
+        }
+        Subject::User(n) => bgpls_find::set_of(r, 64 + n),
+    }
+}
+
+// Where the value that a question asks for stands.
+pub fn find_value(r: &[u8], whom: Subject, code: usize) -> Found
+    requires { ⌜ (runVerdict (now r) ≡ accepted) × (numberTooHigh (subjectOf whom) ≡ false) ⌝ }
+    ensures { λ f. ⌜ f ≡ foundIn (ofKind code (given (runSource (now (r .entry))) (subjectOf whom) code)) ⌝ }
+{
+    let start = set_asked(r, whom, code);
+    bgpls_find::first_in(r, start, code)
+}
+
+// The reply of a kind other than SRLG.
+pub fn answer_value(r: &[u8], whom: Subject, code: usize) -> Answer
+    requires { ⌜ (runVerdict (now r) ≡ accepted) × (numberTooHigh (subjectOf whom) ≡ false) × (isCode code ≡ true) × (eqb code 1096 ≡ false) ⌝ }
+    ensures { λ x. ⌜ toldAnswer x ≡ firstOf (place runBgpLs) (ofKind code (given (runSource (now (r .entry))) (subjectOf whom) code)) ⌝ }
+{
+    let Found::At { place, len } = find_value(r, whom, code) else {
+        return Answer::Absent;
+    };
+    answering::answer_row(r, Run::BgpLs, code, place, len)
+}
+
+// The value's bytes as a part of the run.
+pub fn part_of(r: &[u8], whom: Subject, code: usize) -> &[u8]
+    requires { ⌜ (runVerdict (now r) ≡ accepted) × (numberTooHigh (subjectOf whom) ≡ false) × (isCode code ≡ true) × (eqb code 1096 ≡ false) ⌝ }
+    ensures { λ x. ⌜ now x ≡ bytesOfFirst (now (r .entry)) (ofKind code (given (runSource (now (r .entry))) (subjectOf whom) code)) ⌝ }
+{
+    let Found::At { place, len } = find_value(r, whom, code) else {
+        return &r[0..0];
+    };
+    &r[place..place + len]
+}
+
+// Any bytes, any subject and any code are taken; every refusal is document 01's, and after one nothing was written.
 
 // The reply of SRLG: the numbers of a set go into one list, are sorted into another, and are counted before any is written. tmp is room to work in.
 fn answer_words(
@@ -89,7 +154,7 @@ fn answer_srlg(r: &[u8], whom: Subject, list: &mut [u32]) -> Answer
     requires { ⌜ (runVerdict (now r) ≡ accepted) × (numberTooHigh (subjectOf whom) ≡ false) ⌝ }
     ensures { λ x. ⌜ toldAsked x (now (list .exit)) ≡ srlgAnswer (srlgs (given (runSource (now (r .entry))) (subjectOf whom) 1096)) (now (list .entry)) ⌝ }
 {
-    let start = bgpls_values::set_asked(r, whom, 1096);
+    let start = set_asked(r, whom, 1096);
     let n = bgpls_srlg::count_words(r, start);
     if n == 0 {
         return Answer::Absent;
@@ -105,7 +170,7 @@ fn answer_accepted(r: &[u8], whom: Subject, code: usize, list: &mut [u32]) -> An
     if code == 1096 {
         return answer_srlg(r, whom, list);
     }
-    bgpls_values::answer_value(r, whom, code)
+    answer_value(r, whom, code)
 }
 
 // One kind of one subject: absent, found with its reading, or refused. SRLGs go ascending to the front of the lent list; for every other answer the list stays as it was.
@@ -125,7 +190,7 @@ pub fn ask(r: &[u8], whom: Subject, code: usize, list: &mut [u32]) -> Answer
 
 // The same question: the value's bytes as a part of the run; empty where it is absent, refused, or SRLG.
 // The contract settles the bytes. Left free: which part of the run they are, where the same bytes stand more than once, since a slice has no offset in the
-// language; it is the one at the place that `bgpls_values::find_value` gives, which the C interface tells.
+// language; it is the one at the place that `find_value` gives, which the C interface tells.
 pub fn value(r: &[u8], whom: Subject, code: usize) -> &[u8]
     ensures { λ x. ⌜ now x ≡ value (runSource (now (r .entry))) (subjectOf whom) code ⌝ }
 {
@@ -140,7 +205,7 @@ pub fn value(r: &[u8], whom: Subject, code: usize) -> &[u8]
     if code == 1096 {
         return &r[0..0];
     }
-    bgpls_values::part_of(r, whom, code)
+    part_of(r, whom, code)
 }
 
 // The applications other than RSVP-TE that the run names.

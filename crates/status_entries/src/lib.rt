@@ -90,7 +90,7 @@ fn ask_run_value(r: &[u8], whom: Subject, code: usize) -> Words
         Checked::Refused(x) => return statuses::refusal_words(x),
         Checked::Accepted => {}
     }
-    let Found::At { place, len } = bgpls_values::find_value(r, whom, code) else {
+    let Found::At { place, len } = bgpls_reader::find_value(r, whom, code) else {
         return statuses::no_words();
     };
     standing_words(r, Run::BgpLs, code, place, len)
@@ -151,7 +151,7 @@ pub fn value_run(r: &[u8], whom: Subject, code: usize) -> Words
     if code == 1096 {
         return statuses::no_words();
     }
-    let Found::At { place, len } = bgpls_values::find_value(r, whom, code) else {
+    let Found::At { place, len } = bgpls_reader::find_value(r, whom, code) else {
         return statuses::no_words();
     };
     statuses::place_words(Run::BgpLs, place, len)

@@ -1,7 +1,7 @@
 -- Refused by the question, refused by the bytes, absent, or read where it was found.
 use Rattle.status_entries.proofs.Laws.{asked-refused, asked-first, asked-row, none-first}
 use Rattle.bgpls_reader.proofs.Laws.{of-run}
-use Rattle.bgpls_values.proofs.Laws.{found-first, found-none, readable, answers, part-is-value, placed}
+use Rattle.bgpls_reader.proofs.ValueLaws.{found-first, found-none, readable, answers, part-is-value, placed}
 use Rattle.linkstate.specs.Replies.{absent, runBgpLs, place}
 use Rattle.linkstate.specs.BgpLs.{runSource}
 use Rattle.answering.proofs.Entries.{question-low, question-known, by-question, by-bytes, by-nothing}

@@ -12,7 +12,7 @@ use Rattle.status_entries.proofs.value_run.Statement.{statement}
 use Rattle.status_entries.proofs.value_run.Tie as tie
 use Rattle.answering.proofs.check_question.Reads as check-question-reads
 use Rattle.bgpls_check.proofs.check_run.Reads as check-run-reads
-use Rattle.bgpls_values.proofs.find_value.Reads as find-value-reads
+use Rattle.bgpls_reader.proofs.find_value.Reads as find-value-reads
 use Rattle.statuses.proofs.no_words.Reads as no-words-reads
 use Rattle.statuses.proofs.place_words.Reads as place-words-reads
 

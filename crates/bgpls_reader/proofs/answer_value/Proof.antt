@@ -1,12 +1,12 @@
 -- Absent, or the reading of what stands where it was found.
-use Rattle.bgpls_values.proofs.Laws.{First, found-first, found-none, readable, answers}
+use Rattle.bgpls_reader.proofs.ValueLaws.{First, found-first, found-none, readable, answers}
 use Rattle.answering.specs.Rows.{rowAnswer}
 use Rattle.answering.proofs.Laws.{first-absent}
 use Rattle.linkstate.specs.Replies.{runBgpLs, place}
 use mathlib.Core.Path.{sym, _∙_}
 use borrow.Author.Needs.{needs}
-use Rattle.bgpls_values.proofs.answer_value.Statement.{statement}
-use Rattle.bgpls_values.proofs.answer_value.Tie as tie
+use Rattle.bgpls_reader.proofs.answer_value.Statement.{statement}
+use Rattle.bgpls_reader.proofs.answer_value.Tie as tie
 
 find-value-requires : tie.Need-find-value-requires
 find-value-requires c κs = search needs

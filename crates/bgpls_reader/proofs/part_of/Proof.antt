@@ -1,11 +1,11 @@
 -- Nothing, or the bytes where the value was found.
-use Rattle.bgpls_values.proofs.Laws.{First, found-first, found-none, lies-within, part-is-value}
+use Rattle.bgpls_reader.proofs.ValueLaws.{First, found-first, found-none, lies-within, part-is-value}
 use Rattle.linkstate.specs.Questions.{bytesOfFirst}
 use native.Mathlib.Omega.{arith}
 use mathlib.Core.Path.{sym, ap, _∙_}
 use borrow.Author.Needs.{needs}
-use Rattle.bgpls_values.proofs.part_of.Statement.{statement}
-use Rattle.bgpls_values.proofs.part_of.Tie as tie
+use Rattle.bgpls_reader.proofs.part_of.Statement.{statement}
+use Rattle.bgpls_reader.proofs.part_of.Tie as tie
 
 find-value-requires : tie.Need-find-value-requires
 find-value-requires c κs = search needs

@@ -4,8 +4,8 @@ use Rattle.linkstate.specs.Attributes.{Attribute, ofKind}
 use mathlib.Core.List.{List}
 use mathlib.Core.Path.{ap, _∙_}
 use borrow.Author.Needs.{needs}
-use Rattle.bgpls_values.proofs.find_value.Statement.{statement}
-use Rattle.bgpls_values.proofs.find_value.Tie as tie
+use Rattle.bgpls_reader.proofs.find_value.Statement.{statement}
+use Rattle.bgpls_reader.proofs.find_value.Tie as tie
 
 set-asked-requires : tie.Need-set-asked-requires
 set-asked-requires c κs = search needs

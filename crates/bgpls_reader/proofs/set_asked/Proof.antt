@@ -1,11 +1,11 @@
 -- The set that a question is about, subject by subject.
-use Rattle.bgpls_values.proofs.Laws.{asks-top, asks-general, asks-rsvp-te, asks-standard, asks-user, low-user}
+use Rattle.bgpls_reader.proofs.ValueLaws.{asks-top, asks-general, asks-rsvp-te, asks-standard, asks-user, low-user}
 use Rattle.bgpls_find.proofs.SetLaws.{starts-top}
 use native.Mathlib.Omega.{arith}
 use mathlib.Core.Path.{sym, _∙_}
 use borrow.Author.Needs.{needs}
-use Rattle.bgpls_values.proofs.set_asked.Statement.{statement}
-use Rattle.bgpls_values.proofs.set_asked.Tie as tie
+use Rattle.bgpls_reader.proofs.set_asked.Statement.{statement}
+use Rattle.bgpls_reader.proofs.set_asked.Tie as tie
 
 is-link-code-requires : tie.Need-is-link-code-requires
 is-link-code-requires c κs = search needs
