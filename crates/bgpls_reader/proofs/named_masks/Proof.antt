@@ -1,9 +1,9 @@
--- `bgpls_named::named_masks` meets its contract: what all 1122s name, without standard 0.
-use Rattle.bgpls_named.proofs.Laws.{names-standard, names-user}
+-- `bgpls_reader::named_masks` meets its contract: what all 1122s name, without standard 0.
+use Rattle.bgpls_reader.proofs.NamedLaws.{names-standard, names-user}
 use native.Mathlib.Omega.{arith}
 use borrow.Author.Needs.{needs}
-use Rattle.bgpls_named.proofs.named_masks.Statement.{statement}
-use Rattle.bgpls_named.proofs.named_masks.Tie as tie
+use Rattle.bgpls_reader.proofs.named_masks.Statement.{statement}
+use Rattle.bgpls_reader.proofs.named_masks.Tie as tie
 
 all-masks-requires : tie.Need-all-masks-requires
 all-masks-requires c κs = search needs

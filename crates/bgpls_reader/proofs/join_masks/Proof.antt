@@ -1,5 +1,5 @@
--- `bgpls_named::join_masks` meets its contract: each mask is joined to its number.
-use Rattle.bgpls_named.proofs.Laws.{standard-small, user-small, join-one}
+-- `bgpls_reader::join_masks` meets its contract: each mask is joined to its number.
+use Rattle.bgpls_reader.proofs.NamedLaws.{standard-small, user-small, join-one}
 use Rattle.bgpls_find.proofs.Laws.{standard-part, user-part}
 use Rattle.frames.proofs.Laws.{part-length}
 use Rattle.bgpls_check.proofs.Laws.{header-size}
@@ -11,10 +11,10 @@ use mathlib.Core.List.{List}
 use mathlib.Core.Path.{_≡_}
 use Prim.Native.Nat.{ℕ, _+_, _≤_}
 use borrow.Author.Needs.{needs}
-use Rattle.bgpls_named.proofs.join_masks.Statement.{statement}
-use Rattle.bgpls_named.proofs.join_masks.Tie as tie
-use Rattle.bgpls_named.proofs.join_masks.Reads as reads
-use Rattle.bgpls_named.proofs.join_masks.Lts as lts
+use Rattle.bgpls_reader.proofs.join_masks.Statement.{statement}
+use Rattle.bgpls_reader.proofs.join_masks.Tie as tie
+use Rattle.bgpls_reader.proofs.join_masks.Reads as reads
+use Rattle.bgpls_reader.proofs.join_masks.Lts as lts
 use Rattle.bgpls_check.proofs.read_asla_header.Reads as read-asla-header-reads
 use Rattle.masks.proofs.joined.Reads as joined-reads
 use Rattle.masks.proofs.sent_number.Reads as sent-number-reads

@@ -22,8 +22,8 @@ use Rattle.rivals.proofs.KindLaws.{standard-other, user-other}
 use Rattle.bgpls_find.specs.declared.Set.the-variants.{Every}
 use Rattle.bgpls_find.specs.Sets.{chosen, chosenBy}
 use Rattle.bgpls_find.specs.Walks.{aslasFrom, standardMask, userMask, IsAsla}
-use Rattle.bgpls_named.specs.declared.NamedMasks.{NamedMasks}
-use Rattle.bgpls_named.specs.Joined.{HoldSent, HoldBoth}
+use Rattle.bgpls_reader.specs.declared.NamedMasks.{NamedMasks}
+use Rattle.bgpls_reader.specs.Joined.{HoldSent, HoldBoth}
 
 -- ---- one 1122
 

@@ -1,5 +1,5 @@
--- `bgpls_named::all_masks` meets its contract: with what the 1122s that are left name, the numbers hold all that are named.
-use Rattle.bgpls_named.proofs.Laws.{Held, held-start, held-end, held-skip, held-next}
+-- `bgpls_reader::all_masks` meets its contract: with what the 1122s that are left name, the numbers hold all that are named.
+use Rattle.bgpls_reader.proofs.NamedLaws.{Held, held-start, held-end, held-skip, held-next}
 use Rattle.bgpls_find.proofs.SetLaws.{run-passes}
 use Rattle.bgpls_find.proofs.Laws.{Taken, head-fits, whole-here, left-passes, aslas-end, aslas-passed, part-taken, part-sound, rest-passes, is-asla}
 use Rattle.bgpls_find.specs.Walks.{Passes, IsAsla}
@@ -15,13 +15,13 @@ use mathlib.Core.Bool.{true}
 use mathlib.Core.List.{List}
 use mathlib.Core.Path.{_≡_, refl, sym, _∙_, ap}
 use Prim.Native.Nat.{ℕ, _+_, _-_, _≤_}
-use Rattle.bgpls_named.proofs.all_masks.Statement.{statement}
-use Rattle.bgpls_named.proofs.all_masks.Tie as tie
-use Rattle.bgpls_named.proofs.all_masks.Reads as reads
-use Rattle.bgpls_named.proofs.all_masks.Lts as lts
+use Rattle.bgpls_reader.proofs.all_masks.Statement.{statement}
+use Rattle.bgpls_reader.proofs.all_masks.Tie as tie
+use Rattle.bgpls_reader.proofs.all_masks.Reads as reads
+use Rattle.bgpls_reader.proofs.all_masks.Lts as lts
 use Rattle.octets.proofs.read16.Reads as read16-reads
 use Rattle.bgpls_find.proofs.is_chosen.Reads as is-chosen-reads
-use Rattle.bgpls_named.proofs.join_masks.Reads as join-masks-reads
+use Rattle.bgpls_reader.proofs.join_masks.Reads as join-masks-reads
 
 abbrev Inv-loop : tie.InvT-loop
 Inv-loop r m₀ at₀ m at = (at ≤ length r) × Passes r at × Held m r at

@@ -8,7 +8,7 @@ use Rattle.linkstate.specs.Masks.{bit, user}
 use Rattle.linkstate.specs.Sides.{Advertisement, names}
 use Rattle.masks.specs.Sets.{inSent}
 use Rattle.bgpls_find.specs.Walks.{standardMask, userMask}
-use Rattle.bgpls_named.specs.declared.NamedMasks.{NamedMasks}
+use Rattle.bgpls_reader.specs.declared.NamedMasks.{NamedMasks}
 
 -- They hold the applications that some of these advertisements name.
 abbrev pub HoldSent : NamedMasks → List Advertisement → Type 0
