@@ -209,7 +209,7 @@ fn srlg_passes(own: usize, value: &[u8], test: Test, kind: usize) -> bool
         return false;
     }
     let v = &value[7..];
-    if !isis_check_b::live_srlg(v) {
+    if !isis_check::live_srlg(v) {
         return false;
     }
     header_passes(v, test) && srlg_carries(v, kind)

@@ -60,7 +60,7 @@ fn tells_link(v: &[u8], h: Header) -> bool
     let length_byte = isis_check_a::header_length(h);
     let list = length_byte + 1;
     let end = list + v[length_byte] as usize;
-    isis_check_b::identifies_link(&v[list..end])
+    isis_check::identifies_link(&v[list..end])
 }
 
 // A TLV of run B. With L no number of it is read.
