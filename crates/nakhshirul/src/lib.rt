@@ -25,7 +25,7 @@ pub extern "C" fn nakhshirul_ask(
     ensures { λ r. ⌜ (r ∷ now (reply .exit) ≡ askWords (linkSource (now (a .entry)) (now (b .entry)) (now (c .entry))) (whomOf who number) code (now (list .entry))) × (now (list .exit) ≡ (ask (linkSource (now (a .entry)) (now (b .entry)) (now (c .entry))) (whomOf who number) code (now (list .entry))) .list) ⌝ }
 {
     let whom = statuses::subject(who, number);
-    let w = status_entries::ask_link(a, b, c, whom, code as usize, list);
+    let w = statuses::ask_link(a, b, c, whom, code as usize, list);
     statuses::hand_over(w, reply)
 }
 
@@ -43,7 +43,7 @@ pub extern "C" fn nakhshirul_value(
     ensures { λ r. ⌜ r ∷ now (reply .exit) ≡ valueWords (linkSource (now (a .entry)) (now (b .entry)) (now (c .entry))) (whomOf who number) code ⌝ }
 {
     let whom = statuses::subject(who, number);
-    let w = status_entries::value_link(a, b, c, whom, code as usize);
+    let w = statuses::value_link(a, b, c, whom, code as usize);
     statuses::hand_over(w, reply)
 }
 
@@ -105,7 +105,7 @@ pub extern "C" fn nakhshirul_run_ask(
     ensures { λ r. ⌜ (r ∷ now (reply .exit) ≡ askWords (runSource (now (run .entry))) (whomOf who number) code (now (list .entry))) × (now (list .exit) ≡ (ask (runSource (now (run .entry))) (whomOf who number) code (now (list .entry))) .list) ⌝ }
 {
     let whom = statuses::subject(who, number);
-    let w = status_entries::ask_run(run, whom, code as usize, list);
+    let w = statuses::ask_run(run, whom, code as usize, list);
     statuses::hand_over(w, reply)
 }
 
@@ -121,7 +121,7 @@ pub extern "C" fn nakhshirul_run_value(
     ensures { λ r. ⌜ r ∷ now (reply .exit) ≡ valueWords (runSource (now (run .entry))) (whomOf who number) code ⌝ }
 {
     let whom = statuses::subject(who, number);
-    let w = status_entries::value_run(run, whom, code as usize);
+    let w = statuses::value_run(run, whom, code as usize);
     statuses::hand_over(w, reply)
 }
 

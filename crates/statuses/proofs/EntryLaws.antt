@@ -29,9 +29,9 @@ use Rattle.answering.proofs.Entries.{ask-refused, ask-answered, answer-other, v
 use Rattle.isis_grids.specs.Grid.{firstRow}
 use Rattle.bgpls_find.specs.declared.Found.the-variants.{At, Absent}
 use Rattle.bgpls_find.specs.Sets.{foundIn}
 use Rattle.statuses.specs.Words.{two, nothing, placed, refusalWords, readingWords, replyWords, askWords, placeWords, valueWords}
 use Rattle.statuses.proofs.Laws.{no-bits, IsBandwidth, status-3}
-use Rattle.status_entries.specs.Answered.{Answers}
+use Rattle.statuses.specs.Answered.{Answers}
 
 -- ---- a question that finds a bandwidth
 

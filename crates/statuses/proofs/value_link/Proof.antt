@@ -1,12 +1,12 @@
 -- Nothing where it is refused or SRLG; else where it stands in run A.
-use Rattle.status_entries.proofs.Laws.{place-refused, place-srlg, place-first}
+use Rattle.statuses.proofs.EntryLaws.{place-refused, place-srlg, place-first}
 use Rattle.isis_values.proofs.Checks.{asked-refused, asked-passed, asked-with, asked-in-a}
 use Rattle.isis.specs.Link.{linkSource}
 use Rattle.replies.specs.Told.{subjectOf}
 use borrow.Author.Tests.{ne-eqb}
 use borrow.Author.Needs.{needs}
-use Rattle.status_entries.proofs.value_link.Statement.{statement}
-use Rattle.status_entries.proofs.value_link.Tie as tie
+use Rattle.statuses.proofs.value_link.Statement.{statement}
+use Rattle.statuses.proofs.value_link.Tie as tie
 
 check-asked-requires : tie.Need-check-asked-requires
 check-asked-requires c κs = search needs

@@ -1,5 +1,5 @@
 -- A float by the bits of its four bytes; any other form by its reading.
-use Rattle.status_entries.proofs.Laws.{float-words, other-words}
+use Rattle.statuses.proofs.EntryLaws.{float-words, other-words}
 use Rattle.octets.proofs.Laws.{part-is, length-bytesAt}
 use Rattle.kinds.specs.Rules.{toldForm}
 use Rattle.answering.specs.Standing.{Readable}
@@ -8,8 +8,8 @@ use Rattle.linkstate.specs.Kinds.{Form}
 use lib.ListN.{length}
 use mathlib.Core.Path.{sym, ap, _∙_, subst}
 use borrow.Author.Needs.{needs}
-use Rattle.status_entries.proofs.standing_words.Statement.{statement}
-use Rattle.status_entries.proofs.standing_words.Tie as tie
+use Rattle.statuses.proofs.standing_words.Statement.{statement}
+use Rattle.statuses.proofs.standing_words.Tie as tie
 
 form-of-requires : tie.Need-form-of-requires
 form-of-requires c κs = search needs

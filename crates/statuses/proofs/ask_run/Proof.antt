@@ -1,11 +1,11 @@
 -- SRLGs as the entry answers them; any other kind by its value.
-use Rattle.status_entries.proofs.Laws.{answered-srlg}
+use Rattle.statuses.proofs.EntryLaws.{answered-srlg}
 use Rattle.linkstate.specs.BgpLs.{runSource}
 use Rattle.replies.specs.Told.{subjectOf}
 use borrow.Author.Tests.{ne-eqb}
 use borrow.Author.Needs.{needs}
-use Rattle.status_entries.proofs.ask_run.Statement.{statement}
-use Rattle.status_entries.proofs.ask_run.Tie as tie
+use Rattle.statuses.proofs.ask_run.Statement.{statement}
+use Rattle.statuses.proofs.ask_run.Tie as tie
 
 ask-requires : tie.Need-ask-requires
 ask-requires c κs = search needs

@@ -15,7 +15,7 @@ use Rattle.linkstate.specs.Elements.{Element, element, cut, elements, faults}
 use Rattle.linkstate.specs.Attributes.{Attribute, ofKind, srlgs}
 use Rattle.linkstate.specs.Questions.{Source, Subject, generally, standardNo, userNo, numberTooHigh, given, beforeAnswer, firstOf, unwritten, srlgAnswer, answer, ask, listNamed, write}
 use Rattle.linkstate.specs.BgpLs as L
-use Rattle.linkstate.specs.BgpLs.{runVerdict}
+use Rattle.linkstate.specs.BgpLs.{runVerdict, runSource}
 use Rattle.linkstate.specs.Masks.{user, asNumber}
 use Rattle.linkstate.specs.Sides.{Advertisement, names, named, namedWithL, ofLive, rsvpTeAlone}
 use Rattle.linkstate.specs.Why.{Rule, Holder, Why, because, whyRefused, Standing, has, legacyWhy, applicationWhy, rsvpTeWhy, subjectWhy, carriedWhy, bandwidthWhy, unlessAskRefused}
@@ -28,8 +28,7 @@ use Rattle.isis.specs.Types.{wrongInA}
 use Rattle.isis.specs.MaskHeader.{headerLength, maskTooLong, lForNobody, lFlag}
 use Rattle.isis.specs.Link.{linkVerdict, linkSource, exportLink}
 use Rattle.isis.specs.Why.{linkWhy, sideWhy, standA, standOf}
-use Rattle.linkstate.specs.BgpLs.{runSource}
 use Rattle.statuses.specs.Words.{runNumber, refusalWords, readingWords, replyWords, askWords, namedWords, lengthWords, whyWords}
 
 -- ---- refusals
 

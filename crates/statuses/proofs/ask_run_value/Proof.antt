@@ -1,5 +1,5 @@
 -- Refused by the question, refused by the bytes, absent, or read where it was found.
-use Rattle.status_entries.proofs.Laws.{asked-refused, asked-first, asked-row, none-first}
+use Rattle.statuses.proofs.EntryLaws.{asked-refused, asked-first, asked-row, none-first}
 use Rattle.bgpls_reader.proofs.Laws.{of-run}
 use Rattle.bgpls_reader.proofs.ValueLaws.{found-first, found-none, readable, answers, part-is-value, placed}
 use Rattle.linkstate.specs.Replies.{absent, runBgpLs, place}
@@ -9,8 +9,8 @@ use Rattle.replies.specs.Told.{subjectOf, toldChecked}
 use borrow.Author.Tests.{eqb-false}
 use mathlib.Core.Path.{sym, ap, _∙_}
 use borrow.Author.Needs.{needs}
-use Rattle.status_entries.proofs.ask_run_value.Statement.{statement}
-use Rattle.status_entries.proofs.ask_run_value.Tie as tie
+use Rattle.statuses.proofs.ask_run_value.Statement.{statement}
+use Rattle.statuses.proofs.ask_run_value.Tie as tie
 
 check-question-requires : tie.Need-check-question-requires
 check-question-requires c κs = search needs

@@ -1,5 +1,5 @@
 -- Absent, or read where it was found.
-use Rattle.status_entries.proofs.Laws.{asked-first, asked-row}
+use Rattle.statuses.proofs.EntryLaws.{asked-first, asked-row}
 use Rattle.isis_values.proofs.Laws.{row-readable, row-answers, row-part}
 use Rattle.answering.proofs.Laws.{row-absent}
 use Rattle.linkstate.specs.Replies.{absent, runA, place}
@@ -9,8 +9,8 @@ use borrow.Author.Tests.{eqb-false}
 use mathlib.Core.List.{[]}
 use mathlib.Core.Path.{refl, sym}
 use borrow.Author.Needs.{needs}
-use Rattle.status_entries.proofs.words_in_a.Statement.{statement}
-use Rattle.status_entries.proofs.words_in_a.Tie as tie
+use Rattle.statuses.proofs.words_in_a.Statement.{statement}
+use Rattle.statuses.proofs.words_in_a.Tie as tie
 
 find-row-requires : tie.Need-find-row-requires
 find-row-requires c κs = search needs

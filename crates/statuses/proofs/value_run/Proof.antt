@@ -1,5 +1,5 @@
 -- Nothing where it is refused, SRLG or absent; else the place that was found.
-use Rattle.status_entries.proofs.Laws.{place-refused, place-srlg, place-first, found-placed, found-nowhere}
+use Rattle.statuses.proofs.EntryLaws.{place-refused, place-srlg, place-first, found-placed, found-nowhere}
 use Rattle.bgpls_reader.proofs.Laws.{of-run}
 use Rattle.linkstate.specs.BgpLs.{runSource}
 use Rattle.linkstate.specs.Replies.{runBgpLs}
@@ -8,13 +8,13 @@ use Rattle.answering.proofs.Entries.{question-low, question-known, by-question,
 use Rattle.replies.specs.Told.{subjectOf, toldChecked}
 use borrow.Author.Tests.{ne-eqb}
 use borrow.Author.Needs.{needs}
-use Rattle.status_entries.proofs.value_run.Statement.{statement}
-use Rattle.status_entries.proofs.value_run.Tie as tie
+use Rattle.statuses.proofs.value_run.Statement.{statement}
+use Rattle.statuses.proofs.value_run.Tie as tie
 use Rattle.answering.proofs.check_question.Reads as check-question-reads
 use Rattle.bgpls_check.proofs.check_run.Reads as check-run-reads
 use Rattle.bgpls_reader.proofs.find_value.Reads as find-value-reads
 use Rattle.statuses.proofs.no_words.Reads as no-words-reads
 use Rattle.statuses.proofs.place_words.Reads as place-words-reads
 
 check-question-requires : tie.Need-check-question-requires
 check-question-requires c κs = search needs

@@ -1,11 +1,11 @@
 -- Refused before the answer, or answered from run A.
-use Rattle.status_entries.proofs.Laws as words
+use Rattle.statuses.proofs.EntryLaws as words
 use Rattle.isis_values.proofs.Checks.{asked-refused, asked-passed, asked-with, asked-in-a}
 use Rattle.isis.specs.Link.{linkSource}
 use Rattle.replies.specs.Told.{subjectOf}
 use borrow.Author.Needs.{needs}
-use Rattle.status_entries.proofs.ask_link_value.Statement.{statement}
-use Rattle.status_entries.proofs.ask_link_value.Tie as tie
+use Rattle.statuses.proofs.ask_link_value.Statement.{statement}
+use Rattle.statuses.proofs.ask_link_value.Tie as tie
 
 check-asked-requires : tie.Need-check-asked-requires
 check-asked-requires c κs = search needs

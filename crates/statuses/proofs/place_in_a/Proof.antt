@@ -1,12 +1,12 @@
 -- Nothing where it is absent, else the place that was found.
-use Rattle.status_entries.proofs.Laws.{row-placed, row-not-placed}
+use Rattle.statuses.proofs.EntryLaws.{row-placed, row-not-placed}
 use Rattle.isis_values.proofs.Laws.{row-answers}
 use Rattle.isis_grids.specs.Grid.{rowOf}
 use Rattle.linkstate.specs.Replies.{runA, place}
 use mathlib.Core.Path.{refl, sym, _∙_}
 use borrow.Author.Needs.{needs}
-use Rattle.status_entries.proofs.place_in_a.Statement.{statement}
-use Rattle.status_entries.proofs.place_in_a.Tie as tie
+use Rattle.statuses.proofs.place_in_a.Statement.{statement}
+use Rattle.statuses.proofs.place_in_a.Tie as tie
 
 find-row-requires : tie.Need-find-row-requires
 find-row-requires c κs = search needs
