@@ -23,7 +23,7 @@ use Rattle.isis.specs.Link.{linkSource}
 use Rattle.isis_index.specs.Started.{Started}
 use Rattle.isis_index.specs.Indexed.{Indexed}
 use Rattle.isis_index.proofs.Starting.{turned-both, started}
-use Rattle.isis_meaning.proofs.Sets.{resolves}
+use Rattle.isis_export.proofs.Sets.{resolves}
 use Rattle.isis_export.specs.declared.Link.{Link}
 use Rattle.isis_export.specs.Stages.{Ready, Unowned, Roomy}
 

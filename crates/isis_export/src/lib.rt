@@ -5,7 +5,6 @@ ghost use Prim.Native.Nat.{ℕ, _+_, _≤_};
 ghost use lib.ListN.{length, take};
 ghost use Rattle.linkstate.specs.Replies.{bytes};
 ghost use Rattle.linkstate.specs.Meaning.{meaning};
-ghost use Rattle.linkstate.specs.Export as Definitions;
 ghost use Rattle.replies.specs.Told.{toldWritten, toldExported};
 ghost use Rattle.masks.specs.Applications.{inBoth, inPair};
 ghost use Rattle.set_table.specs.Tables.{howMany};
@@ -17,12 +16,15 @@ ghost use Rattle.isis_srlg_index.specs.Sources.{Room};
 ghost use Rattle.isis_export.specs.Delivered.{Delivered};
 ghost use Rattle.isis_export.specs.Answers.{exportLength, answeredLink};
 ghost use Rattle.isis_export.specs.Stages.{PassedA, Passed, Joined, Ready, Unowned, Roomy};
+ghost use Rattle.linkstate.specs.Export as Definitions;
 use export_tables::Plan;
 use isis_check::LinkChecked;
 use isis_check::Sides;
 use naming::Names;
 use replies::Written;
 use srlg_table::Used;
+
+
 
 // Whom the sides of a link name, and whom either does, in masks as sent; how much of the sources of its SRLGs is used; and whether the length alone is asked for.
 struct Link {

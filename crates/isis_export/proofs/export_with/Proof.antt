@@ -1,6 +1,6 @@
 -- `isis_export::export_with` meets its contract: the walk of run A, and then the tables that it leaves. Assumes nothing.
 use mathlib.Core.Path.{refl}
-use Rattle.isis_meaning.proofs.Sets.{slotted}
+use Rattle.isis_export.proofs.Sets.{slotted}
 use Rattle.isis_export.proofs.Tables.{table-room, resolved}
 use borrow.Author.Needs.{needs}
 use Rattle.isis_export.proofs.export_with.Statement.{statement}
