@@ -30,8 +30,8 @@ use Rattle.isis_check.specs.declared.Sides.{Sides}
 use Rattle.isis_check.specs.declared.LinkChecked.{LinkChecked}
 use Rattle.isis_check.specs.declared.LinkChecked.the-variants.{Accepted}
 use Rattle.isis_check.specs.Sides.{NamedSides}
-use Rattle.isis_values.proofs.Checks.{b-passed, b-short, c-short}
-use Rattle.isis_values.proofs.Given.{given-in-b}
+use Rattle.isis_link.proofs.Checks.{b-passed, b-short, c-short}
+use Rattle.isis_link.proofs.Given.{given-in-b}
 use Rattle.isis_srlgs.specs.Runs.{Passed}
 use Rattle.isis_srlgs.proofs.Words.{no-srlgs}
 

@@ -15,7 +15,7 @@ ghost use Rattle.isis.specs.Link.{linkSource};
 ghost use Rattle.replies.specs.Told.{subjectOf, toldSpot, toldRun, toldRefusal, toldReading, toldAnswer, toldNamed, toldWritten, toldRule, toldHolder, toldWhy};
 ghost use Rattle.answering.specs.Standing.{Readable, standing};
 ghost use Rattle.statuses.specs.Words.{words, readingWords, askWords, placeWords, valueWords, two, nothing, placed, whomOf, least, runNumber, refusalWords, replyWords, namedWords, lengthWords, heldNumbers, whyWords};
-ghost use Rattle.isis_values.specs.Asked.{AskedInA};
+ghost use Rattle.isis_link.specs.Asked.{AskedInA};
 ghost use Rattle.statuses.specs.Answered.{Answers};
 ghost use Rattle.linkstate.specs.Why.{ruleNumber};
 use bgpls_find::Found;
@@ -52,7 +52,7 @@ fn words_in_a(a: &[u8], whom: Subject, code: usize, m: Names) -> Words
     requires { ⌜ AskedInA (now a) (subjectOf whom) code m ⌝ }
     ensures { λ r. ⌜ ((b c list : List ℕ) → beforeAnswer (linkSource (now (a .entry)) b c) (subjectOf whom) code ≡ accepted → Answers (linkSource (now (a .entry)) b c) (subjectOf whom) code list (words r) list) ⌝ }
 {
-    let row = isis_values::find_row(a, whom, code, m);
+    let row = isis_link::find_row(a, whom, code, m);
     let at = row[0];
     let size = row[1];
     if at == 0 {
@@ -66,7 +66,7 @@ fn ask_link_value(a: &[u8], b: &[u8], c: &[u8], whom: Subject, code: usize) -> W
     requires { ⌜ eqb code 1096 ≡ false ⌝ }
     ensures { λ r. ⌜ ((list : List ℕ) → Answers (linkSource (now (a .entry)) (now (b .entry)) (now (c .entry))) (subjectOf whom) code list (words r) list) ⌝ }
 {
-    match isis_values::check_asked(a, b, c, whom, code) {
+    match isis_link::check_asked(a, b, c, whom, code) {
         LinkChecked::Refused(x) => return statuses::refusal_words(x),
         LinkChecked::Accepted(names) => {
             let m = names.a;
@@ -120,7 +120,7 @@ fn place_in_a(a: &[u8], whom: Subject, code: usize, m: Names) -> Words
     requires { ⌜ AskedInA (now a) (subjectOf whom) code m ⌝ }
     ensures { λ r. ⌜ ((b c : List ℕ) → words r ≡ placeWords (place runA) (ofKind code (given (linkSource (now (a .entry)) b c) (subjectOf whom) code))) ⌝ }
 {
-    let row = isis_values::find_row(a, whom, code, m);
+    let row = isis_link::find_row(a, whom, code, m);
     let place = row[0];
     let len = row[1];
     if place == 0 {
@@ -133,7 +133,7 @@ fn place_in_a(a: &[u8], whom: Subject, code: usize, m: Names) -> Words
 pub fn value_link(a: &[u8], b: &[u8], c: &[u8], whom: Subject, code: usize) -> Words
     ensures { λ r. ⌜ words r ≡ valueWords (linkSource (now (a .entry)) (now (b .entry)) (now (c .entry))) (subjectOf whom) code ⌝ }
 {
-    match isis_values::check_asked(a, b, c, whom, code) {
+    match isis_link::check_asked(a, b, c, whom, code) {
         LinkChecked::Refused(_) => return statuses::no_words(),
         LinkChecked::Accepted(names) => {
             if code == 1096 {

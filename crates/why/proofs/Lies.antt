@@ -25,7 +25,7 @@ use Rattle.isis_grids.specs.Grid.{rowOf, firstRow}
 use Rattle.isis_grids.specs.Selected.{selects}
 use Rattle.isis_grids.proofs.Grids.{All}
 use Rattle.isis_grids.proofs.Places.{Stands, First, absent, present, first-of, value-none, live-stands}
-use Rattle.isis_values.proofs.Checks.{a-passed}
+use Rattle.isis_link.proofs.Checks.{a-passed}
 use Rattle.replies.specs.declared.Run.the-variants.{A}
 use Rattle.why.proofs.Has.{has-live}
 use Rattle.why.proofs.First.{Tied, holder-other}

@@ -47,7 +47,7 @@ use Rattle.rules.specs.Rules.{applicationRule, rsvpTeRule, bandwidthRule, subje
 use Rattle.rules.proofs.Laws.{none-naming, none-alone}
 use Rattle.rules.proofs.Rule.{the-type}
 use Rattle.rivals.proofs.RunLaws.{no-L}
-use Rattle.isis_values.specs.Asked.{AskedInA}
+use Rattle.isis_link.specs.Asked.{AskedInA}
 use Rattle.why.specs.Runs.{isHeld, standing, Ready, IsType, withKind, numberOf, isRsvpTe, linkAnswer, runAnswer}
 use Rattle.why.specs.Rules.{generalRule, namingWhy, namingFirstWhy, legacyFirstWhy, whyBy, bandwidthBy}
 use Rattle.why.proofs.Has.{has-is}

@@ -17,7 +17,7 @@ ghost use Rattle.replies.specs.Told.{toldHolder, toldRule, toldWhy, subjectOf};
 ghost use Rattle.naming.specs.Names.{Tells};
 ghost use Rattle.linkstate.specs.Sides.{named, namedWithL};
 ghost use Rattle.rules.specs.Rules.{applicationRule, subjectRule};
-ghost use Rattle.isis_values.specs.Asked.{AskedInA};
+ghost use Rattle.isis_link.specs.Asked.{AskedInA};
 ghost use Rattle.advertisements.specs.Tests.{passing};
 ghost use Rattle.why.specs.Runs.{isHeld, standing, Ready, IsType, withKind, numberOf, isRsvpTe, linkAnswer, runAnswer};
 ghost use Rattle.why.specs.Rules.{generalRule, namingWhy, namingFirstWhy, legacyFirstWhy, whyBy, bandwidthBy};
@@ -248,7 +248,7 @@ fn why_in_b(b: &[u8], whom: Subject, m: Names) -> Why
 pub fn link_why(a: &[u8], b: &[u8], c: &[u8], whom: Subject, code: usize) -> Why
     ensures { λ r. ⌜ toldWhy r ≡ linkWhy (now (a .entry)) (now (b .entry)) (now (c .entry)) (subjectOf whom) code ⌝ }
 {
-    match isis_values::check_asked(a, b, c, whom, code) {
+    match isis_link::check_asked(a, b, c, whom, code) {
         LinkChecked::Refused(x) => Why::Refused(x),
         LinkChecked::Accepted(names) => {
             if code == 1096 {

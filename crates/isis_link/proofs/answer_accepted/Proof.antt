@@ -1,6 +1,6 @@
 -- SRLGs of side B, every other kind of side A.
 use Rattle.isis_link.proofs.Laws.{passed, srlg-of-link}
-use Rattle.isis_values.proofs.Checks.{asked-in-a}
+use Rattle.isis_link.proofs.Checks.{asked-in-a}
 use Rattle.answering.proofs.Entries.{answer-srlg, answer-other}
 use Rattle.isis.specs.Link.{linkSource}
 use Rattle.replies.specs.Told.{subjectOf}

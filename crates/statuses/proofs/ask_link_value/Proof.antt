@@ -1,6 +1,6 @@
 -- Refused before the answer, or answered from run A.
 use Rattle.statuses.proofs.EntryLaws as words
-use Rattle.isis_values.proofs.Checks.{asked-refused, asked-passed, asked-with, asked-in-a}
+use Rattle.isis_link.proofs.Checks.{asked-refused, asked-passed, asked-with, asked-in-a}
 use Rattle.isis.specs.Link.{linkSource}
 use Rattle.replies.specs.Told.{subjectOf}
 use borrow.Author.Needs.{needs}

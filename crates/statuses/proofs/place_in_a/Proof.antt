@@ -1,6 +1,6 @@
 -- Nothing where it is absent, else the place that was found.
 use Rattle.statuses.proofs.EntryLaws.{row-placed, row-not-placed}
-use Rattle.isis_values.proofs.Laws.{row-answers}
+use Rattle.isis_link.proofs.ValueLaws.{row-answers}
 use Rattle.isis_grids.specs.Grid.{rowOf}
 use Rattle.linkstate.specs.Replies.{runA, place}
 use mathlib.Core.Path.{refl, sym, _∙_}

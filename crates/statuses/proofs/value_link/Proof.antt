@@ -1,6 +1,6 @@
 -- Nothing where it is refused or SRLG; else where it stands in run A.
 use Rattle.statuses.proofs.EntryLaws.{place-refused, place-srlg, place-first}
-use Rattle.isis_values.proofs.Checks.{asked-refused, asked-passed, asked-with, asked-in-a}
+use Rattle.isis_link.proofs.Checks.{asked-refused, asked-passed, asked-with, asked-in-a}
 use Rattle.isis.specs.Link.{linkSource}
 use Rattle.replies.specs.Told.{subjectOf}
 use borrow.Author.Tests.{ne-eqb}

@@ -1,6 +1,6 @@
 -- Absent, or read where it was found.
 use Rattle.statuses.proofs.EntryLaws.{asked-first, asked-row}
-use Rattle.isis_values.proofs.Laws.{row-readable, row-answers, row-part}
+use Rattle.isis_link.proofs.ValueLaws.{row-readable, row-answers, row-part}
 use Rattle.answering.proofs.Laws.{row-absent}
 use Rattle.linkstate.specs.Replies.{absent, runA, place}
 use Rattle.isis.specs.Link.{linkSource}

@@ -1,6 +1,6 @@
 -- Refused before the answer, or told of the side that the kind stands on.
 use Rattle.why.proofs.Rules.{why-refused, why-told, tells-b, as-srlg}
-use Rattle.isis_values.proofs.Checks.{asked-refused, asked-passed, asked-with, asked-in-a, b-passed}
+use Rattle.isis_link.proofs.Checks.{asked-refused, asked-passed, asked-with, asked-in-a, b-passed}
 use Rattle.isis.specs.Link.{linkSource}
 use Rattle.isis.specs.Why.{linkWhy}
 use Rattle.replies.specs.Told.{subjectOf}

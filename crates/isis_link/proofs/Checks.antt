@@ -21,7 +21,7 @@ use Rattle.isis_check.specs.declared.Sides.{Sides}
 use Rattle.isis_check.specs.declared.LinkChecked.{LinkChecked}
 use Rattle.isis_check.specs.declared.LinkChecked.the-variants.{Refused, Accepted}
 use Rattle.isis_check.specs.Sides.{toldLink, ChecksLink}
-use Rattle.isis_values.specs.Asked.{Asked, AskedBy, ChecksAsked, AskedInA}
+use Rattle.isis_link.specs.Asked.{Asked, AskedBy, ChecksAsked, AskedInA}
 
 -- ---- an accepted link
 

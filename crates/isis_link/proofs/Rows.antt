@@ -28,9 +28,9 @@ use Rattle.isis_grids.proofs.Grids.{All, Placed, placed-legacy, row-append}
 use Rattle.isis_grids.proofs.Aslas.{placed-selected, live-all}
 use Rattle.isis_grids.proofs.Rows.{first-present, first-absent}
 use Rattle.isis_grids.proofs.Places.{live-stands, value-none}
-use Rattle.isis_values.specs.Asked.{AskedInA}
-use Rattle.isis_values.proofs.Given.{given-in-a}
-use Rattle.isis_values.proofs.Laws.{some-type}
+use Rattle.isis_link.specs.Asked.{AskedInA}
+use Rattle.isis_link.proofs.Given.{given-in-a}
+use Rattle.isis_link.proofs.ValueLaws.{some-type}
 
 -- What a rule takes is a list with the same row.
 pub takes : (a : List ℕ) (k : ℕ) (rule r : Rule) (ts : List Attribute) (row : List ℕ) → rule ≡ r → rowOf k ts ≡ rowOf k (takenBy r k (sideA a)) → row ≡ rowOf k ts → row ≡ rowOf k (takenBy rule k (sideA a))

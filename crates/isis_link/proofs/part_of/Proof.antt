@@ -1,10 +1,10 @@
 -- Nothing, or the bytes of the row that was found.
-use Rattle.isis_values.proofs.Laws.{row-none, row-part, row-within}
+use Rattle.isis_link.proofs.ValueLaws.{row-none, row-part, row-within}
 use native.Mathlib.Omega.{arith}
 use mathlib.Core.List.{[]}
 use borrow.Author.Needs.{needs}
-use Rattle.isis_values.proofs.part_of.Statement.{statement}
-use Rattle.isis_values.proofs.part_of.Tie as tie
+use Rattle.isis_link.proofs.part_of.Statement.{statement}
+use Rattle.isis_link.proofs.part_of.Tie as tie
 
 find-row-requires : tie.Need-find-row-requires
 find-row-requires c κs = search needs

@@ -1,9 +1,9 @@
 -- The first list's row, or the second's.
-use Rattle.isis_values.proofs.Rows.{live-there, live-absent}
+use Rattle.isis_link.proofs.Rows.{live-there, live-absent}
 use denote.Ref.{now}
 use borrow.Author.Needs.{needs}
-use Rattle.isis_values.proofs.live_first.Statement.{statement}
-use Rattle.isis_values.proofs.live_first.Tie as tie
+use Rattle.isis_link.proofs.live_first.Statement.{statement}
+use Rattle.isis_link.proofs.live_first.Tie as tie
 
 live-row-requires : tie.Need-live-row-requires
 live-row-requires c κs = search needs

@@ -1,10 +1,10 @@
 -- Refused by the question, or as the link is checked.
-use Rattle.isis_values.proofs.Checks.{refused-first, as-link}
+use Rattle.isis_link.proofs.Checks.{refused-first, as-link}
 use Rattle.replies.specs.Told.{subjectOf, toldChecked}
 use mathlib.Core.Path.{sym, ap, _∙_}
 use borrow.Author.Needs.{needs}
-use Rattle.isis_values.proofs.check_asked.Statement.{statement}
-use Rattle.isis_values.proofs.check_asked.Tie as tie
+use Rattle.isis_link.proofs.check_asked.Statement.{statement}
+use Rattle.isis_link.proofs.check_asked.Tie as tie
 
 check-question-requires : tie.Need-check-question-requires
 check-question-requires c κs = search needs

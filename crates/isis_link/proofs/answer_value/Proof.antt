@@ -1,9 +1,9 @@
 -- The reply of the row that was found.
-use Rattle.isis_values.proofs.Laws.{row-readable, row-answers}
+use Rattle.isis_link.proofs.ValueLaws.{row-readable, row-answers}
 use mathlib.Core.List.{[]}
 use borrow.Author.Needs.{needs}
-use Rattle.isis_values.proofs.answer_value.Statement.{statement}
-use Rattle.isis_values.proofs.answer_value.Tie as tie
+use Rattle.isis_link.proofs.answer_value.Statement.{statement}
+use Rattle.isis_link.proofs.answer_value.Tie as tie
 
 find-row-requires : tie.Need-find-row-requires
 find-row-requires c κs = search needs

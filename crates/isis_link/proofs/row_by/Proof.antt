@@ -1,5 +1,5 @@
 -- Rule by rule.
-use Rattle.isis_values.proofs.Rows.{takes, naming-first}
+use Rattle.isis_link.proofs.Rows.{takes, naming-first}
 use Rattle.isis_grids.specs.Selected.{selects}
 use Rattle.rules.specs.declared.Rule.the-variants.{ByL, Naming, General, Legacy, NamingFirst, AloneFirst, LegacyFirst}
 use Rattle.rules.specs.Rules.{takenBy}
@@ -7,8 +7,8 @@ use Rattle.linkstate.specs.Sides.{generalSet}
 use denote.Ref.{now}
 use mathlib.Core.Path.{refl}
 use borrow.Author.Needs.{needs}
-use Rattle.isis_values.proofs.row_by.Statement.{statement}
-use Rattle.isis_values.proofs.row_by.Tie as tie
+use Rattle.isis_link.proofs.row_by.Statement.{statement}
+use Rattle.isis_link.proofs.row_by.Tie as tie
 
 enum-told : tie.Need-enum-told
 enum-told c = search needs

@@ -1,10 +1,10 @@
 -- The row that the rule takes is that of what the subject is given.
-use Rattle.isis_values.proofs.Rows.{type-known, type-other, row-given}
+use Rattle.isis_link.proofs.Rows.{type-known, type-other, row-given}
 use Rattle.isis.specs.RunA.{sideA}
 use denote.Ref.{now}
 use borrow.Author.Needs.{needs}
-use Rattle.isis_values.proofs.find_row.Statement.{statement}
-use Rattle.isis_values.proofs.find_row.Tie as tie
+use Rattle.isis_link.proofs.find_row.Statement.{statement}
+use Rattle.isis_link.proofs.find_row.Tie as tie
 
 decide-requires : tie.Need-decide-requires
 decide-requires c κs = search needs

@@ -1,9 +1,9 @@
 -- The first list's row, or the second's.
-use Rattle.isis_values.proofs.Rows.{legacy-there, legacy-absent}
+use Rattle.isis_link.proofs.Rows.{legacy-there, legacy-absent}
 use denote.Ref.{now}
 use borrow.Author.Needs.{needs}
-use Rattle.isis_values.proofs.legacy_first.Statement.{statement}
-use Rattle.isis_values.proofs.legacy_first.Tie as tie
+use Rattle.isis_link.proofs.legacy_first.Statement.{statement}
+use Rattle.isis_link.proofs.legacy_first.Tie as tie
 
 legacy-row-requires : tie.Need-legacy-row-requires
 legacy-row-requires c κs = search needs
