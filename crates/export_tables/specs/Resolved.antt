@@ -10,8 +10,8 @@ use Rattle.linkstate.specs.Attributes.{srlgs}
 use Rattle.linkstate.specs.Sides.{Side, generalSet, applicationSet, rsvpTeKind}
 use Rattle.linkstate.specs.Meaning.{Meaning, row}
 use Rattle.linkstate.specs.Export.{topValue}
-use Rattle.naming.specs.declared.Names.{Names}
-use Rattle.naming.specs.Names.{Tells}
+use Rattle.rules.specs.declared.Names.{Names}
+use Rattle.rules.specs.Names.{Tells}
 use Rattle.srlg_table.specs.declared.Used.{Used}
 use Rattle.srlg_classes.specs.Owned.{classAt, Roomy}
 use Rattle.srlg_classes.specs.Sided.{Sourced}

@@ -18,8 +18,8 @@ ghost use Rattle.export_bytes.specs.Whole.{Tables, Entered, answered};
 ghost use Rattle.export_bytes.specs.Describes.{Describes};
 ghost use Rattle.export_tables.specs.Resolved.{Resolves, Slotted, Listed, Room};
 use export_bytes::Top;
-use naming::Names;
 use replies::Written;
+use rules::Names;
 use srlg_table::Used;
 
 // What an export goes by: the applications that are named, in masks as sent; whom the side of the SRLGs names; how much of their sources is used; how many slots there are, and which is that

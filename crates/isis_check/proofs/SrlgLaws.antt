@@ -16,11 +16,11 @@ use Rattle.linkstate.specs.Sides.{names}
 use Rattle.linkstate.proofs.ElementLaws.{none-left}
 use Rattle.replies.specs.declared.Refusal.{Refusal as Fault}
 use Rattle.replies.specs.Told.{toldRefusal}
-use Rattle.naming.specs.declared.Names.{Names}
-use Rattle.naming.specs.declared.Checking.{Checking}
-use Rattle.naming.specs.declared.Checking.the-variants.{Refused, Accepted}
-use Rattle.naming.specs.Names.{Adds, ChecksBehind}
-use Rattle.naming.proofs.Laws.{adds-none}
+use Rattle.rules.specs.declared.Names.{Names}
+use Rattle.rules.specs.declared.Checking.{Checking}
+use Rattle.rules.specs.declared.Checking.the-variants.{Refused, Accepted}
+use Rattle.rules.specs.Names.{Adds, ChecksBehind}
+use Rattle.rules.proofs.NameLaws.{adds-none}
 use Rattle.isis.specs.MaskHeader.{headerLength, maskTooLong, lForNobody, advertisement}
 use Rattle.isis.specs.RunB.{identifierBytes, identifiers, srlgValues, checkIdentifier, identifier, knownIdentifiers, times, repeats, identifies, ignored, liveSrlg, checkSrlg, checkB, afterNeighbour, srlgAdvertisement, srlgAdvertisements}
 use Rattle.isis_check_a.specs.declared.Header.{Header}

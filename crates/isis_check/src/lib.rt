@@ -6,7 +6,7 @@ ghost use Prim.Native.Nat.{ℕ, _+_, _≤_, _<_};
 ghost use lib.ListN.{length};
 ghost use Rattle.linkstate.specs.Replies.{runB};
 ghost use Rattle.linkstate.specs.Elements.{element, elements, faults};
-ghost use Rattle.naming.specs.Names.{Adds, Checks, ChecksBehind};
+ghost use Rattle.rules.specs.Names.{Adds, Checks, ChecksBehind};
 ghost use Rattle.isis_check_a.specs.Headers.{headerOf, advertisedAt, valueIn};
 ghost use Rattle.isis.specs.RunB.{checkIdentifier, checkB, liveSrlg, srlgAdvertisements, sideB};
 ghost use Rattle.isis_check.specs.Identifiers.{knownOf, tallyOf, identifiedBy, identifiedIn, onceAndPaired, identifiersIn, Lists};
@@ -18,10 +18,10 @@ use frames::Frame;
 use frames::frame_one;
 use isis_check_a::Header;
 use isis_check_a::Masks;
-use naming::Checking;
-use naming::Names;
 use replies::Refusal;
 use replies::Run;
+use rules::Checking;
+use rules::Names;
 
 // A type of link identifier: the length of its value, and its weight in a tally of types, 0 where the type is none of the five known ones.
 pub struct Known {
@@ -248,7 +248,7 @@ fn check_tlv(b: &[u8], at: usize, end: usize, names: Names) -> Checking
 {
     let head = at + 9;
     if end < head + 2 {
-        return naming::refuse(3, Run::B, at);
+        return rules::refuse(3, Run::B, at);
     }
     let h = isis_check_a::read_header(&b[head..end]);
     match check_srlg(b, h, at, end) {
@@ -263,12 +263,12 @@ pub fn check_b(b: &[u8]) -> Checking
     requires { ⌜ length (now b) < 4294967296 ⌝ }
     ensures { λ r. ⌜ ((c : List ℕ) → Checks (faults runB checkB (elements 1 0 (now (b .entry)))) ((sideB (now (b .entry)) c) .live) r) ⌝ }
 {
-    let mut names = naming::nobody();
+    let mut names = rules::nobody();
     let mut at = 0;
     loop {
         match frame_one(b, at) {
             Frame::End => return Checking::Accepted(names),
-            Frame::Cut => return naming::refuse(3, Run::B, at),
+            Frame::Cut => return rules::refuse(3, Run::B, at),
             Frame::Whole { kind: _, len } => {
                 let next = at + 2 + len;
                 if b[at] == 238 {
@@ -347,7 +347,7 @@ fn check_side_b(b: &[u8]) -> Checking
     ensures { λ r. ⌜ ((c : List ℕ) → Checks (faults runB checkB (elements 1 0 (now (b .entry)))) ((sideB (now (b .entry)) c) .live) r) ⌝ }
 {
     if b.len() == 0 {
-        return Checking::Accepted(naming::nobody());
+        return Checking::Accepted(rules::nobody());
     }
     check_b(b)
 }

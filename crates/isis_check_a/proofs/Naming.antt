@@ -22,11 +22,11 @@ use Rattle.replies.specs.declared.Refusal.{Refusal as Fault}
 use Rattle.replies.specs.declared.Checked.{Checked}
 use Rattle.replies.specs.declared.Checked.the-variants as Check
 use Rattle.replies.specs.Told.{toldRefusal, toldChecked}
-use Rattle.naming.specs.declared.Names.{Names}
-use Rattle.naming.specs.declared.Checking.{Checking}
-use Rattle.naming.specs.declared.Checking.the-variants.{Refused, Accepted}
-use Rattle.naming.specs.Names.{advertised, Tells, Adds, toldChecking, Checks, Added, ChecksBehind}
-use Rattle.naming.proofs.Laws.{Ahead, ahead-start, ahead-end, ahead-turn, adds-none, adds-as}
+use Rattle.rules.specs.declared.Names.{Names}
+use Rattle.rules.specs.declared.Checking.{Checking}
+use Rattle.rules.specs.declared.Checking.the-variants.{Refused, Accepted}
+use Rattle.rules.specs.Names.{advertised, Tells, Adds, toldChecking, Checks, Added, ChecksBehind}
+use Rattle.rules.proofs.NameLaws.{Ahead, ahead-start, ahead-end, ahead-turn, adds-none, adds-as}
 use Rattle.frames.specs.declared.Frame.the-variants as Frame
 use Rattle.frames.specs.Frames.{frameIn}
 use Rattle.frames.proofs.Laws.{IsWhole, frame-says, turn-end, turn-cut, turn-passed, turn-refused}
@@ -37,9 +37,7 @@ use Rattle.isis_check_a.specs.declared.Header.{Header}
 use Rattle.isis_check_a.specs.declared.Masks.{Masks}
 use Rattle.isis_check_a.specs.declared.Masks.the-variants.{Ignored, Past, End}
 use Rattle.isis_check_a.specs.Headers.{headerOf, tooLong, masksIn, advertisedAt, valueIn}
-use Rattle.isis_check_a.proofs.Laws.{attribute-fits, attribute-wrong}
-use Rattle.isis_check_a.proofs.Laws.{sub-tlv-asla, sub-tlv-other, header-l, header-too-long, header-bytes, drop-take, front-is, part-in, part-of-part, part-in-length}
-use Rattle.isis_check_a.proofs.Laws.{Ends, masks-say, asla-ignored, asla-past, asla-l, asla-list}
+use Rattle.isis_check_a.proofs.Laws.{attribute-fits, attribute-wrong, sub-tlv-asla, sub-tlv-other, header-l, header-too-long, header-bytes, drop-take, front-is, part-in, part-of-part, part-in-length, Ends, masks-say, asla-ignored, asla-past, asla-l, asla-list}
 
 -- ---- the masks behind a header that stands at a place
 

@@ -6,16 +6,16 @@ ghost use lib.ListN.{length, take, drop};
 ghost use Rattle.linkstate.specs.Replies.{runA, fault};
 ghost use Rattle.linkstate.specs.Elements.{element, elements, faults};
 ghost use Rattle.replies.specs.Told.{toldRun, toldChecked};
-ghost use Rattle.naming.specs.Names.{Adds, Checks, ChecksBehind};
+ghost use Rattle.rules.specs.Names.{Adds, Checks, ChecksBehind};
 ghost use Rattle.isis.specs.Types.{wrongInA};
 ghost use Rattle.isis.specs.RunA.{checkAttribute, checkAsla, checkA, aslaAdvertisements, sideA};
 ghost use Rattle.isis_check_a.specs.Headers.{headerOf, tooLong, forNobody, bytesBefore, masksIn, advertisedAt, valueIn};
 use frames::Frame;
 use frames::frame_one;
-use naming::Checking;
-use naming::Names;
 use replies::Checked;
 use replies::Run;
+use rules::Checking;
+use rules::Names;
 
 // The first bytes of an ASLA, and of what follows the neighbour in a TLV 238: the L-flag, and how many bytes each mask has.
 pub struct Header {
@@ -171,12 +171,12 @@ fn check_asla(a: &[u8], at: usize, end: usize, names: Names) -> Checking
 {
     let value = at + 2;
     if end < value + 2 {
-        return naming::refuse(3, Run::A, at);
+        return rules::refuse(3, Run::A, at);
     }
     let h = read_header(&a[value..end]);
     match masks_within(h, end - value) {
         Masks::Ignored => return Checking::Accepted(names),
-        Masks::Past => return naming::refuse(3, Run::A, at),
+        Masks::Past => return rules::refuse(3, Run::A, at),
         Masks::End(list) => {
             let all = names_with(names, h, a, value + 2);
             let l = h.l;
@@ -196,12 +196,12 @@ pub fn check_a(a: &[u8]) -> Checking
     requires { ⌜ length (now a) < 4294967296 ⌝ }
     ensures { λ r. ⌜ Checks (faults runA checkA (elements 1 0 (now (a .entry)))) ((sideA (now (a .entry))) .live) r ⌝ }
 {
-    let mut names = naming::nobody();
+    let mut names = rules::nobody();
     let mut at = 0;
     loop {
         match frame_one(a, at) {
             Frame::End => return Checking::Accepted(names),
-            Frame::Cut => return naming::refuse(3, Run::A, at),
+            Frame::Cut => return rules::refuse(3, Run::A, at),
             Frame::Whole { kind: _, len } => {
                 let next = at + 2 + len;
                 if a[at] == 16 {
@@ -213,7 +213,7 @@ pub fn check_a(a: &[u8]) -> Checking
                     }
                 } else {
                     if wrong_length(a[at], len) {
-                        return naming::refuse(4, Run::A, at);
+                        return rules::refuse(4, Run::A, at);
                     }
                 }
                 at = next;

@@ -14,8 +14,8 @@ use Rattle.linkstate.specs.Meaning.{meaning}
 use Rattle.linkstate.specs.Export.{export}
 use Rattle.linkstate.proofs.ListLaws.{and-l, and-r, or-l, or-r}
 use Rattle.linkstate.proofs.WalkLaws.{then-first, then-second, unrefused}
-use Rattle.naming.specs.declared.Names.{Names}
-use Rattle.naming.specs.Names.{Tells}
+use Rattle.rules.specs.declared.Names.{Names}
+use Rattle.rules.specs.Names.{Tells}
 use Rattle.srlg.specs.Ascending.{ascending}
 use Rattle.srlg_ranks.specs.Ranks.{picked, keepFrom}
 use Rattle.srlg_table.specs.declared.Used.{Used}

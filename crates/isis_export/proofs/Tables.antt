@@ -9,9 +9,9 @@ use Rattle.linkstate.specs.Masks.{inNumber}
 use Rattle.linkstate.specs.Sides.{named}
 use Rattle.linkstate.specs.Meaning.{meaning}
 use Rattle.masks.specs.Sets.{inSent}
-use Rattle.naming.specs.declared.Names.{Names}
+use Rattle.rules.specs.declared.Names.{Names}
 use Rattle.masks.specs.Applications.{inBoth, inPair}
-use Rattle.naming.proofs.Laws.{side-named}
+use Rattle.rules.proofs.NameLaws.{side-named}
 use Rattle.set_table.specs.Tables.{howMany, Owned, Begun}
 use Rattle.set_table.proofs.Assigns.{many-same}
 use Rattle.set_groups.specs.Table.{left}

@@ -7,8 +7,8 @@ use lib.ListN.{length, getD, replicate}
 use Rattle.linkstate.specs.Limits.{mostSources}
 use Rattle.linkstate.specs.Replies.{accepted, runA, runB}
 use Rattle.linkstate.specs.Elements.{elements, faults}
-use Rattle.naming.specs.declared.Names.{Names}
-use Rattle.naming.specs.Names.{Tells}
+use Rattle.rules.specs.declared.Names.{Names}
+use Rattle.rules.specs.Names.{Tells}
 use Rattle.masks.specs.Applications.{inBoth}
 use Rattle.srlg_ranks.specs.Ranks.{inWords}
 use Rattle.srlg_table.specs.Blocks.{sizeOf}

@@ -20,8 +20,8 @@ ghost use Rattle.linkstate.specs.Export as Definitions;
 use export_tables::Plan;
 use isis_check::LinkChecked;
 use isis_check::Sides;
-use naming::Names;
 use replies::Written;
+use rules::Names;
 use srlg_table::Used;
 
 

@@ -15,7 +15,7 @@ use Rattle.masks.specs.Sets.{turnedPlace}
 use Rattle.kinds.specs.Rules.{gridCodes, rowIn}
 use Rattle.isis_kinds.proofs.Computing.{computing}
 use Rattle.isis.proofs.TypeLaws.{wrongOfCode}
-use Rattle.naming.specs.declared.Names.{Names}
+use Rattle.rules.specs.declared.Names.{Names}
 use Rattle.masks.specs.Applications.{inBoth}
 use Rattle.grids.specs.Grids.{rowValue, gridValue, bandwidthOf, Alike}
 use Rattle.grids.specs.Slots.{cell, cellRow, slotGrid, linkRows, IsSet}

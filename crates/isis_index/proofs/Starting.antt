@@ -12,8 +12,8 @@ use Rattle.linkstate.specs.Masks.{inNumber}
 use Rattle.linkstate.specs.Sides.{Advertisement}
 use Rattle.masks.specs.Sets.{turnedPlace, inSent}
 use Rattle.masks.proofs.Steps.{turned-back}
-use Rattle.naming.specs.declared.Names.{Names}
-use Rattle.naming.specs.Names.{Tells}
+use Rattle.rules.specs.declared.Names.{Names}
+use Rattle.rules.specs.Names.{Tells}
 use Rattle.masks.specs.Applications.{inBoth, inPair}
 use Rattle.set_table.specs.Tables.{slotAt, Begun}
 use Rattle.isis_index.specs.Index.{owning, Ground, Owning}

@@ -5,7 +5,7 @@ use mathlib.Core.List.{List, []}
 use Prim.Native.Nat.{ℕ}
 use lib.Dec.{eqb}
 use lib.ListN.{length, getD, set}
-use Rattle.naming.specs.declared.Names.{Names}
+use Rattle.rules.specs.declared.Names.{Names}
 use Rattle.masks.specs.Applications.{inBoth}
 use Rattle.rules.specs.declared.Rule.{Rule}
 use Rattle.rules.specs.declared.Rule.the-variants.{ByL, Naming, General, Legacy, NamingFirst, AloneFirst, LegacyFirst}

@@ -5,7 +5,7 @@ use mathlib.Core.List.{List, []}
 use Prim.Native.Nat.{ℕ, _≤_, _<_}
 use lib.ListN.{length, getD}
 use Rattle.masks.specs.Sets.{turnedPlace}
-use Rattle.naming.specs.declared.Names.{Names}
+use Rattle.rules.specs.declared.Names.{Names}
 use Rattle.masks.specs.Applications.{inBoth}
 use Rattle.set_table.specs.Tables.{slotAt, Owned}
 use Rattle.isis_index.specs.Index.{Empty}

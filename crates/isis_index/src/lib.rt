@@ -7,7 +7,7 @@ ghost use lib.ListN.{length, getD, set};
 ghost use Rattle.linkstate.specs.Lists.{each};
 ghost use Rattle.linkstate.specs.Replies.{accepted, runA};
 ghost use Rattle.linkstate.specs.Elements.{elements, faults};
-ghost use Rattle.naming.specs.Names.{Tells};
+ghost use Rattle.rules.specs.Names.{Tells};
 ghost use Rattle.masks.specs.Applications.{inBoth, inPair};
 ghost use Rattle.isis.specs.RunA.{checkA, attributesOf, aslaAdvertisements, sideA};
 ghost use Rattle.grids.specs.Slots.{cell, IsSet};
@@ -17,7 +17,7 @@ ghost use Rattle.isis_index.specs.Started.{Started};
 ghost use Rattle.isis_index.specs.Settled.{settled, Settled, fromOld, rsvpTeSlot};
 ghost use Rattle.isis_index.specs.Indexed.{Indexed};
 use kinds::Kind;
-use naming::Names;
+use rules::Names;
 use rules::Rule;
 
 // A legacy attribute, by its type.
@@ -275,8 +275,8 @@ fn rsvp_te_slot(a: &[u8], named: Names, sets: &mut [[u32; 12]], own: &[[u8; 2]; 
     requires { ⌜ Table (now a) (now sets) × (1 < length (now sets)) × (inBoth (named .standard) (named .user) 0 ≡ true → IsSet (now sets) (slotAt (now own) 7)) ⌝ }
     ensures { λ r. ⌜ (r ≡ rsvpTeSlot named (now (own .entry))) × Table (now (a .entry)) (now (sets .exit)) × Given (now (sets .entry)) (now (sets .exit)) (fromOld (now (sets .entry)) r) ⌝ }
 {
-    let l = naming::is_named_with_l(named, 0);
-    let n = naming::is_named(named, 0);
+    let l = rules::is_named_with_l(named, 0);
+    let n = rules::is_named(named, 0);
     if let Rule::NamingFirst = rules::rsvp_te_rule(l, n) {
         let s = wide(own[7][0]);
         add_all_old(a, sets, s);
@@ -300,7 +300,7 @@ fn walk_and_settle(a: &[u8], named: Names, sets: &mut [[u32; 12]], own: &[[u8; 2
     ensures { λ _. ⌜ Settled (now (a .entry)) (now (own .entry)) (now (sets .entry)) (now (sets .exit)) (inBoth (named .lstandard) (named .luser) 0) ⌝ }
 {
     walk(a, sets, own);
-    settle(sets, naming::is_named_with_l(named, 0));
+    settle(sets, rules::is_named_with_l(named, 0));
 }
 
 // Run A, accepted, whose applications have their slots: the table of its sets, and the slot of every subject. The answer is the slot of RSVP-TE's set.

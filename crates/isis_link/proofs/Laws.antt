@@ -20,10 +20,10 @@ use Rattle.isis.specs.Link.{linkVerdict, linkSource}
 use Rattle.masks.proofs.Laws.{is-number}
 use Rattle.rivals.proofs.KindLaws.{standard-other, user-other}
 use Rattle.masks.specs.Sets.{inSent}
-use Rattle.naming.specs.declared.Names.{Names}
-use Rattle.naming.specs.Names.{Tells, Joins}
+use Rattle.rules.specs.declared.Names.{Names}
+use Rattle.rules.specs.Names.{Tells, Joins}
 use Rattle.masks.specs.Applications.{inBoth}
-use Rattle.naming.proofs.Laws.{side-named}
+use Rattle.rules.proofs.NameLaws.{side-named}
 use Rattle.answering.proofs.Entries.{ask-answered}
 use Rattle.rules.specs.Rules.{givenOn}
 use Rattle.isis_check.specs.declared.Sides.{Sides}

@@ -18,7 +18,7 @@ use Rattle.rules.specs.declared.Rule.the-variants.{NamingFirst}
 use Rattle.linkstate.specs.Questions.{Subject, given}
 use Rattle.isis.specs.Link.{linkSource}
 use Rattle.isis.proofs.TypeLaws.{none-wrong}
-use Rattle.naming.specs.declared.Names.{Names}
+use Rattle.rules.specs.declared.Names.{Names}
 use Rattle.rules.specs.Rules.{takenBy, givenOn}
 use Rattle.isis_grids.specs.declared.Which.{Which}
 use Rattle.isis_grids.specs.declared.Which.the-variants as W

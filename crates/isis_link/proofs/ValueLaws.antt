@@ -35,7 +35,7 @@ use Rattle.isis_grids.specs.Grid.{firstRow, rowOf, bgplsValue}
 use Rattle.isis_grids.specs.Selected.{selects}
 use Rattle.isis_grids.proofs.Grids.{All, all-append}
 use Rattle.isis_grids.proofs.Places.{Stands, legacy-stands, live-stands, First, absent, present, first-of, some-bytes, within}
-use Rattle.naming.specs.declared.Names.{Names}
+use Rattle.rules.specs.declared.Names.{Names}
 use Rattle.isis_link.specs.Asked.{AskedInA}
 use Rattle.isis_link.proofs.Given.{given-in-a}
 

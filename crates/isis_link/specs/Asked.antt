@@ -11,8 +11,8 @@ use Rattle.linkstate.specs.Questions.{Subject, numberTooHigh, beforeAnswer}
 use Rattle.isis.specs.RunA.{checkA, sideA}
 use Rattle.isis.specs.RunB.{sideB}
 use Rattle.isis.specs.Link.{linkVerdict, linkSource}
-use Rattle.naming.specs.declared.Names.{Names}
-use Rattle.naming.specs.Names.{Tells}
+use Rattle.rules.specs.declared.Names.{Names}
+use Rattle.rules.specs.Names.{Tells}
 use Rattle.isis_check.specs.declared.Sides.{Sides}
 use Rattle.isis_check.specs.declared.LinkChecked.{LinkChecked}
 use Rattle.isis_check.specs.declared.LinkChecked.the-variants.{Refused, Accepted}

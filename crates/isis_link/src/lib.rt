@@ -20,17 +20,17 @@ ghost use Rattle.isis_grids.specs.Selected.{selects};
 ghost use Rattle.isis_grids.specs.declared.Which.the-variants.{WithoutL};
 ghost use Rattle.isis_link.specs.Asked.{ChecksAsked, AskedInA, Asked};
 ghost use Rattle.isis.specs.RunB.{sideB};
-ghost use Rattle.naming.specs.Names.{Tells};
+ghost use Rattle.rules.specs.Names.{Tells};
 ghost use Rattle.isis_srlgs.specs.Runs.{Passed};
 use isis_check::LinkChecked;
 use isis_check::Sides;
 use isis_grids::Which;
-use naming::Names;
 use replies::Answer;
 use replies::Checked;
 use replies::Named;
 use replies::Run;
 use replies::Subject;
+use rules::Names;
 use rules::Rule;
 
 // look-up in run A by that rule.
@@ -200,7 +200,7 @@ pub fn named(a: &[u8], b: &[u8], c: &[u8]) -> Named
         LinkChecked::Accepted(names) => {
             let x = names.a;
             let y = names.b;
-            let m = naming::both(x, y);
+            let m = rules::both(x, y);
             let standard = masks::without(masks::turned(m.standard), 1);
             let user = masks::turned(m.user);
             Named::Listed { standard, user }

@@ -26,7 +26,7 @@ use Rattle.isis_check_a.specs.declared.Header.{Header}
 use Rattle.isis_check_a.specs.Headers.{headerOf}
 use Rattle.isis_check_a.proofs.Laws.{rest-is}
 use Rattle.masks.specs.Applications.{inBoth}
-use Rattle.naming.proofs.Laws.{in-none}
+use Rattle.rules.proofs.NameLaws.{in-none}
 use Rattle.isis.specs.MaskHeader.{lFlag, sabmLength, udabmLength, headerLength, maskTooLong, advertisement}
 use Rattle.isis.specs.RunB.{afterNeighbour, identifierBytes, srlgValues, liveSrlg}
 use Rattle.isis_tlvs_238.specs.declared.Which.{Which}

@@ -17,9 +17,9 @@ use Rattle.linkstate.specs.Sides.{Side, names}
 use Rattle.isis.specs.MaskHeader.{sabmLength, udabmLength, headerLength, maskTooLong, advertisement}
 use Rattle.isis.specs.RunB.{identifierBytes, checkB, sideB}
 use Rattle.linkstate.specs.Replies.{accepted, runB}
-use Rattle.naming.specs.Names.{Tells}
+use Rattle.rules.specs.Names.{Tells}
 use Rattle.masks.specs.Applications.{inBoth}
-use Rattle.naming.specs.declared.Names.{Names}
+use Rattle.rules.specs.declared.Names.{Names}
 use Rattle.srlg_sources.specs.declared.Keys.{Keys}
 use Rattle.srlg_sources.specs.Sources.{Small, keyOf, inRows, numbersOf, sourceRow}
 use Rattle.srlg_table.specs.Blocks.{namedBy}

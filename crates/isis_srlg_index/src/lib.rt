@@ -11,7 +11,7 @@ ghost use Rattle.isis.specs.MaskHeader.{lFlag};
 ghost use Rattle.isis.specs.RunB.{checkB, liveSrlg, sideB};
 ghost use Rattle.isis_srlg_index.specs.Sources.{noTlv, Passed, Readable, Lives, Says, RoomAt, Adds, Gathered, Unused, WithLegacy, Room, Ready, Indexes};
 use isis_check_a::Header;
-use naming::Names;
+use rules::Names;
 use srlg_sources::Keys;
 
 // What a TLV of run B says of SRLGs: whether its numbers are general ones, or for whom they are, as its masks were sent, and where in its value they begin.

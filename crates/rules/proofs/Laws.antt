@@ -16,10 +16,10 @@ use Rattle.linkstate.specs.Questions.{Subject, generally, standardNo, userNo, n
 use Rattle.replies.specs.declared.Subject.{Subject as Whom}
 use Rattle.replies.specs.declared.Subject.the-variants as W
 use Rattle.replies.specs.Told.{subjectOf}
-use Rattle.naming.specs.declared.Names.{Names}
-use Rattle.naming.specs.Names.{Tells}
+use Rattle.rules.specs.declared.Names.{Names}
+use Rattle.rules.specs.Names.{Tells}
 use Rattle.masks.specs.Applications.{inBoth}
-use Rattle.naming.proofs.Laws.{side-named, side-flagged}
+use Rattle.rules.proofs.NameLaws.{side-named, side-flagged}
 use Rattle.rules.specs.declared.Rule.{Rule}
 use Rattle.rules.specs.declared.Rule.the-variants.{ByL, Naming, General, Legacy, NamingFirst, AloneFirst, LegacyFirst}
 use Rattle.rules.specs.Rules.{applicationRule, rsvpTeRule, bandwidthRule, subjectRule, ruleOn, takenBy, setOn, givenOn}

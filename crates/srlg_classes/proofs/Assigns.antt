@@ -12,7 +12,7 @@ use Rattle.linkstate.specs.Masks.{inNumber}
 use Rattle.linkstate.proofs.ListLaws.{and-l, and-r, keep-mem, numbers-mem}
 use Rattle.srlg.proofs.Laws.{Order, less, more, same, order}
 use Rattle.masks.proofs.Steps.{zero-none}
-use Rattle.naming.specs.declared.Names.{Names}
+use Rattle.rules.specs.declared.Names.{Names}
 use Rattle.srlg_ranks.specs.Ranks.{inWords}
 use Rattle.srlg_ranks.proofs.Bits.{half-in, even-in, odd-in}
 use Rattle.srlg_sources.specs.Classes.{hasSource, inClass}

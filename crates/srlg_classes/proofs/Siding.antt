@@ -15,11 +15,11 @@ use Rattle.linkstate.specs.Attributes.{Attribute, ofKind, srlgs, valueOf}
 use Rattle.linkstate.specs.Sides.{Side, names, named, namedWithL, ofLive, generalSet, applicationSet, rsvpTeKind}
 use Rattle.linkstate.proofs.ListLaws.{any-keep, empty-nil}
 use Rattle.masks.specs.Sets.{turnedPlace}
-use Rattle.naming.specs.declared.Names.{Names}
-use Rattle.naming.specs.Names as naming
-use Rattle.naming.specs.Names.{Tells}
+use Rattle.rules.specs.declared.Names.{Names}
+use Rattle.rules.specs.Names as naming
+use Rattle.rules.specs.Names.{Tells}
 use Rattle.masks.specs.Applications.{inBoth}
-use Rattle.naming.proofs.Laws.{side-named, side-flagged}
+use Rattle.rules.proofs.NameLaws.{side-named, side-flagged}
 use Rattle.srlg_ranks.specs.Ranks.{keepFrom, inWords, picked}
 use Rattle.srlg_sources.specs.Classes.{classNumbers, Classed, classOf}
 use Rattle.srlg_table.proofs.Sizes.{low-bit, high-bit}

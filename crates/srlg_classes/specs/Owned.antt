@@ -8,7 +8,7 @@ use lib.ListN.{length, getD}
 use Rattle.linkstate.specs.Limits.{mostSources}
 use Rattle.linkstate.specs.Lists.{numbers, any}
 use Rattle.linkstate.specs.Masks.{inNumber}
-use Rattle.naming.specs.declared.Names.{Names}
+use Rattle.rules.specs.declared.Names.{Names}
 use Rattle.srlg_ranks.specs.Ranks.{inWords}
 use Rattle.srlg_sources.specs.Classes.{inClass}
 use Rattle.srlg_table.specs.Blocks.{sizeOf, naming, inBlock}

@@ -6,14 +6,14 @@ ghost use mathlib.Core.List.{List, [], _∷_};
 ghost use Prim.Native.Nat.{ℕ, _+_, _*_, _≤_, _<_};
 ghost use lib.ListN.{length, getD};
 ghost use Rattle.linkstate.specs.Sides.{Side};
-ghost use Rattle.naming.specs.Names.{Tells};
+ghost use Rattle.rules.specs.Names.{Tells};
 ghost use Rattle.masks.specs.Applications.{inBoth};
 ghost use Rattle.srlg_ranks.specs.Ranks.{inWords};
 ghost use Rattle.srlg_table.specs.Blocks.{sizeOf};
 ghost use Rattle.srlg_table.specs.Tables.{Rowed, Table};
 ghost use Rattle.srlg_classes.specs.Owned.{classAt, Slots, inHalf, Gave, Firsts, Assigned, NamedOwn, rsvpClass, FirstOwn, Roomy};
 ghost use Rattle.srlg_classes.specs.Sided.{Sourced, Classified};
-use naming::Names;
+use rules::Names;
 use srlg_table::Used;
 
 // The classes of the general set and of RSVP-TE, and how many classes there are.

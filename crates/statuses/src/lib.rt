@@ -21,7 +21,6 @@ ghost use Rattle.linkstate.specs.Why.{ruleNumber};
 use bgpls_find::Found;
 use isis_check::LinkChecked;
 use kinds::Form;
-use naming::Names;
 use replies::Answer;
 use replies::Checked;
 use replies::Holder;
@@ -33,6 +32,7 @@ use replies::Run;
 use replies::Subject;
 use replies::Why;
 use replies::Written;
+use rules::Names;
 use statuses::Words;
 
 // What the value of a code that stands at a place of a run reads as; the bits of a bandwidth are its own bytes.

@@ -39,8 +39,8 @@ use Rattle.advertisements.specs.declared.Test.{Test}
 use Rattle.advertisements.specs.declared.Test.the-variants as T
 use Rattle.advertisements.specs.Tests.{passing, isOf}
 use Rattle.advertisements.specs.Walks.{firstSuch}
-use Rattle.naming.specs.declared.Names.{Names}
-use Rattle.naming.specs.Names.{Tells}
+use Rattle.rules.specs.declared.Names.{Names}
+use Rattle.rules.specs.Names.{Tells}
 use Rattle.rules.specs.declared.Rule.{Rule}
 use Rattle.rules.specs.declared.Rule.the-variants.{ByL, Naming, General, Legacy, NamingFirst, AloneFirst, LegacyFirst}
 use Rattle.rules.specs.Rules.{applicationRule, rsvpTeRule, bandwidthRule, subjectRule, ruleOn}

@@ -14,7 +14,7 @@ ghost use Rattle.linkstate.specs.RunWhy.{topWhy, runWhy};
 ghost use Rattle.isis.specs.RunB.{checkB, sideB};
 ghost use Rattle.isis.specs.Why.{linkWhy};
 ghost use Rattle.replies.specs.Told.{toldHolder, toldRule, toldWhy, subjectOf};
-ghost use Rattle.naming.specs.Names.{Tells};
+ghost use Rattle.rules.specs.Names.{Tells};
 ghost use Rattle.linkstate.specs.Sides.{named, namedWithL};
 ghost use Rattle.rules.specs.Rules.{applicationRule, subjectRule};
 ghost use Rattle.isis_link.specs.Asked.{AskedInA};
@@ -24,13 +24,13 @@ ghost use Rattle.why.specs.Rules.{generalRule, namingWhy, namingFirstWhy
 use advertisements::Test;
 use advertisements::first_such;
 use isis_check::LinkChecked;
-use naming::Names;
 use replies::Checked;
 use replies::Holder;
 use replies::Rule;
 use replies::Run;
 use replies::Subject;
 use replies::Why;
+use rules::Names;
 
 // ---- the advertisement
 

@@ -3,7 +3,7 @@ use mathlib.Core.Path.{_≡_, ap, _∙_}
 use Prim.Native.Nat.{_+_}
 use native.Mathlib.Omega.{arith}
 use denote.Ref.{now}
-use Rattle.naming.proofs.Laws.{behind-as}
+use Rattle.rules.proofs.NameLaws.{behind-as}
 use Rattle.isis_check_a.specs.Headers.{headerOf}
 use Rattle.isis_check_a.proofs.Laws.{part-in}
 use Rattle.isis_check.specs.Parts.{behindIn}

@@ -6,7 +6,7 @@ use lib.ListN.{length, getD}
 use denote.Ref.{now}
 use borrow.Author.Needs.{needs}
 use Rattle.linkstate.specs.Replies.{runA}
-use Rattle.naming.proofs.Laws.{checks-as}
+use Rattle.rules.proofs.NameLaws.{checks-as}
 use Rattle.frames.proofs.Laws.{IsWhole, is-whole-one}
 use Rattle.isis.specs.RunA.{checkA, aslaAdvertisements, sideA}
 use Rattle.isis_check_a.proofs.Naming.{Walked, walked-start, walked-cut, walked-end, walked-on, walked-refused, asla-checks, legacy-wrong, legacy-over}

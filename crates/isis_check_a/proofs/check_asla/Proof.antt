@@ -3,7 +3,7 @@ use mathlib.Core.Path.{sym, _∙_}
 use Prim.Native.Nat.{_+_, _≤_}
 use native.Mathlib.Omega.{arith}
 use denote.Ref.{now}
-use Rattle.naming.proofs.Laws.{behind-as}
+use Rattle.rules.proofs.NameLaws.{behind-as}
 use Rattle.isis_check_a.proofs.Laws.{asla-short, lent-length, part-in-length}
 use Rattle.isis_check_a.proofs.Naming.{ignored-in, past-in, list-in, masks-in, flagged-in, listed-in, refused-in}
 use borrow.Author.Needs.{needs}

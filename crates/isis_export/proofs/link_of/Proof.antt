@@ -1,6 +1,6 @@
 -- `isis_export::link_of` meets its contract. Assumes nothing.
 use mathlib.Core.Path.{refl}
-use Rattle.naming.proofs.Laws.{in-joined}
+use Rattle.rules.proofs.NameLaws.{in-joined}
 use borrow.Author.Needs.{needs}
 use Rattle.isis_export.proofs.link_of.Statement.{statement}
 use Rattle.isis_export.proofs.link_of.Tie as tie

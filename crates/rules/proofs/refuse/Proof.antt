@@ -2,8 +2,8 @@
 use mathlib.Core.Path.{ap}
 use Rattle.linkstate.specs.Replies.{refused, fault}
 use borrow.Author.Needs.{needs}
-use Rattle.naming.proofs.refuse.Statement.{statement}
-use Rattle.naming.proofs.refuse.Tie as tie
+use Rattle.rules.proofs.refuse.Statement.{statement}
+use Rattle.rules.proofs.refuse.Tie as tie
 
 refuse-at-requires : tie.Need-refuse-at-requires
 refuse-at-requires c κs = search needs

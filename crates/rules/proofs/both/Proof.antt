@@ -1,8 +1,8 @@
 -- Mask by mask.
-use Rattle.naming.proofs.Laws.{in-joined}
+use Rattle.rules.proofs.NameLaws.{in-joined}
 use borrow.Author.Needs.{needs}
-use Rattle.naming.proofs.both.Statement.{statement}
-use Rattle.naming.proofs.both.Tie as tie
+use Rattle.rules.proofs.both.Statement.{statement}
+use Rattle.rules.proofs.both.Tie as tie
 
 joined-requires : tie.Need-joined-requires
 joined-requires c κs = search needs

@@ -9,9 +9,9 @@ use Rattle.linkstate.specs.Replies.{Verdict, accepted, refused}
 use Rattle.linkstate.specs.Sides.{Advertisement, names}
 use Rattle.masks.specs.Sets.{inSent}
 use Rattle.replies.specs.Told.{toldRefusal}
-use Rattle.naming.specs.declared.Names.{Names}
-use Rattle.naming.specs.declared.Checking.{Checking}
-use Rattle.naming.specs.declared.Checking.the-variants.{Refused, Accepted}
+use Rattle.rules.specs.declared.Names.{Names}
+use Rattle.rules.specs.declared.Checking.{Checking}
+use Rattle.rules.specs.declared.Checking.the-variants.{Refused, Accepted}
 use Rattle.masks.specs.Applications.{inBoth}
 
 -- The advertisement of an L-flag and two masks; whom it names does not depend on its attributes.

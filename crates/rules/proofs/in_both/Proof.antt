@@ -1,10 +1,10 @@
 -- The bit at its place in the mask.
 use mathlib.Core.Path.{_∙_}
-use Rattle.naming.proofs.Laws.{in-standard, in-user}
+use Rattle.rules.proofs.NameLaws.{in-standard, in-user}
 use native.Mathlib.Omega.{arith}
 use borrow.Author.Needs.{needs}
-use Rattle.naming.proofs.in_both.Statement.{statement}
-use Rattle.naming.proofs.in_both.Tie as tie
+use Rattle.rules.proofs.in_both.Statement.{statement}
+use Rattle.rules.proofs.in_both.Tie as tie
 
 mul-has : tie.Need-mul-has
 mul-has c = search needs

@@ -1,8 +1,8 @@
 -- No mask has a bit.
 use mathlib.Core.Path.{refl}
-use Rattle.naming.proofs.Laws.{tells-none}
-use Rattle.naming.proofs.nobody.Statement.{statement}
-use Rattle.naming.proofs.nobody.Tie as tie
+use Rattle.rules.proofs.NameLaws.{tells-none}
+use Rattle.rules.proofs.nobody.Statement.{statement}
+use Rattle.rules.proofs.nobody.Tie as tie
 
 returns : tie.Need-returns
 returns c = tells-none _ refl refl refl refl

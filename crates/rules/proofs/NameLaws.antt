@@ -12,11 +12,11 @@ use Rattle.linkstate.specs.Masks.{bit, inMasks, inNumber}
 use Rattle.linkstate.specs.Sides.{Advertisement, Side, names, named, namedWithL}
 use Rattle.linkstate.proofs.ListLaws.{any-append}
 use Rattle.masks.specs.Sets.{turnedPlace, inSent}
-use Rattle.naming.specs.declared.Names.{Names}
+use Rattle.rules.specs.declared.Names.{Names}
 use Rattle.linkstate.specs.Replies.{Verdict}
-use Rattle.naming.specs.declared.Checking.{Checking}
-use Rattle.naming.specs.declared.Checking.the-variants.{Refused, Accepted}
-use Rattle.naming.specs.Names.{advertised, Tells, Adds, Joins, toldChecking, Checks, ChecksBehind}
+use Rattle.rules.specs.declared.Checking.{Checking}
+use Rattle.rules.specs.declared.Checking.the-variants.{Refused, Accepted}
+use Rattle.rules.specs.Names.{advertised, Tells, Adds, Joins, toldChecking, Checks, ChecksBehind}
 use Rattle.masks.specs.Applications.{inBoth}
 
 -- ---- two numbers
