@@ -1,4 +1,4 @@
-// The C interface (include/nakhshirul.h): nine functions over the entries. A run is a pointer and a length, the reply four 64-bit numbers, the result a status.
+// The C interface (include/nakhshirul.h): ten functions over the entries. A run is a pointer and a length, the reply four 64-bit numbers, the result a status.
 // What each status and reply says is `askWords`, `valueWords`, `whyWords`, `namedWords` and `lengthWords` of the crate statuses. Every call is answered: no
 // function has a `requires`.
 ghost use mathlib.Core.Path.{_≡_};
@@ -8,6 +8,7 @@ ghost use Rattle.linkstate.specs.BgpLs.{runSource};
 ghost use Rattle.linkstate.specs.RunWhy.{runWhy};
 ghost use Rattle.isis.specs.Link.{linkSource, exportLink};
 ghost use Rattle.isis.specs.Why.{linkWhy};
+ghost use Rattle.isis_export.specs.Answers.{exportLength};
 ghost use Rattle.statuses.specs.Words.{whomOf, askWords, valueWords, namedWords, lengthWords, whyWords};
 
 // One kind of one subject of a link: status 0 to 5, or refused.
@@ -88,6 +89,21 @@ pub extern "C" fn nakhshirul_export(
     ensures { λ r. ⌜ (r ∷ now (reply .exit) ≡ lengthWords ((exportLink (now (a .entry)) (now (b .entry)) (now (c .entry)) (now (out .entry))) .reply)) × (now (out .exit) ≡ (exportLink (now (a .entry)) (now (b .entry)) (now (c .entry)) (now (out .entry))) .buffer) ⌝ }
 {
     let x = isis_export::export(a, b, c, out);
+    let w = statuses::length_words(x);
+    statuses::hand_over(w, reply)
+}
+
+// How much room the export of a link needs: status 7 with nothing written, or refused.
+#[no_mangle]
+pub extern "C" fn nakhshirul_export_length(
+    a: &[u8],
+    b: &[u8],
+    c: &[u8],
+    reply: &mut [u64; 4],
+) -> u64
+    ensures { λ r. ⌜ r ∷ now (reply .exit) ≡ lengthWords (exportLength (now (a .entry)) (now (b .entry)) (now (c .entry))) ⌝ }
+{
+    let x = isis_export::export_length(a, b, c);
     let w = statuses::length_words(x);
     statuses::hand_over(w, reply)
 }
