@@ -33,7 +33,6 @@ use replies::Subject;
 use replies::Why;
 use replies::Written;
 use rules::Names;
-use statuses::Words;
 
 // What the value of a code that stands at a place of a run reads as; the bits of a bandwidth are its own bytes.
 fn standing_words(s: &[u8], run: Run, code: usize, place: usize, len: usize) -> Words
@@ -42,9 +41,9 @@ fn standing_words(s: &[u8], run: Run, code: usize, place: usize, len: usize) -> 
 {
     let form = kinds::form_of(code);
     if let Form::Float = form {
-        return statuses::bits_words(&s[place..place + len]);
+        return bits_words(&s[place..place + len]);
     }
-    statuses::reading_words(answering::read_value(s, run, form, place, len))
+    reading_words(answering::read_value(s, run, form, place, len))
 }
 
 // What the value that a question to a link asks for reads as, by whom side A names.
@@ -56,7 +55,7 @@ fn words_in_a(a: &[u8], whom: Subject, code: usize, m: Names) -> Words
     let at = row[0];
     let size = row[1];
     if at == 0 {
-        return statuses::no_words();
+        return no_words();
     }
     standing_words(a, Run::A, code, at, size)
 }
@@ -67,7 +66,7 @@ fn ask_link_value(a: &[u8], b: &[u8], c: &[u8], whom: Subject, code: usize) -> W
     ensures { λ r. ⌜ ((list : List ℕ) → Answers (linkSource (now (a .entry)) (now (b .entry)) (now (c .entry))) (subjectOf whom) code list (words r) list) ⌝ }
 {
     match isis_link::check_asked(a, b, c, whom, code) {
-        LinkChecked::Refused(x) => return statuses::refusal_words(x),
+        LinkChecked::Refused(x) => return refusal_words(x),
         LinkChecked::Accepted(names) => {
             let m = names.a;
             return words_in_a(a, whom, code, m);
@@ -81,7 +80,7 @@ pub fn ask_link(a: &[u8], b: &[u8], c: &[u8], whom: Subject, code: usize, list: 
 {
     if code == 1096 {
         let x = isis_link::ask(a, b, c, whom, code, list);
-        return statuses::answer_words(x);
+        return answer_words(x);
     }
     ask_link_value(a, b, c, whom, code)
 }
@@ -92,15 +91,15 @@ fn ask_run_value(r: &[u8], whom: Subject, code: usize) -> Words
     ensures { λ x. ⌜ ((list : List ℕ) → Answers (runSource (now (r .entry))) (subjectOf whom) code list (words x) list) ⌝ }
 {
     match answering::check_question(whom, code) {
-        Checked::Refused(x) => return statuses::refusal_words(x),
+        Checked::Refused(x) => return refusal_words(x),
         Checked::Accepted => {}
     }
     match bgpls_check::check_run(r) {
-        Checked::Refused(x) => return statuses::refusal_words(x),
+        Checked::Refused(x) => return refusal_words(x),
         Checked::Accepted => {}
     }
     let Found::At { place, len } = bgpls_reader::find_value(r, whom, code) else {
-        return statuses::no_words();
+        return no_words();
     };
     standing_words(r, Run::BgpLs, code, place, len)
 }
@@ -110,7 +109,7 @@ pub fn ask_run(r: &[u8], whom: Subject, code: usize, list: &mut [u32]) -> Words
 {
     if code == 1096 {
         let x = bgpls_reader::ask(r, whom, code, list);
-        return statuses::answer_words(x);
+        return answer_words(x);
     }
     ask_run_value(r, whom, code)
 }
@@ -124,9 +123,9 @@ fn place_in_a(a: &[u8], whom: Subject, code: usize, m: Names) -> Words
     let place = row[0];
     let len = row[1];
     if place == 0 {
-        return statuses::no_words();
+        return no_words();
     }
-    statuses::place_words(Run::A, place, len)
+    place_words(Run::A, place, len)
 }
 
 // Where the value of a question to a link stands in run A.
@@ -134,10 +133,10 @@ pub fn value_link(a: &[u8], b: &[u8], c: &[u8], whom: Subject, code: usize) -> W
     ensures { λ r. ⌜ words r ≡ valueWords (linkSource (now (a .entry)) (now (b .entry)) (now (c .entry))) (subjectOf whom) code ⌝ }
 {
     match isis_link::check_asked(a, b, c, whom, code) {
-        LinkChecked::Refused(_) => return statuses::no_words(),
+        LinkChecked::Refused(_) => return no_words(),
         LinkChecked::Accepted(names) => {
             if code == 1096 {
-                return statuses::no_words();
+                return no_words();
             }
             let m = names.a;
             return place_in_a(a, whom, code, m);
@@ -150,20 +149,20 @@ pub fn value_run(r: &[u8], whom: Subject, code: usize) -> Words
     ensures { λ x. ⌜ words x ≡ valueWords (runSource (now (r .entry))) (subjectOf whom) code ⌝ }
 {
     match answering::check_question(whom, code) {
-        Checked::Refused(_) => return statuses::no_words(),
+        Checked::Refused(_) => return no_words(),
         Checked::Accepted => {}
     }
     match bgpls_check::check_run(r) {
-        Checked::Refused(_) => return statuses::no_words(),
+        Checked::Refused(_) => return no_words(),
         Checked::Accepted => {}
     }
     if code == 1096 {
-        return statuses::no_words();
+        return no_words();
     }
     let Found::At { place, len } = bgpls_reader::find_value(r, whom, code) else {
-        return statuses::no_words();
+        return no_words();
     };
-    statuses::place_words(Run::BgpLs, place, len)
+    place_words(Run::BgpLs, place, len)
 }
 
 // A status with the four numbers of its reply.

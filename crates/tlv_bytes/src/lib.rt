@@ -32,7 +32,7 @@ fn write_asla_head(s: usize, u: usize, len: usize, out: &mut [u8], at: usize)
     requires { ⌜ (s ≤ 8) × (u ≤ 8) × (len < 65536) × (at + 8 ≤ length (now out)) ⌝ }
     ensures { λ _. ⌜ now (out .exit) ≡ put (now (out .entry)) at (two 1122 ++ two len ++ (s ∷ u ∷ 0 ∷ 0 ∷ [])) ⌝ }
 {
-    tlv_bytes::write_head(out, at, 1122, len as u16);
+    write_head(out, at, 1122, len as u16);
     octets::write32(out, at + 4, (s as u32) * 16777216 + (u as u32) * 65536);
 }
 
