@@ -98,8 +98,8 @@ fn aslas_size(sets: &[[u32; 12]], classes: &[[u64; 4]], groups: &[[u64; 3]], fir
     ensures { λ r. ⌜ (r ≡ sumFrom (entrySize (now (sets .entry)) (now (classes .entry)) (now (groups .entry))) first (length (now (groups .entry)) - first)) × (r ≤ 640000003072) ⌝ }
 {
     let mut total: usize = 0;
-    for i in first..groups.len() {
-        total = total + asla_size(sets, classes, read_asla(groups, i));
+    for e in first..groups.len() {
+        total = total + asla_size(sets, classes, read_asla(groups, e));
     }
     total
 }

@@ -27,13 +27,13 @@ read-asla-requires : tie.Need-read-asla-requires Inv-loop μ-loop
 read-asla-requires c κs = search needs
 
 asla-size-requires : tie.Need-asla-size-requires Inv-loop μ-loop
-asla-size-requires c κs = let s = c .before .before .before in let l = c .before .before .loop in measured (now (s .args .sets)) (now (s .args .classes)) (now (s .args .groups)) (s .pre .0) (l .i) (omega arith) _ (c .read-asla .ensures)
+asla-size-requires c κs = let s = c .before .before .before in let l = c .before .before .loop in measured (now (s .args .sets)) (now (s .args .classes)) (now (s .args .groups)) (s .pre .0) (l .e) (omega arith) _ (c .read-asla .ensures)
 
 add-total : tie.Need-add-total Inv-loop μ-loop
 add-total c = omega (arith, c .before .before .before .loop .inv .4, c .asla-size .ensures .1, c .before .before .before .before .pre .0 .most)
 
-add-i : tie.Need-add-i Inv-loop μ-loop
-add-i c = search needs
+add-e : tie.Need-add-e Inv-loop μ-loop
+add-e c = search needs
 
 loop-less : tie.Need-loop-less Inv-loop μ-loop
 loop-less c = search needs
@@ -47,7 +47,7 @@ loop-again c =
       omega arith,
       omega arith,
       l .inv .2,
-      sum-next (entrySize (now (a .sets)) (now (a .classes)) (now (a .groups))) (a .first) (l .i) (l .total) _ (l .inv .0) (l .inv .3) (z .0 ∙ ap (aslaSize (now (a .sets)) (now (a .classes))) (c .before .read-asla .ensures)),
+      sum-next (entrySize (now (a .sets)) (now (a .classes)) (now (a .groups))) (a .first) (l .e) (l .total) _ (l .inv .0) (l .inv .3) (z .0 ∙ ap (aslaSize (now (a .sets)) (now (a .classes))) (c .before .read-asla .ensures)),
       omega (arith, l .inv .4, z .1),
     )
 
@@ -67,7 +67,7 @@ aslas-size-spec =
     read-asla-requires
     asla-size-requires
     add-total
-    add-i
+    add-e
     loop-less
     loop-again
     returns)
