@@ -50,10 +50,12 @@ pub enum Request {
     Export {
         room: usize,
     },
+    /// How much room an export needs, of links alone.
+    Length,
 }
 
-/// The nine functions.
-pub const FUNCTIONS: [&str; 9] = [
+/// The ten functions.
+pub const FUNCTIONS: [&str; 10] = [
     "nakhshirul_ask",
     "nakhshirul_value",
     "nakhshirul_named",
@@ -63,6 +65,7 @@ pub const FUNCTIONS: [&str; 9] = [
     "nakhshirul_run_named",
     "nakhshirul_why",
     "nakhshirul_run_why",
+    "nakhshirul_export_length",
 ];
 
 /// The place of a call's function in `FUNCTIONS`.
@@ -77,6 +80,9 @@ pub fn function(subject: &Subject, request: &Request) -> usize {
         (Subject::Run(_), Request::Named) => 6,
         (Subject::Link(_), Request::Why { .. }) => 7,
         (Subject::Run(_), Request::Why { .. }) => 8,
-        (Subject::Run(_), Request::Export { .. }) => panic!("a run is not exported"),
+        (Subject::Link(_), Request::Length) => 9,
+        (Subject::Run(_), Request::Export { .. } | Request::Length) => {
+            panic!("a run is not exported")
+        }
     }
 }

@@ -113,7 +113,7 @@ fn rooms(request: &Request) -> (usize, usize) {
     match *request {
         Request::Ask { room, .. } => (room, 0),
         Request::Export { room } => (0, room),
-        Request::Value { .. } | Request::Why { .. } | Request::Named => (0, 0),
+        Request::Value { .. } | Request::Why { .. } | Request::Named | Request::Length => (0, 0),
     }
 }
 

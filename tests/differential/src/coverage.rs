@@ -34,7 +34,7 @@ pub struct Coverage {
 }
 
 /// The statuses that each function can give.
-const STATUSES: [&[u64]; 9] = [
+const STATUSES: [&[u64]; 10] = [
     &[0, 1, 2, 3, 4, 5, 129, 130, 131, 132, 133, 134, 135],
     &[0, 4],
     &[6, 129, 130, 131, 132],
@@ -44,6 +44,7 @@ const STATUSES: [&[u64]; 9] = [
     &[6, 129, 131, 132],
     &[16, 129, 130, 131, 132, 134, 135],
     &[16, 129, 131, 132, 134, 135],
+    &[7, 129, 130, 131, 132],
 ];
 
 /// The answers of the two why functions: rule, whether an advertisement is told, run.
@@ -171,7 +172,7 @@ impl Coverage {
         }
         let code = match request {
             Request::Ask { code, .. } | Request::Value { code, .. } => *code,
-            Request::Why { .. } | Request::Named | Request::Export { .. } => return,
+            Request::Why { .. } | Request::Named | Request::Export { .. } | Request::Length => return,
         };
         if (1..=5).contains(&outcome.status) {
             *self.kinds.entry((function, code)).or_default() += 1;

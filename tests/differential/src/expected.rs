@@ -60,6 +60,13 @@ pub fn expected(subject: &Subject, request: &Request) -> Outcome {
                 Ok(out) => Outcome { out: out.clone(), ..status(7, out.len() as u64, 0) },
             }
         }
+        Request::Length => {
+            let Subject::Link(link) = subject else { panic!("a run is not exported") };
+            match export::export(link, usize::MAX) {
+                Err(refusal) => refused(refusal),
+                Ok(out) => status(7, out.len() as u64, 0),
+            }
+        }
     }
 }
 

@@ -60,6 +60,15 @@ extern "C" {
         out_len: usize,
         reply: *mut u64,
     ) -> u64;
+    fn nakhshirul_export_length(
+        a: *const u8,
+        a_len: usize,
+        b: *const u8,
+        b_len: usize,
+        c: *const u8,
+        c_len: usize,
+        reply: *mut u64,
+    ) -> u64;
     fn nakhshirul_run_ask(
         run: *const u8,
         run_len: usize,
@@ -137,6 +146,7 @@ unsafe fn call_link(a: Run, b: Run, c: Run, request: &Request, lent: &Lent) -> u
         Request::Export { room } => {
             nakhshirul_export(a, a_len, b, b_len, c, c_len, lent.out, room, reply)
         }
+        Request::Length => nakhshirul_export_length(a, a_len, b, b_len, c, c_len, reply),
     }
 }
 
@@ -152,7 +162,7 @@ unsafe fn call_run((run, run_len): Run, request: &Request, lent: &Lent) -> u64 {
             nakhshirul_run_why(run, run_len, who, number, code, lent.reply)
         }
         Request::Named => nakhshirul_run_named(run, run_len, lent.reply),
-        Request::Export { .. } => panic!("a run is not exported"),
+        Request::Export { .. } | Request::Length => panic!("a run is not exported"),
     }
 }
 

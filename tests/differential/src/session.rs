@@ -91,6 +91,9 @@ impl Session<'_> {
         if random.percent(50) {
             requests.push(Request::Export { room: room(length, random) });
         }
+        if random.percent(25) {
+            requests.push(Request::Length);
+        }
         let questions = if whole.is_ok() { 9 } else { 3 };
         let subject = Subject::Link(link);
         let codes = codes_in(&subject);
