@@ -13,17 +13,17 @@ mask-size-requires c κs = search needs
 mask-size-requires-2 : tie.Need-mask-size-requires-2
 mask-size-requires-2 c κs = search needs
 
-add-write-head : tie.Need-add-write-head
-add-write-head c = search needs
+add-write-asla-head : tie.Need-add-write-asla-head
+add-write-asla-head c = search needs
 
-add-write-head-2 : tie.Need-add-write-head-2
-add-write-head-2 c = search needs
+add-write-asla-head-2 : tie.Need-add-write-asla-head-2
+add-write-asla-head-2 c = search needs
 
-add-write-head-3 : tie.Need-add-write-head-3
-add-write-head-3 c = search needs
+add-write-asla-head-3 : tie.Need-add-write-asla-head-3
+add-write-asla-head-3 c = search needs
 
-write-head-requires : tie.Need-write-head-requires
-write-head-requires c κs =
+write-asla-head-requires : tie.Need-write-asla-head-requires
+write-asla-head-requires c κs =
     let s = c .before .before .before .before in
     let a = s .args in
     let m = c .before .before .mask-size .ensures in
@@ -38,7 +38,7 @@ write-masks-requires c κs =
     let x = c .before .before .before in
     let s = x .before .before .before .before .before in
     let a = s .args in
-    omega (arith, s .pre .1, size-is (a .standard) (a .user), x .write-head .kept .1 .1 .1 .0)
+    omega (arith, s .pre .1, size-is (a .standard) (a .user), x .write-asla-head .kept .1 .1 .1 .0)
 
 same-length : tie.Need-same-length
 same-length c = search needs
@@ -48,7 +48,7 @@ returns c =
     let x = c .before .before .before .before .before .before in
     let s = x .before .before .before .before .before in
     let a = s .args in
-    let h = x .write-head in
+    let h = x .write-asla-head in
     front-written (a .standard) (a .user) (a .size) (now (a .out)) (a .at) (s .pre .1) _ _ _ (c .before .before .before .before .before .before .before .before .before .mask-size .ensures .0) (c .before .before .before .before .before .before .before .before .mask-size2 .ensures .0) refl _ (h .ensures) (h .kept .1 .1 .1 .0) (c .before .before .write-masks .ensures)
 
 pub write-front-spec : {M : Type 1} → statement M
@@ -57,10 +57,10 @@ write-front-spec =
     (tie.spec
     mask-size-requires
     mask-size-requires-2
-    add-write-head
-    add-write-head-2
-    add-write-head-3
-    write-head-requires
+    add-write-asla-head
+    add-write-asla-head-2
+    add-write-asla-head-3
+    write-asla-head-requires
     add-write-masks
     write-masks-requires
     same-length
