@@ -1,6 +1,5 @@
 -- The definition's own test.
 use Rattle.advertisements.proofs.Tests.{of-whole}
-use borrow.Author.Needs.{needs}
 use Rattle.advertisements.proofs.is_of.Statement.{statement}
 use Rattle.advertisements.proofs.is_of.Tie as tie
 
