@@ -1,6 +1,6 @@
 -- The first k numbers are lent and sorted where they stand.
 use denote.Ref.{now}
-use Rattle.isis_srlgs.proofs.Sorted.{lent-front}
+use Rattle.srlg_sort.proofs.Fronts.{lent-front}
 use borrow.Author.Needs.{needs}
 use Rattle.isis_srlgs.proofs.sort_through.Statement.{statement}
 use Rattle.isis_srlgs.proofs.sort_through.Tie as tie
@@ -27,7 +27,7 @@ returns : tie.Need-returns
 returns c =
     let k = c .before .before .before .before in
     let a = k .before .before .before .before .before in
-    lent-front (now (a .args .out)) _ (a .args .k) _ (a .pre .0) (k .sort-in .kept .0) (k .sort-in .ensures)
+    lent-front (now (a .args .out)) _ (a .args .k) _ (k .sort-in .kept .0) (k .sort-in .ensures)
 
 pub sort-through-spec : {M : Type 1} → statement M
 sort-through-spec =
