@@ -198,7 +198,7 @@ extern "C" {
 #define NAKHSHIRUL_STACK_ASK 8192
 #define NAKHSHIRUL_STACK_VALUE 1024
 #define NAKHSHIRUL_STACK_NAMED 1024
-#define NAKHSHIRUL_STACK_EXPORT 76800
+#define NAKHSHIRUL_STACK_EXPORT 49152
 #define NAKHSHIRUL_STACK_WHY 2048
 #define NAKHSHIRUL_STACK_RUN_ASK 1581056
 #define NAKHSHIRUL_STACK_RUN_ASK_512 10240
@@ -253,6 +253,15 @@ uint64_t nakhshirul_export(const uint8_t *a, size_t a_len,
                            const uint8_t *b, size_t b_len,
                            const uint8_t *c, size_t c_len,
                            uint8_t *out, size_t out_len, uint64_t *reply);
+
+/*
+ * How much room the export of a link needs: WRITTEN with its length, though
+ * nothing is written, or refused as nakhshirul_export is, but never by NO_ROOM.
+ */
+uint64_t nakhshirul_export_length(const uint8_t *a, size_t a_len,
+                                  const uint8_t *b, size_t b_len,
+                                  const uint8_t *c, size_t c_len,
+                                  uint64_t *reply);
 
 /* The questions above, put to a BGP-LS run, whoever wrote it. */
 uint64_t nakhshirul_run_ask(const uint8_t *run, size_t run_len,

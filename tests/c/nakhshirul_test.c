@@ -204,6 +204,11 @@ static struct answer export_to(struct link l, size_t room)
     return take(nakhshirul_export(l.a.bytes, l.a.len, l.b.bytes, l.b.len, l.c.bytes, l.c.len, out + 1, room, lend()));
 }
 
+static struct answer export_length(struct link l)
+{
+    return take(nakhshirul_export_length(l.a.bytes, l.a.len, l.b.bytes, l.b.len, l.c.bytes, l.c.len, lend()));
+}
+
 static int out_untouched_from(size_t n)
 {
     size_t i;
@@ -369,6 +374,8 @@ static void exports(void)
     CHECK(is(export_to(only_a(run_of(nothing, 0)), 0), NAKHSHIRUL_WRITTEN, 0, 0) && out_untouched_from(0));
     CHECK(is(export_to(only_a(RUN(empty_named)), OUT), NAKHSHIRUL_WRITTEN, 28, 0));
     CHECK(refused(export_to(only_a(run_of(msg, 4)), OUT), NAKHSHIRUL_CUT, NAKHSHIRUL_RUN_A, 0) && out_untouched_from(0));
+    CHECK(is(export_length(l), NAKHSHIRUL_WRITTEN, 44, 0) && is(export_length(only_a(RUN(empty_named))), NAKHSHIRUL_WRITTEN, 28, 0));
+    CHECK(refused(export_length(only_a(run_of(msg, 4))), NAKHSHIRUL_CUT, NAKHSHIRUL_RUN_A, 0));
 }
 
 /* ---- refusals: number, run, offset, order */
@@ -523,6 +530,7 @@ static void nulls(void)
     CHECK(is(named(l), NAKHSHIRUL_NAMED, 0, 0) && is(run_named(none), NAKHSHIRUL_NAMED, 0, 0));
     CHECK(is(take(nakhshirul_export(NULL, 0, NULL, 0, NULL, 0, NULL, 0, lend())), NAKHSHIRUL_WRITTEN, 0, 0));
     CHECK(is(export_to(l, OUT), NAKHSHIRUL_WRITTEN, 0, 0) && out_untouched_from(0));
+    CHECK(is(take(nakhshirul_export_length(NULL, 0, NULL, 0, NULL, 0, lend())), NAKHSHIRUL_WRITTEN, 0, 0));
     l = link_of(RUN(msg), none, RUN(four_srlgs));
     CHECK(is(take(null_ask(l, 1092)), NAKHSHIRUL_NUMBER, 10, 0));
     CHECK(refused(take(null_ask(l, 1096)), NAKHSHIRUL_NO_ROOM, NAKHSHIRUL_RUN_A, 0));
@@ -682,7 +690,7 @@ static void bench_link(const char *name)
     l.c = read_file(name, "c", c, sizeof c);
     r = read_file(name, "bgpls", exported, sizeof exported);
     CHECK(r.len > 0 && r.len < OUT);
-    CHECK(is(export_to(l, r.len), NAKHSHIRUL_WRITTEN, r.len, 0));
+    CHECK(is(export_to(l, r.len), NAKHSHIRUL_WRITTEN, r.len, 0) && is(export_length(l), NAKHSHIRUL_WRITTEN, r.len, 0));
     CHECK(memcmp(out + 1, r.bytes, r.len) == 0 && out_untouched_from(r.len));
     CHECK(refused(export_to(l, r.len - 1), NAKHSHIRUL_NO_ROOM, NAKHSHIRUL_RUN_A, 0) && out_untouched_from(0));
     x = named(l);

@@ -145,7 +145,7 @@ static void make(const char *folder)
 
 /* ---- calls */
 
-enum function { ASK, VALUE, NAMED, EXPORT, WHY, RUN_ASK, RUN_VALUE, RUN_NAMED, RUN_WHY };
+enum function { ASK, VALUE, NAMED, EXPORT, EXPORT_LENGTH, WHY, RUN_ASK, RUN_VALUE, RUN_NAMED, RUN_WHY };
 
 /* A figure of the header: the function, whether it is asked for SRLGs, and the most of them that a run has. */
 static const struct row {
@@ -159,6 +159,7 @@ static const struct row {
     {"nakhshirul_value", VALUE, 0, 0, NAKHSHIRUL_STACK_VALUE},
     {"nakhshirul_named", NAMED, 0, 0, NAKHSHIRUL_STACK_NAMED},
     {"nakhshirul_export", EXPORT, 0, 0, NAKHSHIRUL_STACK_EXPORT},
+    {"nakhshirul_export_length", EXPORT_LENGTH, 0, 0, NAKHSHIRUL_STACK_EXPORT},
     {"nakhshirul_why", WHY, 1, 0, NAKHSHIRUL_STACK_WHY},
     {"nakhshirul_run_ask, not of 1096", RUN_ASK, 0, NAKHSHIRUL_MAX_RUN_SRLGS, NAKHSHIRUL_STACK_RUN_VALUE},
     {"nakhshirul_run_ask, of up to 512 SRLGs", RUN_ASK, 1, 512, NAKHSHIRUL_STACK_RUN_ASK_512},
@@ -193,6 +194,8 @@ static uint64_t make_call(const struct call *c, uint64_t *reply)
         return nakhshirul_named(l->a.bytes, l->a.len, l->b.bytes, l->b.len, l->c.bytes, l->c.len, reply);
     case EXPORT:
         return nakhshirul_export(l->a.bytes, l->a.len, l->b.bytes, l->b.len, l->c.bytes, l->c.len, out, NAKHSHIRUL_MAX_EXPORT, reply);
+    case EXPORT_LENGTH:
+        return nakhshirul_export_length(l->a.bytes, l->a.len, l->b.bytes, l->b.len, l->c.bytes, l->c.len, reply);
     case WHY:
         return nakhshirul_why(l->a.bytes, l->a.len, l->b.bytes, l->b.len, l->c.bytes, l->c.len, c->who, c->number, c->code, reply);
     case RUN_ASK:

@@ -613,10 +613,14 @@ impl Reply {
         })
     }
 
-    pub(crate) fn written<'o>(&self, status: u64, out: &'o [u8]) -> Result<&'o [u8], Refusal> {
+    pub(crate) fn length(&self, status: u64) -> Result<usize, Refusal> {
         if status != 7 {
             return Err(self.refusal(status));
         }
-        Ok(&out[..self.0[0] as usize])
+        Ok(self.0[0] as usize)
+    }
+
+    pub(crate) fn written<'o>(&self, status: u64, out: &'o [u8]) -> Result<&'o [u8], Refusal> {
+        Ok(&out[..self.length(status)?])
     }
 }

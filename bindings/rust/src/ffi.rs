@@ -46,6 +46,15 @@ extern "C" {
         out_len: usize,
         reply: *mut u64,
     ) -> u64;
+    pub fn nakhshirul_export_length(
+        a: *const u8,
+        a_len: usize,
+        b: *const u8,
+        b_len: usize,
+        c: *const u8,
+        c_len: usize,
+        reply: *mut u64,
+    ) -> u64;
     pub fn nakhshirul_why(
         a: *const u8,
         a_len: usize,

@@ -29,7 +29,7 @@
 //! ```
 //!
 //! [`BgpLs::ask`] takes up to 1.6 MiB of stack where a run has more than 512 SRLGs for the subject, [`Link::export`]
-//! 75 KiB, every other call less than 16 KiB.
+//! 48 KiB, every other call less than 16 KiB.
 #![warn(missing_docs)]
 
 mod answers;
@@ -286,7 +286,31 @@ impl<'a> Link<'a> {
         reply.written(status, out)
     }
 
-    /// The same, in a vector of its own.
+    /// How many bytes [`Link::export`] writes; refused as it is, but never by `NoRoom`.
+    ///
+    /// ```
+    /// use nakhshirul::Link;
+    ///
+    /// assert_eq!(Link { a: &[0x12, 3, 0, 0, 10], b: &[], c: &[] }.export_length(), Ok(8));
+    /// ```
+    pub fn export_length(&self) -> Result<usize, Refusal> {
+        let mut reply = Reply::new();
+        // SAFETY: as in `ask`.
+        let status = unsafe {
+            ffi::nakhshirul_export_length(
+                self.a.as_ptr(),
+                self.a.len(),
+                self.b.as_ptr(),
+                self.b.len(),
+                self.c.as_ptr(),
+                self.c.len(),
+                reply.as_mut_ptr(),
+            )
+        };
+        reply.length(status)
+    }
+
+    /// The export, in a vector of its own.
     ///
     /// ```
     /// use nakhshirul::Link;
@@ -294,10 +318,8 @@ impl<'a> Link<'a> {
     /// assert_eq!(Link { a: &[], b: &[], c: &[] }.export_to_vec(), Ok(Vec::new()));
     /// ```
     pub fn export_to_vec(&self) -> Result<Vec<u8>, Refusal> {
-        let mut out = vec![0; LONGEST_EXPORT];
-        let len = self.export(&mut out)?.len();
-        out.truncate(len);
-        out.shrink_to_fit();
+        let mut out = vec![0; self.export_length()?];
+        self.export(&mut out)?;
         Ok(out)
     }
 }

@@ -149,13 +149,13 @@ srlg-readable at v t = not-or (maskTooLong v) (ignored v (identifiers at v)) t
 -- ---- kinds
 
 module _ (k : ℕ) where
-  pub of-cut : (e : Element) (at : ℕ) → e ≡ cut at → false ≡ isOf k e
+  pub of-cut : (at : ℕ) → isOf k (cut at) ≡ false
   unfolding isOf
-  of-cut e at i = rw i
+  of-cut at = refl
 
-  pub of-whole : (e : Element) (at t : ℕ) (v : List ℕ) (n : ℕ) → length v ≡ n → e ≡ element at t v → (eqb t k && (not (eqb k 1096) || leb 4 n)) ≡ isOf k e
+  pub of-whole : (at t : ℕ) (v : List ℕ) (n : ℕ) → length v ≡ n → (eqb t k && (not (eqb k 1096) || leb 4 n)) ≡ isOf k (element at t v)
   unfolding isOf
-  of-whole e at t v n l i = rw (i, l)
+  of-whole at t v n l = rw l
 
   pub none-asked : (w : ℕ) (s : List ℕ) → k ≡ 0 → true ≡ inList w k s
   unfolding inList
@@ -375,12 +375,12 @@ module _ (test : Test) (k at t : ℕ) (v : List ℕ) where
 
 -- ---- by the run
 
-pub such-cut : (run : Run) (test : Test) (k : ℕ) (e : Element) (at : ℕ) → e ≡ cut at → false ≡ suchIn run test k e
+pub such-cut : (run : Run) (test : Test) (k at : ℕ) → suchIn run test k (cut at) ≡ false
 unfolding suchIn
-such-cut A test k e at i = rw i
-such-cut B test k e at i = rw i
-such-cut C test k e at i = rw i
-such-cut BgpLs test k e at i = rw i
+such-cut A test k at = refl
+such-cut B test k at = refl
+such-cut C test k at = refl
+such-cut BgpLs test k at = refl
 
 pub such-by : (run other : Run) (test : Test) (k : ℕ) (e : Element) (x : Bool) → run ≡ other → x ≡ suchIn other test k e → x ≡ suchIn run test k e
 such-by run other test k e x i h = h ∙ ap (λ (r : Run). suchIn r test k e) (sym i)

@@ -1,7 +1,8 @@
 // The advertisements of a run, whatever its bytes: the first that passes a test and, where a kind is asked for, has it.
 ghost use mathlib.Core.Path.{_≡_};
 ghost use mathlib.Core.Bool.{_&&_, false};
-ghost use Prim.Native.Nat.{ℕ, _<_, _≤_};
+ghost use mathlib.Core.List.{List};
+ghost use Prim.Native.Nat.{ℕ, _+_, _<_, _≤_};
 ghost use lib.Dec.{leb};
 ghost use lib.ListN.{length};
 ghost use Rattle.linkstate.specs.Lists.{any};
@@ -9,124 +10,76 @@ ghost use Rattle.linkstate.specs.Elements.{element, elements};
 ghost use Rattle.isis.specs.MaskHeader.{maskTooLong};
 ghost use Rattle.isis.specs.RunA.{liveAsla};
 ghost use Rattle.replies.specs.Told.{toldHolder};
-ghost use Rattle.advertisements.specs.Frames.{widthOf, frameIn, endIn, elementIn};
+ghost use Rattle.frames.specs.Frames.{frameIn};
+ghost use Rattle.advertisements.specs.Frames.{widthOf};
 ghost use Rattle.advertisements.specs.Tests.{seen, passing, isAdvertised, isOf, inList, carriesA, carriesB, suchIn};
 ghost use Rattle.advertisements.specs.Walks.{firstSuch};
+use frames::Frame;
+use frames::frame_one;
+use frames::frame_two;
 use replies::Holder;
 use replies::Place;
 use replies::Run;
 
-// What begins at a position of a run: an element that is cut off, or a whole one, with its type, where its value begins, and where it ends.
-pub enum Frame {
-    Cut,
-    Whole {
-        own: usize,
-        value: usize,
-        end: usize,
-    },
-}
-
+// A byte as a number.
 fn wide(x: u8) -> usize
     ensures { λ r. ⌜ (r ≡ x) × (r < 256) ⌝ }
 {
     x as usize
 }
 
-fn element_frame(s: &[u8], at: usize) -> Frame
-    requires { ⌜ at < length (now s) ⌝ }
-    ensures { λ r. ⌜ r ≡ frameIn 1 (now (s .entry)) at ⌝ }
-{
-    let left = s.len() - at;
-    if left < 2 {
-        return Frame::Cut;
-    }
-    let n = wide(s[at + 1]);
-    if left - 2 < n {
-        return Frame::Cut;
-    }
-    let own = wide(s[at]);
-    let value = at + 2;
-    Frame::Whole {
-        own,
-        value,
-        end: value + n,
-    }
-}
-
-fn tlv_frame(s: &[u8], at: usize) -> Frame
-    requires { ⌜ at < length (now s) ⌝ }
-    ensures { λ r. ⌜ r ≡ frameIn 2 (now (s .entry)) at ⌝ }
-{
-    let left = s.len() - at;
-    if left < 4 {
-        return Frame::Cut;
-    }
-    let n = octets::read16(s, at + 2);
-    if left - 4 < n {
-        return Frame::Cut;
-    }
-    let own = octets::read16(s, at);
-    let value = at + 4;
-    Frame::Whole {
-        own,
-        value,
-        end: value + n,
-    }
-}
-
+// What begins at a position of a run.
 fn frame_of(s: &[u8], run: Run, at: usize) -> Frame
-    requires { ⌜ at < length (now s) ⌝ }
+    requires { ⌜ at ≤ length (now s) ⌝ }
     ensures { λ r. ⌜ r ≡ frameIn (widthOf run) (now (s .entry)) at ⌝ }
 {
     match run {
-        Run::A => element_frame(s, at),
-        Run::B => element_frame(s, at),
-        Run::C => element_frame(s, at),
-        Run::BgpLs => tlv_frame(s, at),
+        Run::A => frame_one(s, at),
+        Run::B => frame_one(s, at),
+        Run::C => frame_one(s, at),
+        Run::BgpLs => frame_two(s, at),
     }
 }
 
-// The end of the element at an offset; of one that is cut off, the end of the run.
-fn end_of(s: &[u8], run: Run, at: usize) -> usize
-    requires { ⌜ at < length (now s) ⌝ }
-    ensures { λ r. ⌜ (at < r) × (r ≤ length (now (s .entry))) ⌝ }
-    ensures { λ r. ⌜ r ≡ endIn (widthOf run) (now (s .entry)) at ⌝ }
+// How many bytes of an element stand before its value: its type and its length.
+fn header_of(run: Run) -> usize
+    ensures { λ r. ⌜ r ≡ widthOf run + widthOf run ⌝ }
 {
-    match frame_of(s, run, at) {
-        Frame::Cut => s.len(),
-        Frame::Whole {
-            own: _,
-            value: _,
-            end,
-        } => end,
+    match run {
+        Run::A => 2,
+        Run::B => 2,
+        Run::C => 2,
+        Run::BgpLs => 4,
     }
 }
 
 // ---- kinds
 
-// Whether the element at an offset is of a kind, by its type; an SRLG TLV needs a number.
-fn kind_at(s: &[u8], run: Run, at: usize, kind: usize) -> bool
-    requires { ⌜ at < length (now s) ⌝ }
-    ensures { λ r. ⌜ r ≡ isOf kind (elementIn (widthOf run) (now (s .entry)) at) ⌝ }
+// Whether an element is of a kind, by its type; an SRLG TLV needs a number.
+fn is_of(own: usize, len: usize, kind: usize) -> bool
+    ensures { λ r. ⌜ ((at : ℕ) (v : List ℕ) → length v ≡ len → r ≡ isOf kind (element at own v)) ⌝ }
 {
-    match frame_of(s, run, at) {
-        Frame::Cut => false,
-        Frame::Whole { own, value, end } => (own == kind) & ((kind != 1096) | (4 <= end - value)),
-    }
+    (own == kind) & ((kind != 1096) | (4 <= len))
 }
 
 // Whether a list has an element of a kind.
 pub fn has_kind(s: &[u8], run: Run, kind: usize) -> bool
     ensures { λ r. ⌜ r ≡ any (isOf kind) (elements (widthOf run) 0 (now (s .entry))) ⌝ }
 {
+    let head = header_of(run);
     let mut at = 0;
-    while at < s.len() {
-        if kind_at(s, run, at, kind) {
-            return true;
+    loop {
+        match frame_of(s, run, at) {
+            Frame::End => return false,
+            Frame::Cut => return false,
+            Frame::Whole { kind: own, len } => {
+                if is_of(own, len, kind) {
+                    return true;
+                }
+                at = at + head + len;
+            }
         }
-        at = end_of(s, run, at);
     }
-    false
 }
 
 // The same where a kind may be asked for: 0 is none.
@@ -256,7 +209,7 @@ fn srlg_passes(own: usize, value: &[u8], test: Test, kind: usize) -> bool
         return false;
     }
     let v = &value[7..];
-    if !isis_check_b::live_srlg(v) {
+    if !isis_check::live_srlg(v) {
         return false;
     }
     header_passes(v, test) && srlg_carries(v, kind)
@@ -295,27 +248,24 @@ fn is_such(own: usize, v: &[u8], run: Run, test: Test, kind: usize) -> bool
     }
 }
 
-// Whether a whole element begins at a position and is such an advertisement.
-fn such_at(s: &[u8], run: Run, at: usize, test: Test, kind: usize) -> bool
-    requires { ⌜ at < length (now s) ⌝ }
-    ensures { λ r. ⌜ r ≡ suchIn run test kind (elementIn (widthOf run) (now (s .entry)) at) ⌝ }
-{
-    match frame_of(s, run, at) {
-        Frame::Cut => false,
-        Frame::Whole { own, value, end } => is_such(own, &s[value..end], run, test, kind),
-    }
-}
-
 // The first advertisement of a run that passes and has the kind, by its type in the run's lists; 0 asks for none, and every 238 has SRLGs alone.
 pub fn first_such(s: &[u8], run: Run, test: Test, kind: usize) -> Holder
     ensures { λ r. ⌜ toldHolder r ≡ firstSuch run test kind (now (s .entry)) ⌝ }
 {
+    let head = header_of(run);
     let mut at = 0;
-    while at < s.len() {
-        if such_at(s, run, at, test, kind) {
-            return Holder::At(Place { run, offset: at });
+    loop {
+        match frame_of(s, run, at) {
+            Frame::End => return Holder::Nowhere,
+            Frame::Cut => return Holder::Nowhere,
+            Frame::Whole { kind: own, len } => {
+                let value = at + head;
+                let end = value + len;
+                if is_such(own, &s[value..end], run, test, kind) {
+                    return Holder::At(Place { run, offset: at });
+                }
+                at = end;
+            }
         }
-        at = end_of(s, run, at);
     }
-    Holder::Nowhere
 }

@@ -1,14 +1,13 @@
 -- The entries over any source: refused by the question, refused by the bytes, or answered.
 use mathlib.Core.Path.{_≡_, refl, sym, ap, _∙_}
-use mathlib.Core.Bool.{Bool, true, false, cond, not}
+use mathlib.Core.Bool.{Bool, true, false, not}
 use mathlib.Core.List.{List, []}
 use Prim.Native.Nat.{ℕ}
 use native.Mathlib.Omega.{arith}
 use borrow.Author.Tests.{ne-eqb, eq-eqb}
-use lib.Dec.{eqb}
-use Rattle.linkstate.specs.Kinds.{isCode, isLinkCode}
+use Rattle.linkstate.specs.Kinds.{isCode}
 use Rattle.linkstate.specs.Attributes.{srlgs, ofKind}
-use Rattle.linkstate.specs.Replies.{Run, Verdict, accepted, refused, Refusal, refusedIf, faultOfCall, fault, _then_, unless, Reply, askRefused, Named, namedRefused, Asked}
+use Rattle.linkstate.specs.Replies.{Verdict, accepted, refused, Refusal, refusedIf, _then_, unless, Reply, askRefused, namedRefused, Asked, Place}
 use Rattle.linkstate.specs.Questions.{Source, Subject, numberTooHigh, setOf, given, beforeAnswer, firstOf, unwritten, srlgAnswer, answer, ask, bytesOfFirst, value, listNamed}
 use Rattle.linkstate.proofs.WalkLaws.{then-first, then-second, unrefused}
 use Rattle.linkstate.proofs.Computing.{computing}
@@ -54,7 +53,7 @@ module _ (s : Source) (whom : Subject) (k : ℕ) where
   unfolding ask unless unwritten
   ask-refused list x e = rw e
 
-  pub ask-answered : (list : List ℕ) → beforeAnswer s whom k ≡ accepted → answer (s .run) k (given s whom k) list ≡ ask s whom k list
+  pub ask-answered : (list : List ℕ) → beforeAnswer s whom k ≡ accepted → answer (s .spot) k (given s whom k) list ≡ ask s whom k list
   unfolding ask unless
   ask-answered list e = rw e
 
@@ -72,13 +71,13 @@ module _ (s : Source) (whom : Subject) (k : ℕ) where
   value-part v e h p = rw (e, ne-eqb k 1096 h) p
 
   -- the answer: SRLG, and every other kind
-  pub answer-srlg : (run : Run) (list : List ℕ) (x : Asked) → k ≡ 1096 → x ≡ srlgAnswer (srlgs (setOf s whom 1096)) list → x ≡ answer run k (given s whom k) list
+  pub answer-srlg : (spot : ℕ → Place) (list : List ℕ) (x : Asked) → k ≡ 1096 → x ≡ srlgAnswer (srlgs (setOf s whom 1096)) list → x ≡ answer spot k (given s whom k) list
   unfolding answer given computing
-  answer-srlg run list x h e = rw h e
+  answer-srlg spot list x h e = rw h e
 
-  pub answer-other : (run : Run) (list : List ℕ) (r : Reply) → (k ≡ 1096 → ⊥) → r ≡ firstOf run (ofKind k (given s whom k)) → record { reply = r; list = list } ≡ answer run k (given s whom k) list
+  pub answer-other : (spot : ℕ → Place) (list : List ℕ) (r : Reply) → (k ≡ 1096 → ⊥) → r ≡ firstOf spot (ofKind k (given s whom k)) → record { reply = r; list = list } ≡ answer spot k (given s whom k) list
   unfolding answer unwritten
-  answer-other run list r h e = rw (ne-eqb k 1096 h, e)
+  answer-other spot list r h e = rw (ne-eqb k 1096 h, e)
 
 -- the named applications
 module _ (s : Source) where

@@ -1,6 +1,6 @@
 -- Each way that a shared step of a question can go.
-use mathlib.Core.Path.{_≡_, refl, sym, ap, _∙_, subst}
-use mathlib.Core.Bool.{Bool, true, false, cond, not}
+use mathlib.Core.Path.{_≡_, refl, sym, ap, _∙_}
+use mathlib.Core.Bool.{Bool, true, false, not}
 use mathlib.Core.List.{List, [], _∷_}
 use Prim.Native.Nat.{ℕ, _-_, _≤_, _<_}
 use native.Mathlib.Omega.{arith}
@@ -8,14 +8,14 @@ use borrow.Author.Tests.{lt-ltb, le-ltb, ne-eqb}
 use lib.ListN.{length, take, drop}
 use Rattle.linkstate.specs.Lists.{empty, put}
 use Rattle.linkstate.specs.Kinds.{Form, formOf, isCode, isLinkCode}
-use Rattle.linkstate.specs.Replies.{Run, Verdict, accepted, refused, Refusal, refusalAt, fault, faultOfCall, refusedIf, _then_, unless, runA, Reading, count, Reply, absent, found, askRefused, Asked}
+use Rattle.linkstate.specs.Replies.{accepted, refused, Refusal, refusalAt, fault, faultOfCall, refusedIf, _then_, unless, runA, Reading, count, absent, found, askRefused, Asked, Place}
 use Rattle.linkstate.specs.Attributes.{Attribute, readingAs, reading}
 use Rattle.linkstate.specs.Questions.{srlgAnswer, unwritten, firstOf}
 use Rattle.kinds.specs.declared.Kind.{Kind}
 use Rattle.kinds.specs.declared.Rule.{Rule}
 use Rattle.kinds.specs.Rules.{ruleOfCode, isKnown, isLink}
 use Rattle.kinds.proofs.Laws.{code-known, code-link}
-use Rattle.readings.specs.Standing.{standing}
+use Rattle.answering.specs.Standing.{standing}
 use Rattle.answering.specs.Rows.{rowAnswer}
 
 -- Whether a code is known is told by its rule's kind.
@@ -40,14 +40,14 @@ module _ (high known : Bool) where
   no-refusal h k = rw (h, k)
 
 -- A row that is absent, and one that is read.
-module _ (s : List ℕ) (run : Run) (code place len : ℕ) where
-  pub row-absent : place ≡ 0 → absent ≡ rowAnswer s run code place len
+module _ (s : List ℕ) (spot : ℕ → Place) (code place len : ℕ) where
+  pub row-absent : place ≡ 0 → absent ≡ rowAnswer s spot code place len
   unfolding rowAnswer
   row-absent e = rw e
 
-  pub row-found : (x : Reading) (f : Form) → (place ≡ 0 → ⊥) → f ≡ formOf code → x ≡ readingAs f run (standing s place len) → found x ≡ rowAnswer s run code place len
+  pub row-found : (x : Reading) (f : Form) → (place ≡ 0 → ⊥) → f ≡ formOf code → x ≡ readingAs f spot (standing s place len) → found x ≡ rowAnswer s spot code place len
   unfolding rowAnswer
-  row-found x f n e h = rw (ne-eqb place 0 n) (ap found (h ∙ ap (λ (g : Form). readingAs g run (standing s place len)) e))
+  row-found x f n e h = rw (ne-eqb place 0 n) (ap found (h ∙ ap (λ (g : Form). readingAs g spot (standing s place len)) e))
 
 -- SRLGs: none, too many, and as many as fit.
 nothing : (ns : List ℕ) → length ns ≡ 0 → empty ns ≡ true
@@ -74,16 +74,16 @@ module _ (ns list : List ℕ) where
   srlgs-written after n h e = rw (something ns n, le-ltb (length list) (length ns) h, e)
 
 -- The reply of a kind is that of its first attribute, by its place.
-module _ (s : List ℕ) (run : Run) (k : ℕ) (ts : List Attribute) where
-  pub first-absent : ts ≡ [] → firstOf run ts ≡ rowAnswer s run k 0 0
+module _ (s : List ℕ) (spot : ℕ → Place) (k : ℕ) (ts : List Attribute) where
+  pub first-absent : ts ≡ [] → firstOf spot ts ≡ rowAnswer s spot k 0 0
   unfolding firstOf rowAnswer
   first-absent e = rw e
 
   pub first-present : (t : Attribute) (us : List Attribute) → ts ≡ t ∷ us → t .code ≡ k → 0 < t .at
-      → readingAs (formOf k) run t ≡ readingAs (formOf k) run (standing s (t .at) (t .len)) → firstOf run ts ≡ rowAnswer s run k (t .at) (t .len)
+      → readingAs (formOf k) spot t ≡ readingAs (formOf k) spot (standing s (t .at) (t .len)) → firstOf spot ts ≡ rowAnswer s spot k (t .at) (t .len)
   unfolding firstOf rowAnswer reading
   first-present t us e c p h =
-      rw (e, ne-eqb (t .at) 0 (λ z. omega arith)) (ap found (ap (λ (x : ℕ). readingAs (formOf x) run t) c ∙ h))
+      rw (e, ne-eqb (t .at) 0 (λ z. omega arith)) (ap found (ap (λ (x : ℕ). readingAs (formOf x) spot t) c ∙ h))
 
 -- The list's front is what was sorted.
 pub srlg-front : (x : Asked) (l : List ℕ) (k : ℕ) (ns list : List ℕ) → x ≡ srlgAnswer (take (k - 0) (drop 0 l)) list → take k l ≡ ns → x ≡ srlgAnswer ns list

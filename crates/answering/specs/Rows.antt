@@ -6,13 +6,13 @@ use Prim.Native.Nat.{ℕ, _+_, _≤_}
 use lib.Dec.{eqb}
 use lib.ListN.{length}
 use Rattle.linkstate.specs.Kinds.{Form, formOf}
-use Rattle.linkstate.specs.Replies.{Run, Reply, absent, found}
+use Rattle.linkstate.specs.Replies.{Place, Reply, absent, found}
 use Rattle.linkstate.specs.Attributes.{readingAs}
-use Rattle.readings.specs.Standing.{Readable, standing}
+use Rattle.answering.specs.Standing.{Readable, standing}
 
 -- K4, R12. Absent, or what stands there reads as.
-unfoldable pub rowAnswer : List ℕ → Run → ℕ → ℕ → ℕ → Reply
-rowAnswer s run code place len = cond (eqb place 0) absent (found (readingAs (formOf code) run (standing s place len)))
+unfoldable pub rowAnswer : List ℕ → (ℕ → Place) → ℕ → ℕ → ℕ → Reply
+rowAnswer s spot code place len = cond (eqb place 0) absent (found (readingAs (formOf code) spot (standing s place len)))
 
 -- A row that is absent, or lies within a run of n bytes with a length that its form can be read at.
 abbrev pub ReadableRow : Form → ℕ → ℕ → ℕ → Type 0

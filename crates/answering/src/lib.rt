@@ -1,19 +1,59 @@
 // The steps that every question shares, whatever it is put to: the question's own refusals, the reply of a value by its place, and that of SRLGs.
 ghost use mathlib.Core.Path.{_≡_};
-ghost use mathlib.Core.Bool.{not};
 ghost use Prim.Native.Nat.{_+_, _≤_};
 ghost use lib.ListN.{length, take};
+ghost use Rattle.linkstate.specs.Bytes.{number, bytesAt};
+ghost use Rattle.linkstate.specs.Attributes.{readingAs};
+ghost use Rattle.kinds.specs.Rules.{toldForm};
+ghost use Rattle.replies.specs.Told.{toldReading, toldSpot, toldAnswer, toldAsked, toldChecked, subjectOf};
+ghost use Rattle.answering.specs.Standing.{Readable, standing};
+ghost use mathlib.Core.Bool.{not};
 ghost use Rattle.linkstate.specs.Kinds.{isCode, isLinkCode, formOf};
 ghost use Rattle.linkstate.specs.Replies.{refusedIf, _then_};
 ghost use Rattle.linkstate.specs.Questions.{numberTooHigh, srlgAnswer};
-ghost use Rattle.replies.specs.Told.{toldRun, toldAnswer, toldAsked, toldChecked, subjectOf};
 ghost use Rattle.answering.specs.Rows.{ReadableRow, rowAnswer};
+use kinds::Form;
 use kinds::Kind;
 use replies::Answer;
 use replies::Checked;
+use replies::Place;
 use replies::Reading;
 use replies::Run;
 use replies::Subject;
+
+// The number of three or four bytes: a TE metric has three in IS-IS.
+fn read_number(s: &[u8], at: usize, len: usize) -> u32
+    requires { ⌜ (at + len ≤ length (now s)) × (3 ≤ len) × (len ≤ 4) ⌝ }
+    ensures { λ r. ⌜ r ≡ number (bytesAt (now (s .entry)) at len) ⌝ }
+{
+    if len == 3 {
+        octets::read24(s, at)
+    } else {
+        octets::read32(s, at)
+    }
+}
+
+// What the value at a place of a run reads as. Its length is one that its kind may have. SRLGs are not read here: no length is Readable for their form,
+// so the last arm is never taken and its 0 is nobody's answer; the form has its arm because a match names every case.
+pub fn read_value(s: &[u8], run: Run, form: Form, at: usize, len: usize) -> Reading
+    requires { ⌜ (at + len ≤ length (now s)) × Readable (toldForm form) len ⌝ }
+    ensures { λ r. ⌜ toldReading r ≡ readingAs (toldForm form) (toldSpot run) (standing (now (s .entry)) at len) ⌝ }
+{
+    match form {
+        Form::WholeNumber => Reading::Number(read_number(s, at, len)),
+        Form::TwoNumbers => {
+            let first = octets::read32(s, at);
+            let second = octets::read32(s, at + 4);
+            Reading::Pair(first, second)
+        }
+        Form::Float => Reading::Bandwidth(octets::float_at(s, at)),
+        Form::PlaceAndLength => Reading::Part {
+            place: Place { run, offset: at },
+            length: len,
+        },
+        Form::SrlgCount => Reading::Count(0),
+    }
+}
 
 // Whether a code is one of the fourteen.
 pub fn is_code(code: usize) -> bool
@@ -59,13 +99,13 @@ pub fn check_question(whom: Subject, code: usize) -> Checked
 // The reply of a kind other than SRLG whose first value stands at a place of the run; place 0 says that there is none.
 pub fn answer_row(s: &[u8], run: Run, code: usize, place: usize, len: usize) -> Answer
     requires { ⌜ ReadableRow (formOf code) (length (now s)) place len ⌝ }
-    ensures { λ r. ⌜ toldAnswer r ≡ rowAnswer (now (s .entry)) (toldRun run) code place len ⌝ }
+    ensures { λ r. ⌜ toldAnswer r ≡ rowAnswer (now (s .entry)) (toldSpot run) code place len ⌝ }
 {
     if place == 0 {
         return Answer::Absent;
     }
     let form = kinds::form_of(code);
-    Answer::Found(readings::read_value(s, run, form, place, len))
+    Answer::Found(read_value(s, run, form, place, len))
 }
 
 // The reply of SRLG, from the different numbers, ascending: they go to the front of the lent list if they fit.

@@ -1,25 +1,25 @@
--- What a walk learns from a frame, and one law for each way in which a check of a BGP-LS run can go.
+-- One law for each way in which a check of a BGP-LS run can go.
 use mathlib.Core.Path.{_≡_, refl, sym, ap, ap₂, _∙_}
-use mathlib.Core.Bool.{Bool, true, false, cond, _&&_, _||_, not, and-true, and-false, or-false}
+use mathlib.Core.Bool.{Bool, true, false, _&&_, _||_, not, and-true, and-false, or-false}
 use mathlib.Core.List.{List, [], _∷_}
 use Prim.Native.Nat.{ℕ, zero, suc, _+_, _-_, _%_, _≤_, _<_}
 use native.Mathlib.Omega.{arith}
 use mathlib.Core.Logic.{⊎-elim}
 use types.Run.{OneOf}
 use denote.Enum.Declared.{tagOf}
-use borrow.Author.Tests.{lt-ltb, le-ltb, le-leb, lt-leb, ltb-true, ltb-false, eq-eqb, ne-eqb}
-use lib.Dec.{ltb, leb, eqb}
+use borrow.Author.Tests.{lt-ltb, le-ltb, le-leb, lt-leb, eq-eqb, ne-eqb}
+use lib.Dec.{leb, eqb}
 use lib.ListN.{length, take, drop, length-drop}
 use lib.Seq.{take-length}
-use Rattle.linkstate.specs.Bytes.{number, bytesAt}
-use Rattle.linkstate.specs.Replies.{Verdict, accepted, refused, Refusal, fault, faultOfCall, refusedIf, _then_, runBgpLs}
-use Rattle.linkstate.specs.Elements.{elements, faults, typeOf}
-use Rattle.linkstate.specs.Lists.{any, keep}
+use Rattle.linkstate.specs.Bytes.{bytesAt}
+use Rattle.linkstate.specs.Replies.{accepted, refusalAt, fault, faultOfCall, refusedIf, _then_, runBgpLs}
+use Rattle.linkstate.specs.Elements.{elements, faults}
+use Rattle.linkstate.specs.Lists.{keep}
 use Rattle.linkstate.specs.Kinds.{kinds, fits, hasCode, isApplications, wrongInside, wrongAtTop}
 use Rattle.linkstate.proofs.Computing.{computing}
 use Rattle.linkstate.specs.BgpLs.{sabmLength, udabmLength, aslaHeader, isMaskLength, notIgnored, innerElements, checkInner, checkAsla, checkTop, runVerdict}
-use Rattle.linkstate.proofs.WalkLaws.{left, typeAt, lengthAt, length-two, faults-cut, faults-pass, faults-stop}
-use Rattle.octets.proofs.Laws.{length-bytesAt, part-is}
+use Rattle.linkstate.proofs.WalkLaws.{left}
+use Rattle.frames.proofs.Laws.{IsWhole, value-length, turn-passed, turn-refused}
 use Rattle.kinds.specs.declared.Kind.{Kind}
 use Rattle.kinds.specs.declared.Kind.the-variants.{Link, Application, Srlg, Asla, Unknown}
 use Rattle.kinds.specs.declared.Size.{Size}
@@ -27,84 +27,6 @@ use Rattle.kinds.specs.declared.Rule.{Rule}
 use Rattle.kinds.proofs.Kind.{the-type}
 use Rattle.kinds.specs.Rules.{ruleOfCode, fitsIn, wrongInsideBy}
 use Rattle.kinds.proofs.Laws.{any-kept, wrong-inside, wrong-at-top}
-use Rattle.bgpls_check.specs.declared.Frame.the-variants.{Cut, Whole}
-use Rattle.bgpls_check.specs.Framing.{frameAt}
-
--- ---- frames
-
--- A whole element of type t with n value bytes stands at a position.
-pub record IsWhole (s : List ℕ) (at t n : ℕ) : Type 0 where
-  pub type : typeAt 2 s at ≡ t
-  pub size : lengthAt 2 s at ≡ n
-  pub within : at + 4 + n ≤ length s
-
-module _ (s : List ℕ) (at : ℕ) where
-  pub frame-short : length s - at < 4 → at ≤ length s → Cut ≡ frameAt s at
-  unfolding frameAt
-  frame-short h g = rw (lt-ltb (length s) (at + 4 + lengthAt 2 s at) (omega arith))
-
-  module _ (n : ℕ) (e : n ≡ number (bytesAt s (at + 2) 2)) where
-    pub frame-past : length s < at + 4 + n → Cut ≡ frameAt s at
-    unfolding frameAt
-    frame-past h =
-        let f : n ≡ lengthAt 2 s at = e ∙ sym (length-two s at) in
-        rw (lt-ltb (length s) (at + 4 + lengthAt 2 s at) (omega arith))
-
-    pub frame-whole : (t : ℕ) → t ≡ number (bytesAt s at 2) → at + 4 + n ≤ length s → Whole t n ≡ frameAt s at
-    unfolding frameAt typeOf bytesAt
-    frame-whole t d h =
-        let f : n ≡ lengthAt 2 s at = e ∙ sym (length-two s at) in
-        rw (le-ltb (length s) (at + 4 + lengthAt 2 s at) (omega arith)) (ap₂ Whole d f)
-
-  -- and back
-  pub is-cut : frameAt s at ≡ Cut → length s < at + 4 + lengthAt 2 s at
-  unfolding frameAt
-  is-cut = go (ltb (length s) (at + 4 + lengthAt 2 s at)) refl
-    where
-      go : (b : Bool) → ltb (length s) (at + 4 + lengthAt 2 s at) ≡ b → cond b Cut (Whole (typeAt 2 s at) (lengthAt 2 s at)) ≡ Cut → length s < at + 4 + lengthAt 2 s at
-      go true f e = ltb-true _ _ f
-      go false f e = absurd (let z : _≡_ {A = ℕ} 0 1 = cc in omega arith)
-
-  pub is-whole : (t n : ℕ) → frameAt s at ≡ Whole t n → IsWhole s at t n
-  unfolding frameAt
-  is-whole t n = go (ltb (length s) (at + 4 + lengthAt 2 s at)) refl
-    where
-      go : (b : Bool) → ltb (length s) (at + 4 + lengthAt 2 s at) ≡ b → cond b Cut (Whole (typeAt 2 s at) (lengthAt 2 s at)) ≡ Whole t n → IsWhole s at t n
-      go true f e = absurd (let z : _≡_ {A = ℕ} 0 1 = cc in omega arith)
-      go false f e =
-          let i : lengthAt 2 s at ≡ n = cc in
-          let h = ltb-false (length s) (at + 4 + lengthAt 2 s at) f in
-          record { type = cc; size = i; within = omega arith }
-
--- The part of the code's slice from at to at + n.
-pub part-length : (s : List ℕ) (at n : ℕ) → at + n ≤ length s → length (take (at + n - at) (drop at s)) ≡ n
-part-length s at n h = ap length (part-is s at n) ∙ length-bytesAt s at n h
-
--- ---- a walk that checks
-
-pub from-start : (base : ℕ) (s : List ℕ) → left 2 base s 0 ≡ elements 2 base s
-from-start base s = let z : base + 0 ≡ base = omega arith in ap (λ (i : ℕ). elements 2 i s) z
-
--- The element at a position, with the offset o of its first byte.
-module _ (check : ℕ → ℕ → List ℕ → Verdict) (base : ℕ) (s : List ℕ) (at o : ℕ) (e : base + at ≡ o) where
-  abbrev Faults : ℕ → Verdict
-  Faults i = faults runBgpLs check (left 2 base s i)
-
-  pub cut-refused : at < length s → frameAt s at ≡ Cut → fault 3 runBgpLs o ≡ Faults at
-  cut-refused h f = ap (fault 3 runBgpLs) (sym e) ∙ sym (faults-cut runBgpLs check 2 (omega arith) base s at h (is-cut s at f))
-
-  module _ (t n : ℕ) (f : IsWhole s at t n) where
-    abbrev verdict : Verdict
-    verdict = check o t (bytesAt s (at + 4) n)
-
-    same-check : check (base + at) (typeAt 2 s at) (bytesAt s (at + 4) n) ≡ verdict
-    same-check = ap₂ (λ (i : ℕ) (k : ℕ). check i k (bytesAt s (at + 4) n)) e (f .type)
-
-    pub element-passed : verdict ≡ accepted → Faults (at + 4 + n) ≡ Faults at
-    element-passed p = faults-pass runBgpLs check 2 (omega arith) base s at n (f .size) (f .within) (same-check ∙ p)
-
-    pub element-refused : (r : Refusal) → verdict ≡ refused r → refused r ≡ Faults at
-    element-refused r p = faults-stop runBgpLs check 2 (omega arith) base s at n r (f .size) (f .within) (same-check ∙ p)
 
 -- ---- lengths
 
@@ -152,6 +74,18 @@ module _ (o t : ℕ) (v : List ℕ) where
   pub inner-wrong : wrongInside t (length v) ≡ true → checkInner o t v ≡ fault 4 runBgpLs o
   unfolding checkInner
   inner-wrong h = rw h
+
+-- one turn over inner elements
+module _ (base : ℕ) (s : List ℕ) (at t n : ℕ) (f : IsWhole 2 s at t n) where
+  judged : (b : Bool) → wrongInside t n ≡ b → wrongInside t (length (bytesAt s (at + 4) n)) ≡ b
+  judged b h = ap (wrongInside t) (value-length 2 s at t n f) ∙ h
+
+  pub inner-on : wrongInside t n ≡ false → faults runBgpLs checkInner (left 2 base s (at + 4 + n)) ≡ faults runBgpLs checkInner (left 2 base s at)
+  inner-on h = turn-passed runBgpLs checkInner 2 (omega arith) base s at (base + at) refl t n f (inner-right _ t _ (judged false h))
+
+  pub inner-stop : wrongInside t n ≡ true → fault 4 runBgpLs (base + at) ≡ faults runBgpLs checkInner (left 2 base s at)
+  unfolding fault
+  inner-stop h = turn-refused runBgpLs checkInner 2 (omega arith) base s at (base + at) refl t n f (refusalAt 4 runBgpLs (base + at)) (inner-wrong _ t _ (judged true h))
 
 -- ---- a 1122
 

@@ -8,37 +8,15 @@ ghost use Rattle.linkstate.specs.Elements.{elements, faults};
 ghost use Rattle.linkstate.specs.Kinds.{wrongInside, wrongAtTop};
 ghost use Rattle.linkstate.specs.BgpLs.{sabmLength, udabmLength, isMaskLength, checkInner, checkAsla, checkTop, runVerdict};
 ghost use Rattle.replies.specs.Told.{toldChecked};
-ghost use Rattle.bgpls_check.specs.Framing.{frameAt};
+use frames::Frame;
+use frames::frame_two;
 use kinds::Kind;
 use kinds::classify_code;
 use kinds::fits;
-use octets::read16;
 use replies::Checked;
 use replies::Run;
 use replies::refuse_at;
 use replies::refuse_call;
-
-// The element at a position of its list: cut off, or whole, with its type and the length of its value.
-pub enum Frame {
-    Cut,
-    Whole { code: usize, len: usize },
-}
-
-pub fn read_frame(s: &[u8], at: usize) -> Frame
-    requires { ⌜ at ≤ length (now s) ⌝ }
-    ensures { λ r. ⌜ r ≡ frameAt (now (s .entry)) at ⌝ }
-{
-    let rest = s.len() - at;
-    if rest < 4 {
-        return Frame::Cut;
-    }
-    let code = read16(s, at);
-    let len = read16(s, at + 2);
-    if rest - 4 < len {
-        return Frame::Cut;
-    }
-    Frame::Whole { code, len }
-}
 
 // A refusal at an element of the run.
 fn refuse(number: u8, offset: usize) -> Checked
@@ -86,17 +64,19 @@ pub fn check_inner(s: &[u8], base: usize) -> Checked
     ensures { λ r. ⌜ toldChecked r ≡ faults runBgpLs checkInner (elements 2 base (now (s .entry))) ⌝ }
 {
     let mut at = 0;
-    while at < s.len() {
+    loop {
         let offset = base + at;
-        let Frame::Whole { code, len } = read_frame(s, at) else {
-            return refuse(3, offset);
-        };
-        if wrong_inside(code, len) {
-            return refuse(4, offset);
+        match frame_two(s, at) {
+            Frame::End => return Checked::Accepted,
+            Frame::Cut => return refuse(3, offset),
+            Frame::Whole { kind, len } => {
+                if wrong_inside(kind, len) {
+                    return refuse(4, offset);
+                }
+                at = at + 4 + len;
+            }
         }
-        at = at + 4 + len;
     }
-    Checked::Accepted
 }
 
 // The lengths of the two masks of a 1122, as sent.
@@ -169,16 +149,18 @@ pub fn check_run(r: &[u8]) -> Checked
         return Checked::Refused(refuse_call(1));
     }
     let mut at = 0;
-    while at < r.len() {
-        let Frame::Whole { code, len } = read_frame(r, at) else {
-            return refuse(3, at);
-        };
-        let value = at + 4;
-        let next = value + len;
-        match check_top(&r[value..next], code, at) {
-            Checked::Accepted => at = next,
-            Checked::Refused(x) => return Checked::Refused(x),
+    loop {
+        match frame_two(r, at) {
+            Frame::End => return Checked::Accepted,
+            Frame::Cut => return refuse(3, at),
+            Frame::Whole { kind, len } => {
+                let value = at + 4;
+                let next = value + len;
+                match check_top(&r[value..next], kind, at) {
+                    Checked::Accepted => at = next,
+                    Checked::Refused(x) => return Checked::Refused(x),
+                }
+            }
         }
     }
-    Checked::Accepted
 }

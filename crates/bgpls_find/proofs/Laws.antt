@@ -20,7 +20,8 @@ use Rattle.linkstate.specs.BgpLs.{sabmLength, udabmLength, aslaHeader, notIgnor
 use Rattle.linkstate.proofs.WalkLaws.{left, left-end, left-whole, type-two, length-two, faults-whole, faults-passed, then-first, then-second, not-accepted}
 use Rattle.octets.proofs.Laws.{length-bytesAt, part-is}
 use Rattle.masks.proofs.Laws.{bit-beyond}
-use Rattle.bgpls_check.proofs.Laws.{IsWhole, top-asla}
+use Rattle.frames.proofs.Laws.{IsWhole}
+use Rattle.bgpls_check.proofs.Laws.{top-asla}
 use Rattle.rivals.proofs.RunLaws.{asla-checked}
 use Rattle.linkstate.proofs.ListLaws.{and-l, and-r}
 use Rattle.bgpls_find.specs.declared.Set.{Set}
@@ -39,7 +40,7 @@ module _ (r : List ℕ) (at : ℕ) where
   pub rest-end : length r ≤ at → rest r at ≡ []
   rest-end h = sym rest-left ∙ left-end 2 (omega arith) 0 r at h
 
-  pub rest-whole : (t n : ℕ) → IsWhole r at t n → rest r at ≡ element at t (bytesAt r (at + 4) n) ∷ rest r (at + 4 + n)
+  pub rest-whole : (t n : ℕ) → IsWhole 2 r at t n → rest r at ≡ element at t (bytesAt r (at + 4) n) ∷ rest r (at + 4 + n)
   rest-whole t n f =
       let z : 0 + at ≡ at = omega arith in
       let y : 0 + (at + 4 + n) ≡ at + 4 + n = omega arith in
@@ -57,13 +58,13 @@ module _ (check : ℕ → ℕ → List ℕ → Verdict) (base : ℕ) (s : List �
   pub head-fits : at + 4 ≤ length s
   head-fits = omega (arith, fits-in)
 
-  pub whole-here : (t n : ℕ) → t ≡ number (bytesAt s at 2) → n ≡ number (bytesAt s (at + 2) 2) → IsWhole s at t n
+  pub whole-here : (t n : ℕ) → t ≡ number (bytesAt s at 2) → n ≡ number (bytesAt s (at + 2) 2) → IsWhole 2 s at t n
   whole-here t n d e =
       let z = length-two s at ∙ sym e in
       record { type = type-two s at ∙ sym d; size = z; within = omega (arith, fits-in, z) }
 
   -- and the others are not refused
-  pub others-pass : (t n : ℕ) → IsWhole s at t n → faults runBgpLs check (left 2 base s (at + 4 + n)) ≡ accepted
+  pub others-pass : (t n : ℕ) → IsWhole 2 s at t n → faults runBgpLs check (left 2 base s (at + 4 + n)) ≡ accepted
   others-pass t n f = faults-passed runBgpLs check 2 (omega arith) base s at n (f .size) h p .2
 
 pub left-passes : (r : List ℕ) (at : ℕ) → Passes r at → faults runBgpLs checkTop (left 2 0 r at) ≡ accepted
@@ -166,7 +167,7 @@ module _ (set : Set) (r : List ℕ) (at : ℕ) where
   unfolding aslasFrom each keep
   aslas-end h = ap (λ (es : List Element). keep (chosen set) (each advertisementsOf es)) (rest-end r at h)
 
-  module _ (t n : ℕ) (f : IsWhole r at t n) where
+  module _ (t n : ℕ) (f : IsWhole 2 r at t n) where
     abbrev value : List ℕ
     value = bytesAt r (at + 4) n
 
@@ -226,7 +227,7 @@ module _ (base : ℕ) (s : List ℕ) (at : ℕ) where
   unfolding each
   attributes-end h = ap (each attributesOf) (left-end 2 (omega arith) base s at h)
 
-  pub attributes-turn : (t n : ℕ) → IsWhole s at t n
+  pub attributes-turn : (t n : ℕ) → IsWhole 2 s at t n
       → attributesLeft ≡ attribute 2 (base + at) (bytesAt s (at + 4) n) t (bytesAt s (at + 4) n) ∷ each attributesOf (left 2 base s (at + 4 + n))
   unfolding each attributesOf
   attributes-turn t n f =
@@ -243,7 +244,7 @@ module _ (base : ℕ) (s : List ℕ) (at k : ℕ) where
   unfolding foundIn ofKind keep
   first-end h = sym (ap (λ (ts : List Attribute). foundIn (ofKind k ts)) (attributes-end base s at h))
 
-  module _ (t n : ℕ) (f : IsWhole s at t n) where
+  module _ (t n : ℕ) (f : IsWhole 2 s at t n) where
     turn : found at ≡ foundIn (ofKind k (attribute 2 (base + at) (bytesAt s (at + 4) n) t (bytesAt s (at + 4) n) ∷ attributesLeft base s (at + 4 + n)))
     turn = ap (λ (ts : List Attribute). foundIn (ofKind k ts)) (attributes-turn base s at t n f)
 

@@ -1,15 +1,13 @@
 -- SRLGs of a run from their counted numbers, and the run's source.
-use mathlib.Core.Path.{_≡_, refl, sym, ap, _∙_}
-use mathlib.Core.Bool.{Bool, true, false}
+use mathlib.Core.Path.{_≡_, refl, ap, _∙_}
 use mathlib.Core.List.{List, [], _∷_}
 use Prim.Native.Nat.{ℕ, _*_, _≤_}
 use native.Mathlib.Omega.{arith}
-use borrow.Author.Tests.{eq-eqb}
 use lib.ListN.{length, take, replicate, length-replicate}
 use Rattle.linkstate.specs.Lists.{empty, put}
 use Rattle.linkstate.specs.Bytes.{distinct}
 use Rattle.linkstate.specs.Attributes.{Attribute, srlgs}
-use Rattle.linkstate.specs.Replies.{Verdict, accepted, Run, Asked, absent, Named, listed, unless}
+use Rattle.linkstate.specs.Replies.{Verdict, accepted, Asked, absent, listed, unless, Place}
 use Rattle.linkstate.specs.Masks.{user, asNumber}
 use Rattle.linkstate.specs.Questions.{Subject, given, unwritten, srlgAnswer, answer, bytesOfFirst, listNamed}
 use Rattle.linkstate.specs.BgpLs.{runVerdict, runSource}
@@ -41,10 +39,10 @@ pub half-room : (n k : ℕ) → n ≤ 2 * k → n ≤ 2 * length {A = ℕ} (repl
 half-room n k h = rw length-replicate h
 
 -- The answer to a question for SRLGs.
-pub asks-srlg : (r : List ℕ) (whom : Subject) (k : ℕ) (run : Run) (list : List ℕ) (x : Asked) → k ≡ 1096 → x ≡ srlgAnswer (srlgs (given (runSource r) whom 1096)) list
-    → x ≡ answer run k (given (runSource r) whom k) list
+pub asks-srlg : (r : List ℕ) (whom : Subject) (k : ℕ) (spot : ℕ → Place) (list : List ℕ) (x : Asked) → k ≡ 1096 → x ≡ srlgAnswer (srlgs (given (runSource r) whom 1096)) list
+    → x ≡ answer spot k (given (runSource r) whom k) list
 unfolding answer
-asks-srlg r whom k run list x h e = rw h e
+asks-srlg r whom k spot list x h e = rw h e
 
 pub of-set : (x : Asked) (ts us : List Attribute) (list : List ℕ) → ts ≡ us → x ≡ srlgAnswer (srlgs ts) list → x ≡ srlgAnswer (srlgs us) list
 of-set x ts us list e h = h ∙ ap (λ (l : List Attribute). srlgAnswer (srlgs l) list) e

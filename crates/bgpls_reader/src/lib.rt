@@ -1,22 +1,150 @@
 // Questions to a BGP-LS run that anybody may have written: ask, value and named.
-// Any bytes, any subject and any code are taken; every refusal is document 01's, and after one nothing was written.
 ghost use mathlib.Core.Path.{_≡_};
 ghost use mathlib.Core.Bool.{true, false};
 ghost use Prim.Native.Nat.{_*_, _≤_};
 ghost use lib.ListN.{length};
+ghost use Rattle.linkstate.specs.Masks.{user, asNumber};
+ghost use Rattle.linkstate.specs.Replies.{accepted, runBgpLs, place};
+ghost use Rattle.linkstate.specs.BgpLs.{notIgnored, aslaHeader, aslas, runVerdict, runSource};
+ghost use Rattle.bgpls_reader.specs.Joined.{HoldSent, HoldBoth};
+ghost use lib.Dec.{eqb};
 ghost use Rattle.linkstate.specs.Kinds.{isCode};
-ghost use Rattle.linkstate.specs.Replies.{accepted, runBgpLs};
-ghost use Rattle.linkstate.specs.Attributes.{srlgs};
-ghost use Rattle.linkstate.specs.Questions.{numberTooHigh, given, srlgAnswer, answer, ask, value, listNamed};
-ghost use Rattle.linkstate.specs.BgpLs.{runVerdict, runSource};
-ghost use Rattle.replies.specs.Told.{subjectOf, toldAsked, toldNamed};
-ghost use Rattle.bgpls_find.specs.Sets.{attributesIn};
+ghost use Rattle.linkstate.specs.Attributes.{ofKind, srlgs};
+ghost use Rattle.linkstate.specs.Questions.{numberTooHigh, given, firstOf, bytesOfFirst, srlgAnswer, answer, ask, value, listNamed};
+ghost use Rattle.replies.specs.Told.{subjectOf, toldAnswer, toldAsked, toldNamed};
+ghost use Rattle.bgpls_find.specs.Sets.{attributesIn, foundIn};
+ghost use Rattle.bgpls_find.specs.Walks.{Starts};
 ghost use Rattle.bgpls_reader.specs.Room.{Counted};
+use bgpls_check::read_asla_header;
+use bgpls_find::Found;
+use bgpls_find::Set;
 use bgpls_find::Start;
+use bgpls_find::is_chosen;
+use masks::joined;
+use masks::sent_number;
+use masks::turned;
+use masks::without;
+use octets::read16;
 use replies::Answer;
 use replies::Checked;
 use replies::Named;
+use replies::Run;
 use replies::Subject;
+
+// Standard and user applications as two numbers: application n as 2 to the n, or, while masks are joined, at its place in a mask's bytes.
+pub struct NamedMasks {
+    pub standard: u64,
+    pub user: u64,
+}
+
+// With the masks of a 1122.
+fn join_masks(v: &[u8], m: NamedMasks) -> NamedMasks
+    requires { ⌜ (4 ≤ length (now v)) × (notIgnored (now v) ≡ true) × (aslaHeader (now v) ≤ length (now v)) ⌝ }
+    ensures { λ j. ⌜ HoldBoth j m (now (v .entry)) ⌝ }
+{
+    let h = read_asla_header(v);
+    let end = 4 + h.standard;
+    let next = end + h.user;
+    let standard = joined(m.standard, sent_number(&v[4..end]));
+    let user = joined(m.user, sent_number(&v[end..next]));
+    NamedMasks { standard, user }
+}
+
+// The masks of all 1122s that are not ignored, joined.
+fn all_masks(r: &[u8]) -> NamedMasks
+    requires { ⌜ runVerdict (now r) ≡ accepted ⌝ }
+    ensures { λ m. ⌜ HoldSent m (aslas (now (r .entry))) ⌝ }
+{
+    let mut m = NamedMasks {
+        standard: 0,
+        user: 0,
+    };
+    let mut at = 0;
+    while at < r.len() {
+        let code = read16(r, at);
+        let len = read16(r, at + 2);
+        let value = at + 4;
+        let next = value + len;
+        if is_chosen(&r[value..next], code, Set::Every) {
+            let j = join_masks(&r[value..next], m);
+            m = j;
+        }
+        at = next;
+    }
+    m
+}
+
+// The named applications other than RSVP-TE, which is standard 0.
+pub fn named_masks(r: &[u8]) -> NamedMasks
+    requires { ⌜ runVerdict (now r) ≡ accepted ⌝ }
+    ensures { λ m. ⌜ (m .standard ≡ asNumber (runSource (now (r .entry)) .names)) × (m .user ≡ asNumber (λ n. runSource (now (r .entry)) .names (user n))) ⌝ }
+{
+    let m = all_masks(r);
+    let standard = without(turned(m.standard), 1);
+    let user = turned(m.user);
+    NamedMasks { standard, user }
+}
+
+// The set of attributes that a question is about.
+pub fn set_asked(r: &[u8], whom: Subject, code: usize) -> Start
+    requires { ⌜ (runVerdict (now r) ≡ accepted) × (numberTooHigh (subjectOf whom) ≡ false) ⌝ }
+    ensures { λ s. ⌜ Starts (s .set) (now (r .entry)) (s .first) (s .next) × (attributesIn (s .set) (now (r .entry)) ≡ given (runSource (now (r .entry))) (subjectOf whom) code) ⌝ }
+{
+    if answering::is_link_code(code) {
+        return Start {
+            set: Set::Top,
+            first: 0,
+            next: r.len(),
+        };
+    }
+    match whom {
+        Subject::General => bgpls_find::general_start(r),
+        Subject::Standard(n) => {
+            if n == 0 {
+                return Start {
+                    set: Set::Top,
+                    first: 0,
+                    next: r.len(),
+                };
+            }
+            bgpls_find::set_of(r, n)
+        }
+        Subject::User(n) => bgpls_find::set_of(r, 64 + n),
+    }
+}
+
+// Where the value that a question asks for stands.
+pub fn find_value(r: &[u8], whom: Subject, code: usize) -> Found
+    requires { ⌜ (runVerdict (now r) ≡ accepted) × (numberTooHigh (subjectOf whom) ≡ false) ⌝ }
+    ensures { λ f. ⌜ f ≡ foundIn (ofKind code (given (runSource (now (r .entry))) (subjectOf whom) code)) ⌝ }
+{
+    let start = set_asked(r, whom, code);
+    bgpls_find::first_in(r, start, code)
+}
+
+// The reply of a kind other than SRLG.
+pub fn answer_value(r: &[u8], whom: Subject, code: usize) -> Answer
+    requires { ⌜ (runVerdict (now r) ≡ accepted) × (numberTooHigh (subjectOf whom) ≡ false) × (isCode code ≡ true) × (eqb code 1096 ≡ false) ⌝ }
+    ensures { λ x. ⌜ toldAnswer x ≡ firstOf (place runBgpLs) (ofKind code (given (runSource (now (r .entry))) (subjectOf whom) code)) ⌝ }
+{
+    let Found::At { place, len } = find_value(r, whom, code) else {
+        return Answer::Absent;
+    };
+    answering::answer_row(r, Run::BgpLs, code, place, len)
+}
+
+// The value's bytes as a part of the run.
+pub fn part_of(r: &[u8], whom: Subject, code: usize) -> &[u8]
+    requires { ⌜ (runVerdict (now r) ≡ accepted) × (numberTooHigh (subjectOf whom) ≡ false) × (isCode code ≡ true) × (eqb code 1096 ≡ false) ⌝ }
+    ensures { λ x. ⌜ now x ≡ bytesOfFirst (now (r .entry)) (ofKind code (given (runSource (now (r .entry))) (subjectOf whom) code)) ⌝ }
+{
+    let Found::At { place, len } = find_value(r, whom, code) else {
+        return &r[0..0];
+    };
+    &r[place..place + len]
+}
+
+// Any bytes, any subject and any code are taken; every refusal is document 01's, and after one nothing was written.
 
 // The reply of SRLG: the numbers of a set go into a list, are sorted there, and are counted before any is written. tmp is room to work in, half as long or more.
 fn answer_words(
@@ -85,7 +213,7 @@ fn answer_srlg(r: &[u8], whom: Subject, list: &mut [u32]) -> Answer
     requires { ⌜ (runVerdict (now r) ≡ accepted) × (numberTooHigh (subjectOf whom) ≡ false) ⌝ }
     ensures { λ x. ⌜ toldAsked x (now (list .exit)) ≡ srlgAnswer (srlgs (given (runSource (now (r .entry))) (subjectOf whom) 1096)) (now (list .entry)) ⌝ }
 {
-    let start = bgpls_values::set_asked(r, whom, 1096);
+    let start = set_asked(r, whom, 1096);
     let n = bgpls_srlg::count_words(r, start);
     if n == 0 {
         return Answer::Absent;
@@ -96,12 +224,12 @@ fn answer_srlg(r: &[u8], whom: Subject, list: &mut [u32]) -> Answer
 // The answer to a question that nothing refuses but 5.
 fn answer_accepted(r: &[u8], whom: Subject, code: usize, list: &mut [u32]) -> Answer
     requires { ⌜ (runVerdict (now r) ≡ accepted) × (numberTooHigh (subjectOf whom) ≡ false) × (isCode code ≡ true) ⌝ }
-    ensures { λ x. ⌜ toldAsked x (now (list .exit)) ≡ answer runBgpLs code (given (runSource (now (r .entry))) (subjectOf whom) code) (now (list .entry)) ⌝ }
+    ensures { λ x. ⌜ toldAsked x (now (list .exit)) ≡ answer (place runBgpLs) code (given (runSource (now (r .entry))) (subjectOf whom) code) (now (list .entry)) ⌝ }
 {
     if code == 1096 {
         return answer_srlg(r, whom, list);
     }
-    bgpls_values::answer_value(r, whom, code)
+    answer_value(r, whom, code)
 }
 
 // One kind of one subject: absent, found with its reading, or refused. SRLGs go ascending to the front of the lent list; for every other answer the list stays as it was.
@@ -121,7 +249,7 @@ pub fn ask(r: &[u8], whom: Subject, code: usize, list: &mut [u32]) -> Answer
 
 // The same question: the value's bytes as a part of the run; empty where it is absent, refused, or SRLG.
 // The contract settles the bytes. Left free: which part of the run they are, where the same bytes stand more than once, since a slice has no offset in the
-// language; it is the one at the place that `bgpls_values::find_value` gives, which the C interface tells.
+// language; it is the one at the place that `find_value` gives, which the C interface tells.
 pub fn value(r: &[u8], whom: Subject, code: usize) -> &[u8]
     ensures { λ x. ⌜ now x ≡ value (runSource (now (r .entry))) (subjectOf whom) code ⌝ }
 {
@@ -136,7 +264,7 @@ pub fn value(r: &[u8], whom: Subject, code: usize) -> &[u8]
     if code == 1096 {
         return &r[0..0];
     }
-    bgpls_values::part_of(r, whom, code)
+    part_of(r, whom, code)
 }
 
 // The applications other than RSVP-TE that the run names.
@@ -146,7 +274,7 @@ pub fn named(r: &[u8]) -> Named
     match bgpls_check::check_run(r) {
         Checked::Refused(x) => Named::Refused(x),
         Checked::Accepted => {
-            let m = bgpls_named::named_masks(r);
+            let m = named_masks(r);
             Named::Listed {
                 standard: m.standard,
                 user: m.user,

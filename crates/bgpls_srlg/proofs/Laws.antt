@@ -16,7 +16,7 @@ use Rattle.linkstate.proofs.ElementLaws.{moved, elements-moved}
 use Rattle.linkstate.proofs.WalkLaws.{left}
 use Rattle.octets.proofs.Laws.{part-is, put-nil, put-then, length-put}
 use Rattle.linkstate.proofs.ListLaws.{keep-append, each-append}
-use Rattle.bgpls_check.proofs.Laws.{IsWhole}
+use Rattle.frames.proofs.Laws.{IsWhole}
 use Rattle.bgpls_find.specs.declared.Set.{Set}
 use Rattle.bgpls_find.specs.Walks.{attributesFrom, bytesUpTo, listAt}
 use Rattle.bgpls_find.proofs.Laws.{attributes-end, attributes-turn}
@@ -78,7 +78,7 @@ module _ (s : List ℕ) (at : ℕ) where
   words-end h = ap srlgWords (attributes-end 0 s at h)
 
   -- the element there has the code's slice as its value
-  pub words-turn : (t n : ℕ) → IsWhole s at t n
+  pub words-turn : (t n : ℕ) → IsWhole 2 s at t n
       → wordsLeft ≡ elementWords t (take (at + 4 + n - (at + 4)) (drop (at + 4) s)) ++ srlgWords (each attributesOf (left 2 0 s (at + 4 + n)))
   words-turn t n f =
       ap srlgWords (attributes-turn 0 s at t n f)

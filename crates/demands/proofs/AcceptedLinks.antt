@@ -9,6 +9,7 @@ use borrow.Author.Tests.{ltb-false, eqb-true}
 use lib.Dec.{ltb, eqb}
 use lib.ListN.{length}
 use Rattle.linkstate.specs.Lists.{keep, any, member}
+use Rattle.linkstate.specs.Limits.{mostInAB, mostInC}
 use Rattle.linkstate.specs.Kinds.{kind, kinds, forApplications, isApplications, hasCode, codes, applicationCodes, isLinkCode}
 use Rattle.linkstate.specs.Masks.{others}
 use Rattle.linkstate.specs.Replies.{accepted, runA}
@@ -62,7 +63,7 @@ record Gives (k : ℕ) (s : Side) : Type 0 where
   legacy : Right k (valueOf k (s .legacy))
   live : (p : Advertisement → Bool) → Right k (valueOf k (ofLive p s))
 
-module _ (a b c : List ℕ) (passed : faults runA checkA (elements 1 0 a) ≡ accepted) (shortB : length b ≤ 2048) (shortC : length c ≤ 1024) where
+module _ (a b c : List ℕ) (passed : faults runA checkA (elements 1 0 a) ≡ accepted) (shortB : length b ≤ mostInAB) (shortC : length c ≤ mostInC) where
   side-gives : (k : ℕ) → member k codes ≡ true → Gives k (sideOf a b c k)
   unfolding sideOf
   side-gives k m = go (eqb k 1096) refl
@@ -104,10 +105,10 @@ module _ (a b c : List ℕ) (passed : faults runA checkA (elements 1 0 a) ≡ ac
 pub accepted-is-limited : (a b c : List ℕ) → Accepted (linkSource a b c) → Limited (meaning (linkSource a b c))
 unfolding linkSource linkVerdict
 accepted-is-limited a b c h =
-    let long = unrefused (ltb 2048 (length a) || ltb 2048 (length b) || ltb 1024 (length c)) 1 (then-first _ _ h) in
-    let longB = or-r (ltb 2048 (length a)) (ltb 2048 (length b)) (or-l (ltb 2048 (length a) || ltb 2048 (length b)) (ltb 1024 (length c)) long) in
-    let longC = or-r (ltb 2048 (length a) || ltb 2048 (length b)) (ltb 1024 (length c)) long in
-    limited a b c (then-first _ _ (then-second _ _ (then-second _ _ h))) (ltb-false 2048 (length b) longB) (ltb-false 1024 (length c) longC)
+    let long = unrefused (ltb mostInAB (length a) || ltb mostInAB (length b) || ltb mostInC (length c)) 1 (then-first _ _ h) in
+    let longB = or-r (ltb mostInAB (length a)) (ltb mostInAB (length b)) (or-l (ltb mostInAB (length a) || ltb mostInAB (length b)) (ltb mostInC (length c)) long) in
+    let longC = or-r (ltb mostInAB (length a) || ltb mostInAB (length b)) (ltb mostInC (length c)) long in
+    limited a b c (then-first _ _ (then-second _ _ (then-second _ _ h))) (ltb-false mostInAB (length b) longB) (ltb-false mostInC (length c) longC)
 
 -- ---- the theorem
 

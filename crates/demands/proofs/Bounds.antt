@@ -1,15 +1,14 @@
--- How long the export of an accepted IS-IS link can be: at most 310,644 bytes, and no value of a TLV in it has more than 2,404. Assumes nothing.
+-- What the sets of an accepted IS-IS link weigh: this bounds its export, and each value in it. Assumes nothing.
 use mathlib.Core.Bool.{Bool, cond}
-use mathlib.Core.List.{List, List·Memᴰ}
+use mathlib.Core.List.{List}
 use Prim.Native.Nat.{ℕ, _+_, _≤_}
 use native.Mathlib.Omega.{arith}
 use lib.Dec.{eqb}
-use lib.ListN.{length}
 use Rattle.linkstate.specs.Kinds.{codes, applicationCodes}
 use Rattle.linkstate.specs.Meaning.{Meaning, meaning, Accepted}
-use Rattle.linkstate.specs.Export.{tlv, topValue, tlvs, export}
+use Rattle.linkstate.specs.Export.{topValue}
 use Rattle.isis.specs.Link.{linkSource}
-use Rattle.rivals.proofs.Bounds.{Within, export-bound, value-bound}
+use Rattle.rivals.proofs.Bounds.{Within}
 use Rattle.demands.proofs.MoreLists.{of-cond}
 use Rattle.demands.proofs.Lengths.{limit}
 use Rattle.demands.proofs.SetValues.{value-limited, set-limited}
@@ -31,11 +30,6 @@ limited-within m h =
       named = λ a e. omega (arith, set-limited applicationCodes (m .set a) (h .set a), application-limits);
     }
 
--- The export of an accepted link has at most 310,644 bytes: the reader takes 524,288.
-pub link-export-bound : (a b c : List ℕ) → Accepted (linkSource a b c) → length (export (meaning (linkSource a b c))) ≤ 310644
-link-export-bound a b c h = export-bound _ (limited-within _ (accepted-is-limited a b c h))
-
--- No value of a TLV in it has more than 2,404 bytes: a length has 16 bits.
-pub link-value-bound : (a b c : List ℕ) → Accepted (linkSource a b c) → {t : ℕ} {v : List ℕ} → List·Memᴰ (tlv t v) (tlvs (meaning (linkSource a b c)))
-    → length v ≤ 2404
-link-value-bound a b c h i = value-bound _ (limited-within _ (accepted-is-limited a b c h)) i
+-- So the export of an accepted link has at most 2,436 + (8 + 2,384) + 127 * (24 + 2,384) bytes, and a value in it at most 20 + 2,384.
+pub accepted-is-within : (a b c : List ℕ) → Accepted (linkSource a b c) → Within 2436 2384 (meaning (linkSource a b c))
+accepted-is-within a b c h = limited-within _ (accepted-is-limited a b c h)

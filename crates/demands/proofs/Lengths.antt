@@ -9,9 +9,10 @@ use native.Mathlib.Omega.{arith}
 use borrow.Author.Tests.{leb-true, le-leb, eqb-true, eq-eqb, not-true, not-false}
 use lib.Dec.{leb, eqb}
 use Rattle.linkstate.specs.Lists.{any, all, lookup, member}
-use Rattle.linkstate.specs.Kinds.{Size, exactly, foursFrom, foursWithin, fits, Carrier, typeInA, valuesInBC, Kind, kind, kinds, codes, hasCode, hasType, carriedAs, codeOfType, wrongInA, wrongAtTop}
+use Rattle.linkstate.specs.Kinds.{Size, exactly, foursFrom, foursWithin, fits, Kind, kind, kinds, codes, hasCode, wrongAtTop}
+use Rattle.isis.specs.Types.{TypeInA, typeInA, types, hasType, codeOfType, wrongInA}
 use Rattle.rivals.proofs.KindLaws.{codes-different}
-use Rattle.linkstate.proofs.ListLaws.{different, mem-map, mem-member, and-l, and-r, all-mem, any-no}
+use Rattle.linkstate.proofs.ListLaws.{different, mem-map, mem-member, and-l, and-r, all-mem, any-mem, any-no}
 use Rattle.demands.proofs.MoreLists.{any-false, lookup-cases}
 
 -- Type, length and value: 4 bytes and at most 2,048 of SRLGs, at most 252 of an extended group, 32 of unreserved bandwidth, 8 of min/max delay, else 4.
@@ -55,27 +56,6 @@ size-right (foursWithin l m) (foursFrom k) false most h n f =
     (rw (and-l (eqb (n % 4) 0) (leb l n) within, le-leb k n (omega arith)), omega arith)
 size-right (foursWithin l m) (foursWithin k o) front most h n f = absurd (false≢true h)
 
-carrierTest : Carrier → Kind → Bool
-carrierTest (typeInA t) q = sizeTest (q .isisSize) (q .bgplsSize) (eqb t 18) (limit (q .code))
-carrierTest valuesInBC q = true
-
-rowTest : Kind → Bool
-rowTest q = carrierTest (q .carrier) q
-
-rows-right : all rowTest kinds ≡ true
-unfolding all rowTest carrierTest sizeTest kinds kind fits lengthInBgpLs limit
-rows-right = refl
-
-row-right : (q : Kind) (t n : ℕ) → rowTest q ≡ true → hasType t q ≡ true → fits (q .isisSize) n ≡ true
-    → (fits (q .bgplsSize) (lengthInBgpLs (eqb t 18) n) ≡ true) × (4 + lengthInBgpLs (eqb t 18) n ≤ limit (q .code))
-unfolding rowTest hasType carrierTest carriedAs
-row-right q t n h y f = go (q .carrier) h y
-  where
-    go : (c : Carrier) → carrierTest c q ≡ true → carriedAs t c ≡ true
-        → (fits (q .bgplsSize) (lengthInBgpLs (eqb t 18) n) ≡ true) × (4 + lengthInBgpLs (eqb t 18) n ≤ limit (q .code))
-    go (typeInA s) r e = rw (eqb-true t s e) (size-right (q .isisSize) (q .bgplsSize) (eqb s 18) (limit (q .code)) r n f)
-    go valuesInBC r e = absurd (false≢true e)
-
 -- ---- the table
 
 -- No two rows have the same code: it stands nowhere else, so it shows the row.
@@ -111,57 +91,39 @@ pub zero-is-no-code : member 0 codes ≡ true → ⊥
 unfolding member codes kinds kind
 zero-is-no-code h = false≢true h
 
+-- ---- the types
+
+-- Whether every length that a type may have is right for its code and within its limit: a computed test.
+rowTest : TypeInA → Bool
+rowTest q = any (λ r. hasCode (q .code) r && sizeTest (q .size) (r .bgplsSize) (eqb (q .type) 18) (limit (q .code))) kinds
+
+rows-right : all rowTest types ≡ true
+unfolding all any rowTest sizeTest types typeInA kinds kind hasCode fits lengthInBgpLs limit
+rows-right = refl
+
+row-right : (q : TypeInA) (t n : ℕ) → rowTest q ≡ true → hasType t q ≡ true → fits (q .size) n ≡ true → RightLength (q .code) (lengthInBgpLs (eqb t 18) n)
+unfolding rowTest hasType hasCode
+row-right q t n h y f =
+    let test : Kind → Bool = λ r. sizeTest (q .size) (r .bgplsSize) (eqb (q .type) 18) (limit (q .code)) in
+    let r = any-mem (λ r. eqb (q .code) (r .code) && test r) kinds h in
+    let e : q .code ≡ r .0 .code = eqb-true (q .code) (r .0 .code) (and-l (eqb (q .code) (r .0 .code)) (test (r .0)) (r .2)) in
+    let s = size-right (q .size) (r .0 .bgplsSize) (eqb (q .type) 18) (limit (q .code)) (and-r (eqb (q .code) (r .0 .code)) (test (r .0)) (r .2)) n f in
+    rw (eqb-true t (q .type) y) (record { fit = ap (λ (c : ℕ). wrongAtTop c (lengthInBgpLs (eqb (q .type) 18) n)) e ∙ row-decides (r .0) _ (r .1) (s .0); low = s .1 })
+
 -- "a known kind .. has a wrong length": where A's check passes a known type, the length is right for its code.
 pub type-right : (t n : ℕ) → wrongInA t n ≡ false → member (codeOfType t) codes ≡ true → RightLength (codeOfType t) (lengthInBgpLs (eqb t 18) n)
 unfolding wrongInA codeOfType
-type-right t n w m = go (lookup-cases (hasType t) (λ q. q .code) 0 kinds)
+type-right t n w m = go (lookup-cases (hasType t) (λ q. q .code) 0 types)
   where
-    found : (q : Kind) → List·Memᴰ q kinds → hasType t q ≡ true → RightLength (q .code) (lengthInBgpLs (eqb t 18) n)
+    found : (q : TypeInA) → List·Memᴰ q types → hasType t q ≡ true → RightLength (q .code) (lengthInBgpLs (eqb t 18) n)
     found q i e =
-        let f : fits (q .isisSize) n ≡ true = not-false _ (rw e at (any-false (λ r. hasType t r && not (fits (r .isisSize) n)) kinds w i)) in
-        let r = row-right q t n (all-mem rowTest kinds rows-right i) e f in
-        record { fit = row-decides q _ i (r .0); low = r .1 }
+        let f : fits (q .size) n ≡ true = not-false _ (rw e at (any-false (λ r. hasType t r && not (fits (r .size) n)) types w i)) in
+        row-right q t n (all-mem rowTest types rows-right i) e f
 
-    go : ((q : Kind) × List·Memᴰ q kinds × (hasType t q ≡ true) × (lookup (hasType t) (λ q. q .code) 0 kinds ≡ q .code)) ⊎ (lookup (hasType t) (λ q. q .code) 0 kinds ≡ 0)
-        → RightLength (lookup (hasType t) (λ q. q .code) 0 kinds) (lengthInBgpLs (eqb t 18) n)
+    go : ((q : TypeInA) × List·Memᴰ q types × (hasType t q ≡ true) × (lookup (hasType t) (λ q. q .code) 0 types ≡ q .code)) ⊎ (lookup (hasType t) (λ q. q .code) 0 types ≡ 0)
+        → RightLength (lookup (hasType t) (λ q. q .code) 0 types) (lengthInBgpLs (eqb t 18) n)
     go (inl r) = rw (r .3) (found (r .0) (r .1) (r .2))
     go (inr e) = absurd (zero-is-no-code (rw e at m))
-
--- Only type 18 is a TE metric.
-metricRow : Carrier → ℕ → Bool
-metricRow (typeInA t) c = cond (eqb t 18) (eqb c 1092) (not (eqb c 1092))
-metricRow valuesInBC c = true
-
-metric-rows : all (λ q. metricRow (q .carrier) (q .code)) kinds ≡ true
-unfolding all metricRow kinds kind
-metric-rows = refl
-
-metric-known : codeOfType 18 ≡ 0 → ⊥
-unfolding codeOfType lookup kinds kind hasType carriedAs
-metric-known e = omega arith
-
-pub metric-type : (t : ℕ) → eqb t 18 ≡ eqb (codeOfType t) 1092
-unfolding codeOfType metricRow hasType carriedAs
-metric-type t = go (lookup-cases (hasType t) (λ q. q .code) 0 kinds)
-  where
-    same : (x y : Bool) → cond x y (not y) ≡ true → x ≡ y
-    same true true h = refl
-    same true false h = absurd (false≢true h)
-    same false true h = absurd (false≢true h)
-    same false false h = refl
-
-    row : (c : Carrier) (n : ℕ) → metricRow c n ≡ true → carriedAs t c ≡ true → eqb t 18 ≡ eqb n 1092
-    row (typeInA x) n h e = rw (eqb-true t x e) (same (eqb x 18) (eqb n 1092) h)
-    row valuesInBC n h e = absurd (false≢true e)
-
-    other : lookup (hasType t) (λ q. q .code) 0 kinds ≡ 0 → (b : Bool) → eqb t 18 ≡ b → b ≡ false
-    other e true i = absurd (metric-known (subst (λ (x : ℕ). codeOfType x ≡ 0) (eqb-true t 18 i) e))
-    other e false i = refl
-
-    go : ((q : Kind) × List·Memᴰ q kinds × (hasType t q ≡ true) × (lookup (hasType t) (λ q. q .code) 0 kinds ≡ q .code)) ⊎ (lookup (hasType t) (λ q. q .code) 0 kinds ≡ 0)
-        → eqb t 18 ≡ eqb (lookup (hasType t) (λ q. q .code) 0 kinds) 1092
-    go (inl r) = rw (r .3) (row (r .0 .carrier) (r .0 .code) (all-mem (λ q. metricRow (q .carrier) (q .code)) kinds metric-rows (r .1)) (r .2))
-    go (inr e) = rw e (other e (eqb t 18) refl)
 
 -- SRLGs: any multiple of four is right.
 pub fours-right : (n : ℕ) → 4 + 4 * n ≤ 2052 → RightLength 1096 (4 * n)

@@ -6,15 +6,17 @@ use Prim.Native.Nat.{ℕ, _+_, _%_}
 use lib.Dec.{ltb, eqb}
 use lib.ListN.{length}
 use Rattle.linkstate.specs.Lists.{any, member}
-use Rattle.linkstate.specs.Kinds.{wrongInA}
+use Rattle.linkstate.specs.Limits.{mostInAB, mostInC}
 use Rattle.linkstate.specs.Replies.{Run, accepted, fault, runA, runB}
 use Rattle.linkstate.specs.Elements.{elements}
+use Rattle.isis.specs.Types.{wrongInA}
 use Rattle.isis.specs.MaskHeader.{lFlag, headerLength, maskTooLong, lForNobody}
 use Rattle.isis.specs.RunA.{listElements, checkAttribute, checkAsla, checkA}
 use Rattle.isis.specs.RunB.{afterNeighbour, identifierBytes, identifiers, srlgValues, knownIdentifiers, checkIdentifier, ignored, checkSrlg, checkB}
 use Rattle.isis.specs.Link.{linkVerdict, exportLink}
+use Rattle.rivals.specs.Signed.{LinkAccepted}
 use Rattle.rivals.proofs.Acceptance.{By, by-none, by-then, by-fault, by-cond, by-if, by-faults, by-refuses, accepted-only5, only5-accepted}
-use Rattle.demands.specs.Demands.{ofChecks, LinkAccepted}
+use Rattle.demands.specs.Demands.{ofChecks}
 
 cut-off : (run : Run) (at : ℕ) → By ofChecks (fault 3 run at)
 unfolding member
@@ -62,11 +64,11 @@ b-by at t value = by-cond (eqb t 238) (srlg-by at value (afterNeighbour value)) 
 link-by : (a b c : List ℕ) → By ofChecks (linkVerdict a b c)
 unfolding linkVerdict member
 link-by a b c =
-    by-then (by-if (ltb 2048 (length a) || ltb 2048 (length b) || ltb 1024 (length c)) 1 refl)
+    by-then (by-if (ltb mostInAB (length a) || ltb mostInAB (length b) || ltb mostInC (length c)) 1 refl)
     (by-then (by-if (not (eqb (length c % 4) 0)) 2 refl)
     (by-then (by-faults refl runA checkA a-by (elements 1 0 a)) (by-faults refl runB checkB b-by (elements 1 0 b))))
 
-pub link-accepted : (a b c : List ℕ) → LinkAccepted (linkVerdict a b c) (exportLink a b c)
+pub link-accepted : (a b c : List ℕ) → LinkAccepted ofChecks (linkVerdict a b c) (exportLink a b c)
 unfolding exportLink member
 link-accepted a b c =
     let numbers = by-refuses (link-by a b c) in

@@ -10,6 +10,7 @@ use borrow.Author.Tests.{eqb-true}
 use lib.Dec.{eqb}
 use lib.ListN.{length}
 use Rattle.linkstate.specs.Lists.{keep, each, empty, member}
+use Rattle.linkstate.specs.Limits.{mostInAB, mostInSet}
 use Rattle.linkstate.specs.Bytes.{words, distinct, bytesOfWords}
 use Rattle.linkstate.specs.Kinds.{codes}
 use Rattle.linkstate.specs.Attributes.{Attribute, ofKind, srlgs, firstValue, valueOf}
@@ -52,7 +53,7 @@ first-right k ts e m s = rw e (go (keep (λ t. eqb k (t .code)) ts) (λ t i. kee
         rw c (s t (q .1) (rw c at m))
 
 -- SRLGs.
-pub srlgs-right : (ts : List Attribute) → valueBytes ts ≤ 2048 → Right 1096 (valueOf 1096 ts)
+pub srlgs-right : (ts : List Attribute) → valueBytes ts ≤ mostInAB → Right 1096 (valueOf 1096 ts)
 unfolding valueOf
 srlgs-right ts h e = rw (length-fours (srlgs ts)) (fours-right (length (srlgs ts)) (omega (arith, length-srlgs ts)))
 
@@ -72,7 +73,7 @@ pub set-limited : (ks : List ℕ) (f : ℕ → List ℕ) → ((k : ℕ) → List
 unfolding costs
 set-limited ks f h = sumOf-le (λ k. cost (f k)) limit ks (λ k i. value-limited k (f k) (h k i))
 
-pub values-of : (ks : List ℕ) (f : ℕ → List ℕ) → sumOf limit ks ≤ 4000 → bytesOfWords (distinct (words (f 1096))) ≡ f 1096
+pub values-of : (ks : List ℕ) (f : ℕ → List ℕ) → sumOf limit ks ≤ mostInSet → bytesOfWords (distinct (words (f 1096))) ≡ f 1096
     → ((k : ℕ) → List·Memᴰ k ks → Right k (f k)) → Values ks f
 values-of ks f l c h =
     record {

@@ -11,19 +11,21 @@ use lib.ListN.{length, drop}
 use lib.Seq.{take-length}
 use Rattle.linkstate.specs.Lists.{each, lookup, member}
 use Rattle.linkstate.specs.Bytes.{bytesAt}
-use Rattle.linkstate.specs.Kinds.{kind, kinds, carriedAs, hasType, codes, codeOfType, wrongInA}
+use Rattle.linkstate.specs.Kinds.{codes}
 use Rattle.linkstate.specs.Replies.{accepted, runA}
 use Rattle.linkstate.specs.Elements.{Element, element, cut, elements, faults}
 use Rattle.linkstate.specs.Attributes.{Attribute, attribute}
 use Rattle.linkstate.specs.Sides.{Advertisement, ofLive}
+use Rattle.isis.specs.Types.{typeInA, types, hasType, codeOfType, wrongInA}
 use Rattle.isis.specs.MaskHeader.{lFlag, headerLength, maskTooLong, lForNobody, advertisement}
 use Rattle.isis.specs.RunA.{listElements, checkAttribute, checkAsla, checkA, attributesOf, liveAsla, aslaAdvertisements, sideA}
+use Rattle.isis.proofs.TypeLaws.{metric-type}
 use Rattle.linkstate.proofs.ElementLaws.{at-place, rest-place}
 use Rattle.linkstate.proofs.ListLaws.{or-l, or-r, keep-mem, each-mem}
 use Rattle.rivals.proofs.RunLaws.{faults-mem}
 use Rattle.demands.specs.Demands.{inA}
 use Rattle.demands.proofs.Passed.{unfaulted}
-use Rattle.demands.proofs.Lengths.{RightLength, lengthInBgpLs, type-right, metric-type, zero-is-no-code}
+use Rattle.demands.proofs.Lengths.{RightLength, lengthInBgpLs, type-right, zero-is-no-code}
 use Rattle.demands.proofs.SetValues.{Sound}
 
 -- An attribute of a run A: its value stands there as it was sent, and has a right length if its kind is known.
@@ -73,7 +75,7 @@ unfolding checkAttribute
 attribute-right at t v h = unfaulted (wrongInA t (length v)) 4 runA at accepted h .0
 
 asla-is-no-kind : member (codeOfType 16) codes ≡ true → ⊥
-unfolding codeOfType lookup kinds kind hasType carriedAs
+unfolding codeOfType lookup types typeInA hasType
 asla-is-no-kind h = zero-is-no-code h
 
 -- The list of a live ASLA, where it is read.

@@ -21,15 +21,15 @@ use Rattle.replies.specs.declared.Refusal.{Refusal}
 use Rattle.replies.specs.declared.Written.the-variants.{Bytes, Refused}
 use Rattle.masks.specs.Sets.{turnedPlace, inSent}
 use Rattle.masks.proofs.Steps.{zero-none}
-use Rattle.naming.specs.Names.{inBoth}
+use Rattle.masks.specs.Applications.{inBoth}
 use Rattle.tlv_bytes.specs.Tlvs.{inTlvs}
 use Rattle.tlv_bytes.proofs.Laws.{empty-is, tlvs-same}
-use Rattle.srlg_bytes.specs.Standing.{numbersIn}
+use Rattle.set_bytes.specs.Standing.{numbersIn}
 use Rattle.set_bytes.specs.Sets.{lowCodes, highCodes}
 use Rattle.set_groups.specs.Groups.{Group, groupTlv}
 use Rattle.set_groups.specs.Table.{word, slotIn, classIn, entryGroup, tableGroups}
 use Rattle.set_groups.proofs.Tlvs.{each-map, each-ext, asla-same, asla-row, tlv-is, groups-are}
-use Rattle.export_sizes.specs.Sizes.{setSize, firstEntry}
+use Rattle.export_bytes.specs.Sizes.{setSize, firstEntry}
 use Rattle.export_bytes.specs.Whole.{slotSet, aslaTlv, entryTlv, aslaTlvs, topSet, wholeBytes, Tables, Entered, answered}
 use Rattle.export_bytes.specs.Describes.{Describes}
 use Rattle.export_bytes.proofs.Laws.{set-size}

@@ -6,27 +6,27 @@ use native.Mathlib.Nat.{add-zero}
 use native.Mathlib.Omega.{arith}
 use borrow.Author.Tests.{lt-ltb, le-ltb}
 use lib.ListN.{length, getD, length-append}
+use Rattle.linkstate.specs.Limits.{mostNumbers}
 use Rattle.linkstate.specs.Lists.{numbers, each}
 use Rattle.linkstate.specs.Kinds.{applicationCodes}
 use Rattle.linkstate.specs.Masks.{user}
 use Rattle.linkstate.proofs.ListLaws.{each-append}
 use Rattle.masks.specs.Sets.{inSent}
-use Rattle.naming.specs.Names.{inBoth}
+use Rattle.masks.specs.Applications.{inBoth}
 use Rattle.kinds.specs.Rules.{gridCodes, rowIn}
 use Rattle.tlv_bytes.specs.Tlvs.{inTlvs, Wrote}
 use Rattle.tlv_bytes.proofs.Laws.{tlvs-small, length-value, front-most, same-room, same-write, no-write, behind-room, behind-write}
-use Rattle.srlg_sources.specs.Classes.{mostNumbers}
-use Rattle.srlg_bytes.specs.Standing.{srlgSize, countIn, numbersIn, Standing, Written}
-use Rattle.srlg_bytes.proofs.Laws.{length-srlgs, class-few, standing-on, size-bound}
+use Rattle.set_bytes.specs.Standing.{srlgSize, countIn, numbersIn, Standing, Written}
+use Rattle.set_bytes.proofs.SrlgLaws.{length-srlgs, class-few, standing-on, size-bound}
 use Rattle.grids.specs.Grids.{rowValue, gridValue, setOf, RowFits}
 use Rattle.grids.specs.Slots.{slotGrid, IsSet}
 use Rattle.grids.proofs.Laws.{ten}
 use Rattle.set_bytes.specs.Sets.{Writable}
 use Rattle.set_bytes.proofs.Laws.{set-length}
-use Rattle.asla_bytes.specs.Fronts.{frontSize, aslaFront}
-use Rattle.asla_bytes.proofs.Laws.{length-front, asla-is}
-use Rattle.export_sizes.specs.declared.Asla.{Asla}
-use Rattle.export_sizes.specs.Sizes.{aslaOf, setSize, aslaSize}
+use Rattle.tlv_bytes.specs.Fronts.{frontSize, aslaFront}
+use Rattle.tlv_bytes.proofs.AslaLaws.{length-front, asla-is}
+use Rattle.export_bytes.specs.declared.Asla.{Asla}
+use Rattle.export_bytes.specs.Sizes.{aslaOf, setSize, aslaSize}
 use Rattle.export_bytes.specs.Whole.{slotSet, aslaTlv, entryTlv, aslaTlvs, Tables, Entered, Open}
 
 -- ---- masks, and lists in turn

@@ -9,12 +9,12 @@ use Rattle.linkstate.specs.Kinds.{linkCodes}
 use Rattle.kinds.proofs.Computing.{computing}
 use Rattle.tlv_bytes.specs.Tlvs.{inTlvs}
 use Rattle.tlv_bytes.proofs.Laws.{length-three}
-use Rattle.srlg_bytes.specs.Standing.{numbersIn}
+use Rattle.set_bytes.specs.Standing.{numbersIn}
 use Rattle.grids.specs.Grids.{bandwidthOf}
 use Rattle.grids.specs.Slots.{slotGrid, linkRows, cell, cellRow, IsSet}
 use Rattle.set_bytes.specs.Sets.{lowCodes, highCodes}
 use Rattle.set_bytes.proofs.Laws.{three-codes, link-kind, link-fits, kind-size, bandwidths-are, top-length}
-use Rattle.export_sizes.specs.Sizes.{aslaOf, rowSize, linkSize, sumFrom, entrySize, wholeSize, Measurable}
+use Rattle.export_bytes.specs.Sizes.{aslaOf, rowSize, linkSize, sumFrom, entrySize, wholeSize, Measurable}
 use Rattle.export_bytes.specs.Whole.{entryTlv, aslaTlvs, topSet, wholeBytes, Tables, Entered}
 use Rattle.export_bytes.proofs.Laws.{set-size, count-few, asla-length, each-last}
 use Rattle.export_bytes.proofs.Parts.{link-rows}

@@ -12,8 +12,8 @@ use Rattle.linkstate.specs.Kinds.{linkCodes}
 use Rattle.kinds.specs.Rules.{gridCodes}
 use Rattle.tlv_bytes.specs.Tlvs.{inTlvs, Wrote}
 use Rattle.tlv_bytes.proofs.Laws.{Three, first-room, second-room, third-room, three-write}
-use Rattle.srlg_bytes.specs.Standing.{numbersIn, Written}
-use Rattle.srlg_bytes.proofs.Laws.{standing-on}
+use Rattle.set_bytes.specs.Standing.{numbersIn, Written}
+use Rattle.set_bytes.proofs.SrlgLaws.{standing-on}
 use Rattle.grids.specs.Grids.{gridValue, setOf, bandwidthOf, RowFits, Fits}
 use Rattle.grids.specs.Slots.{slotGrid, linkRows, IsSet}
 use Rattle.grids.proofs.Laws.{slot-row}

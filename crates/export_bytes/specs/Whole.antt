@@ -7,15 +7,15 @@ use Rattle.linkstate.specs.Lists.{numbers, each}
 use Rattle.linkstate.specs.Replies.{accepted, bytes, Exported}
 use Rattle.linkstate.specs.Questions.{write}
 use Rattle.linkstate.specs.Export.{tlv, bytesOf, aslaValue}
-use Rattle.naming.specs.Names.{inBoth}
+use Rattle.masks.specs.Applications.{inBoth}
 use Rattle.tlv_bytes.specs.Tlvs.{inTlvs}
-use Rattle.srlg_bytes.specs.Standing.{numbersIn, Classes, Standing}
+use Rattle.set_bytes.specs.Standing.{numbersIn, Classes, Standing}
 use Rattle.grids.specs.Grids.{setOf, topOf}
 use Rattle.grids.specs.Slots.{slotGrid, linkRows, IsSet, Slots}
 use Rattle.set_bytes.specs.Sets.{lowCodes, highCodes}
 use Rattle.set_groups.specs.Table.{word, slotIn, classIn}
-use Rattle.export_sizes.specs.declared.Asla.{Asla}
-use Rattle.export_sizes.specs.Sizes.{aslaOf}
+use Rattle.export_bytes.specs.declared.Asla.{Asla}
+use Rattle.export_bytes.specs.Sizes.{aslaOf}
 
 -- The set of a slot and a class.
 abbrev pub slotSet : List ℕ → List (List ℕ) → (ℕ → List ℕ) → ℕ → ℕ → ℕ → List ℕ

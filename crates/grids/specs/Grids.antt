@@ -5,6 +5,7 @@ use mathlib.Core.List.{List, []}
 use Prim.Native.Nat.{ℕ, _+_, _≤_}
 use lib.Dec.{eqb}
 use lib.ListN.{length, getD}
+use Rattle.linkstate.specs.Limits.{mostBytes}
 use Rattle.linkstate.specs.Bytes.{bytesOfWords}
 use Rattle.linkstate.specs.Kinds.{linkCodes, isLinkCode}
 use Rattle.kinds.specs.Rules.{gridCodes, rowIn}
@@ -31,10 +32,6 @@ bandwidthOf run l c = rowValue run (getD l (rowIn linkCodes c) [])
 -- L2. What stands at the top of a run: bandwidths and a set.
 unfoldable pub topOf : List ℕ → List (List ℕ) → List (List ℕ) → List ℕ → ℕ → List ℕ
 topOf run l g ns c = cond (isLinkCode c) (bandwidthOf run l c) (setOf run g ns c)
-
--- How many bytes a value can have: no run of a link is longer.
-abbrev pub mostBytes : ℕ
-mostBytes = 4096
 
 -- A row that fits a run.
 pub record RowFits (run r : List ℕ) : Type 0 where

@@ -1,4 +1,5 @@
 pub mod Computing
+pub mod TypeLaws
 pub mod Starred
 pub mod Vectors
 pub mod WhyVectors

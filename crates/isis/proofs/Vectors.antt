@@ -1,15 +1,37 @@
 -- The definitions of an IS-IS link on worked bytes, by computing: each fact pins one rule, so that a slip in it is refused here.
 use mathlib.Core.Path.{_≡_, refl}
+use mathlib.Core.Bool.{true, false, not}
 use mathlib.Core.List.{List, [], _∷_, _++_, map}
 use Prim.Native.Nat.{ℕ}
+use lib.Dec.{eqb}
 use lib.ListN.{replicate}
+use Rattle.linkstate.specs.Lists.{keep}
+use Rattle.linkstate.specs.Kinds.{codes}
 use Rattle.linkstate.specs.Replies.{Verdict, accepted, fault, faultOfCall, runA, runB, Reply, absent, found, whole, count, listed}
 use Rattle.linkstate.specs.Questions.{Subject, generally, standardNo, userNo, ask, listNamed}
 use Rattle.linkstate.specs.Meaning.{meaning}
 use Rattle.linkstate.specs.Export.{export}
+use Rattle.isis.specs.Types.{types, codeOfType, wrongInA}
 use Rattle.isis.specs.Link.{linkVerdict, linkSource}
 use Rattle.isis.specs.Starred.{M, S, G, Z}
 use Rattle.isis.proofs.Computing.{computing}
+
+-- Every kind but SRLG has a type in run A; other types have none of the codes.
+one-type-each : map (λ q. q .code) types ≡ keep (λ k. not (eqb k 1096)) codes
+unfolding computing
+one-type-each = refl
+
+codes-by-type :
+    map codeOfType (3 ∷ 9 ∷ 10 ∷ 11 ∷ 14 ∷ 18 ∷ 33 ∷ 34 ∷ 35 ∷ 36 ∷ 37 ∷ 38 ∷ 39 ∷ 0 ∷ 16 ∷ 32 ∷ 40 ∷ [])
+    ≡ 1088 ∷ 1089 ∷ 1090 ∷ 1091 ∷ 1173 ∷ 1092 ∷ 1114 ∷ 1115 ∷ 1116 ∷ 1117 ∷ 1118 ∷ 1119 ∷ 1120 ∷ 0 ∷ 0 ∷ 0 ∷ 0 ∷ []
+unfolding computing
+codes-by-type = refl
+
+-- Metric of 3 bytes in run A; extended group of 4 to 252; min/max delay of 8; unreserved bandwidth of 32.
+right-lengths : (map (wrongInA 18) (3 ∷ 4 ∷ []) ≡ false ∷ true ∷ []) × (map (wrongInA 14) (0 ∷ 4 ∷ 6 ∷ 252 ∷ 256 ∷ []) ≡ true ∷ false ∷ true ∷ false ∷ true ∷ [])
+    × (map (wrongInA 34) (4 ∷ 8 ∷ []) ≡ true ∷ false ∷ []) × (map (wrongInA 11) (4 ∷ 32 ∷ []) ≡ true ∷ false ∷ [])
+unfolding computing
+right-lengths = (refl, refl, refl, refl)
 
 -- A TLV 238 of n value bytes: seven neighbour bytes, then what follows.
 tlv238 : ℕ → List ℕ → List ℕ

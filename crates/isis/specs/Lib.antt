@@ -1,3 +1,4 @@
+pub mod Types
 pub mod MaskHeader
 pub mod RunA
 pub mod RunB

@@ -5,8 +5,9 @@ use Prim.Native.Nat.{ℕ, _%_}
 use lib.Dec.{ltb, eqb}
 use lib.ListN.{length}
 use Rattle.linkstate.specs.Lists.{member}
+use Rattle.linkstate.specs.Limits.{mostInAB, mostInC}
 use Rattle.linkstate.specs.Masks.{others}
-use Rattle.linkstate.specs.Replies.{Verdict, refusedIf, _then_, runA, runB, Exported}
+use Rattle.linkstate.specs.Replies.{place, Verdict, refusedIf, _then_, runA, runB, Exported}
 use Rattle.linkstate.specs.Elements.{elements, faults}
 use Rattle.linkstate.specs.Sides.{Side, named, generalSet, applicationSet, rsvpTeKind, bandwidthKind}
 use Rattle.linkstate.specs.Questions.{Source, write}
@@ -18,7 +19,7 @@ use Rattle.isis.specs.RunB.{checkB, sideB}
 -- R1, R2, R9. The checks of a link: the runs' sizes, C's length, then A and B from their starts.
 unfoldable pub linkVerdict : List ℕ → List ℕ → List ℕ → Verdict
 linkVerdict a b c =
-    refusedIf (ltb 2048 (length a) || ltb 2048 (length b) || ltb 1024 (length c)) 1
+    refusedIf (ltb mostInAB (length a) || ltb mostInAB (length b) || ltb mostInC (length c)) 1
     then refusedIf (not (eqb (length c % 4) 0)) 2
     then faults runA checkA (elements 1 0 a)
     then faults runB checkB (elements 1 0 b)
@@ -31,7 +32,7 @@ sideOf a b c k = cond (eqb k 1096) (sideB b c) (sideA a)
 unfoldable pub linkSource : List ℕ → List ℕ → List ℕ → Source
 linkSource a b c =
     record {
-      run = runA;
+      spot = place runA;
       bytes = a;
       verdict = linkVerdict a b c;
       bandwidth = λ k. bandwidthKind k (sideA a);

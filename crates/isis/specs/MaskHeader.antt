@@ -5,6 +5,7 @@ use mathlib.Core.List.{List, [], _∷_}
 use Prim.Native.Nat.{ℕ, _+_, _%_}
 use lib.Dec.{leb, ltb, eqb}
 use lib.ListN.{take, drop, getD}
+use Rattle.linkstate.specs.Limits.{mostMask}
 use Rattle.linkstate.specs.Attributes.{Attribute}
 use Rattle.linkstate.specs.Sides.{Advertisement}
 
@@ -24,7 +25,7 @@ headerLength v = 2 + sabmLength v + udabmLength v
 
 -- A3, B3. A mask length above 8: the advertisement is ignored unread.
 unfoldable pub maskTooLong : List ℕ → Bool
-maskTooLong v = ltb 8 (sabmLength v) || ltb 8 (udabmLength v)
+maskTooLong v = ltb mostMask (sabmLength v) || ltb mostMask (udabmLength v)
 
 -- A3, B3. L set though both masks are empty: ignored.
 unfoldable pub lForNobody : List ℕ → Bool

@@ -5,11 +5,11 @@ use Prim.Native.Nat.{ℕ, _+_}
 use lib.Dec.{ltb, eqb}
 use lib.ListN.{length, drop}
 use Rattle.linkstate.specs.Lists.{each}
-use Rattle.linkstate.specs.Kinds.{codeOfType, wrongInA}
 use Rattle.linkstate.specs.Replies.{Verdict, accepted, fault, runA}
 use Rattle.linkstate.specs.Elements.{Element, element, cut, elements, faults}
 use Rattle.linkstate.specs.Attributes.{Attribute, attribute}
 use Rattle.linkstate.specs.Sides.{Advertisement, Side}
+use Rattle.isis.specs.Types.{codeOfType, wrongInA}
 use Rattle.isis.specs.MaskHeader.{lFlag, headerLength, maskTooLong, lForNobody, advertisement}
 
 -- A2. The attribute list of an ASLA whose first byte is at an offset: all that follows the masks.

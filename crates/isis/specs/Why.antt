@@ -4,7 +4,7 @@ use mathlib.Core.List.{List}
 use Prim.Native.Nat.{ℕ}
 use lib.Dec.{eqb}
 use Rattle.linkstate.specs.Kinds.{isLinkCode}
-use Rattle.linkstate.specs.Replies.{runA, runB, runC}
+use Rattle.linkstate.specs.Replies.{place, runA, runB, runC}
 use Rattle.linkstate.specs.Elements.{elements}
 use Rattle.linkstate.specs.Questions.{Subject}
 use Rattle.linkstate.specs.Why.{Why, Standing, rsvpTeWhy, subjectWhy, bandwidthWhy, unlessAskRefused}
@@ -14,10 +14,10 @@ use Rattle.isis.specs.Link.{linkSource}
 
 -- W1. The sides where they stand: A's legacy values are its own elements, B's lie in C.
 unfoldable pub standA : List ℕ → Standing
-standA a = record { side = sideA a; run = runA; elements = elements 1 0 a; live = aslaAdvertisements; legacyRun = runA }
+standA a = record { side = sideA a; spot = place runA; elements = elements 1 0 a; live = aslaAdvertisements; legacyRun = runA }
 
 unfoldable pub standB : List ℕ → List ℕ → Standing
-standB b c = record { side = sideB b c; run = runB; elements = elements 1 0 b; live = srlgAdvertisements; legacyRun = runC }
+standB b c = record { side = sideB b c; spot = place runB; elements = elements 1 0 b; live = srlgAdvertisements; legacyRun = runC }
 
 unfoldable pub standOf : List ℕ → List ℕ → List ℕ → ℕ → Standing
 standOf a b c k = cond (eqb k 1096) (standB b c) (standA a)

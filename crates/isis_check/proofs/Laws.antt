@@ -18,10 +18,10 @@ use Rattle.isis.specs.RunB.{checkB, sideB}
 use Rattle.isis.specs.Link.{linkVerdict}
 use Rattle.replies.specs.declared.Refusal.{Refusal as Fault}
 use Rattle.replies.specs.Told.{toldRefusal}
-use Rattle.naming.specs.declared.Names.{Names}
-use Rattle.naming.specs.declared.Checking.{Checking}
-use Rattle.naming.specs.declared.Checking.the-variants as Run
-use Rattle.naming.specs.Names.{Tells, toldChecking, Named, Checks}
+use Rattle.rules.specs.declared.Names.{Names}
+use Rattle.rules.specs.declared.Checking.{Checking}
+use Rattle.rules.specs.declared.Checking.the-variants as Run
+use Rattle.rules.specs.Names.{Tells, toldChecking, Named, Checks}
 use Rattle.isis_check.specs.declared.Sides.{Sides}
 use Rattle.isis_check.specs.declared.LinkChecked.the-variants.{Refused, Accepted}
 use Rattle.isis_check.specs.Sides.{ChecksLink}

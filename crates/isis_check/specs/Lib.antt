@@ -1,1 +1,3 @@
+pub mod Identifiers
+pub mod Parts
 pub mod Sides

@@ -7,7 +7,7 @@ use Rattle.isis.specs.RunA.{sideA}
 use Rattle.isis.specs.RunB.{sideB}
 use Rattle.isis.specs.Link.{linkVerdict}
 use Rattle.replies.specs.Told.{toldRefusal}
-use Rattle.naming.specs.Names.{Tells}
+use Rattle.rules.specs.Names.{Tells}
 use Rattle.isis_check.specs.declared.LinkChecked.{LinkChecked}
 use Rattle.isis_check.specs.declared.LinkChecked.the-variants.{Refused, Accepted}
 

@@ -1,21 +1,320 @@
 // The checks of an IS-IS link: all that can refuse it, in document 01's order.
 ghost use mathlib.Core.Path.{_≡_};
-ghost use mathlib.Core.Bool.{_||_};
-ghost use mathlib.Core.List.{List};
-ghost use Prim.Native.Nat.{ℕ, _<_};
-ghost use lib.Dec.{ltb};
+ghost use mathlib.Core.List.{List, [], _∷_};
+ghost use mathlib.Core.Logic.{_⊎_};
+ghost use Prim.Native.Nat.{ℕ, _+_, _≤_, _<_};
 ghost use lib.ListN.{length};
-ghost use Rattle.linkstate.specs.Replies.{_then_, runB};
-ghost use Rattle.linkstate.specs.Elements.{elements, faults};
-ghost use Rattle.isis.specs.RunB.{checkB, sideB};
-ghost use Rattle.isis.specs.Link.{linkVerdict};
-ghost use Rattle.replies.specs.Told.{toldChecked};
-ghost use Rattle.naming.specs.Names.{Checks};
+ghost use Rattle.linkstate.specs.Replies.{runB};
+ghost use Rattle.linkstate.specs.Elements.{element, elements, faults};
+ghost use Rattle.rules.specs.Names.{Adds, Checks, ChecksBehind};
+ghost use Rattle.isis_check_a.specs.Headers.{headerOf, advertisedAt, valueIn};
+ghost use Rattle.isis.specs.RunB.{checkIdentifier, checkB, liveSrlg, srlgAdvertisements, sideB};
+ghost use Rattle.isis_check.specs.Identifiers.{knownOf, tallyOf, identifiedBy, identifiedIn, onceAndPaired, identifiersIn, Lists};
+ghost use Rattle.isis_check.specs.Parts.{partsVerdict, behindIn, Within, Judges};
+ghost use mathlib.Core.Bool.{_||_};
+ghost use lib.Dec.{ltb};
 ghost use Rattle.isis_check.specs.Sides.{ChecksLink};
-use naming::Checking;
-use naming::Names;
-use replies::Checked;
+use frames::Frame;
+use frames::frame_one;
+use isis_check_a::Header;
+use isis_check_a::Masks;
 use replies::Refusal;
+use replies::Run;
+use rules::Checking;
+use rules::Names;
+
+// A type of link identifier: the length of its value, and its weight in a tally of types, 0 where the type is none of the five known ones.
+pub struct Known {
+    pub length: usize,
+    pub weight: u64,
+}
+
+fn known_identifier(t: u8) -> Known
+    ensures { λ r. ⌜ r ≡ knownOf t ⌝ }
+{
+    match t {
+        4 => Known {
+            length: 8,
+            weight: 1,
+        },
+        6 => Known {
+            length: 4,
+            weight: 256,
+        },
+        8 => Known {
+            length: 4,
+            weight: 65536,
+        },
+        12 => Known {
+            length: 16,
+            weight: 16777216,
+        },
+        13 => Known {
+            length: 16,
+            weight: 4294967296,
+        },
+        _ => Known {
+            length: 0,
+            weight: 0,
+        },
+    }
+}
+
+// An identifier list: its first refusal, or how often each known type stands in it, a byte of the tally for each.
+pub enum Listed {
+    Refused(Refusal),
+    Tally(u64),
+}
+
+// The identifier list that stands in run B from a place on, as far as s goes, in one walk.
+fn read_identifiers(s: &[u8], from: usize) -> Listed
+    requires { ⌜ (from ≤ length (now s)) × (length (now s) < from + 256) ⌝ }
+    ensures { λ r. ⌜ Lists (faults runB checkIdentifier (identifiersIn (now (s .entry)) from)) (identifiersIn (now (s .entry)) from) r ⌝ }
+{
+    let mut tally: u64 = 0;
+    let mut at = from;
+    loop {
+        match frame_one(s, at) {
+            Frame::End => return Listed::Tally(tally),
+            Frame::Cut => return Listed::Refused(replies::refuse_at(3, Run::B, at)),
+            Frame::Whole { kind: _, len } => {
+                let known = known_identifier(s[at]);
+                if known.weight != 0 {
+                    if len != known.length {
+                        return Listed::Refused(replies::refuse_at(4, Run::B, at));
+                    }
+                }
+                tally = tally + known.weight;
+                at = at + 2 + len;
+            }
+        }
+    }
+}
+
+// How often each known type stands in an identifier list: a byte of the tally for each.
+fn tally_identifiers(s: &[u8]) -> u64
+    requires { ⌜ length (now s) < 256 ⌝ }
+    ensures { λ r. ⌜ r ≡ tallyOf (elements 1 0 (now (s .entry))) ⌝ }
+{
+    let mut tally: u64 = 0;
+    let mut at = 0;
+    loop {
+        match frame_one(s, at) {
+            Frame::End => return tally,
+            Frame::Cut => return tally,
+            Frame::Whole { kind: _, len } => {
+                let known = known_identifier(s[at]);
+                tally = tally + known.weight;
+                at = at + 2 + len;
+            }
+        }
+    }
+}
+
+// By the counts of types 4, 6, 8, 12 and 13: none is there twice, and a 4, both 6 and 8, or both 12 and 13 are.
+fn identifies(a: u64, b: u64, c: u64, d: u64, e: u64) -> bool
+    ensures { λ r. ⌜ r ≡ identifiedBy a b c d e ⌝ }
+{
+    if 1 < a {
+        return false;
+    }
+    if 1 < b {
+        return false;
+    }
+    if 1 < c {
+        return false;
+    }
+    if 1 < d {
+        return false;
+    }
+    if 1 < e {
+        return false;
+    }
+    if a == 1 {
+        return true;
+    }
+    if b + c == 2 {
+        return true;
+    }
+    d + e == 2
+}
+
+// The same by a tally; most lists have a 4 and no other known type.
+fn tally_identifies(tally: u64) -> bool
+    ensures { λ r. ⌜ r ≡ identifiedIn tally ⌝ }
+{
+    if tally == 1 {
+        return true;
+    }
+    identifies(
+        tally % 256,
+        tally / 256 % 256,
+        tally / 65536 % 256,
+        tally / 16777216 % 256,
+        tally / 4294967296 % 256,
+    )
+}
+
+// Whether an identifier list identifies the link: no known type repeats, and a 4, both 6 and 8, or both 12 and 13 are there.
+pub fn identifies_link(s: &[u8]) -> bool
+    requires { ⌜ length (now s) < 256 ⌝ }
+    ensures { λ r. ⌜ ((base : ℕ) → r ≡ onceAndPaired (elements 1 base (now (s .entry)))) ⌝ }
+{
+    tally_identifies(tally_identifiers(s))
+}
+
+// What the checks of a TLV 238 find: a fault, that it is ignored, or that it is live unless it has L for nobody.
+pub enum Judged {
+    Refused(Refusal),
+    Ignored,
+    Live,
+}
+
+// The identifiers, then the SRLG values, of the TLV 238 that stands in run B from `at` to `end`; its identifiers stand from `list` to `values`.
+// An odd rest is a fault only without L, and where the identifiers identify the link.
+fn check_parts(b: &[u8], l: bool, list: usize, values: usize, end: usize, at: usize) -> Judged
+    requires { ⌜ Within (now b) l list values end at × (length (now b) < 4294967296) ⌝ }
+    ensures { λ r. ⌜ Judges (partsVerdict at (behindIn (now (b .entry)) at end)) at (behindIn (now (b .entry)) at end) r ⌝ }
+{
+    match read_identifiers(&b[0..values], list) {
+        Listed::Refused(r) => return Judged::Refused(r),
+        Listed::Tally(tally) => {
+            if !tally_identifies(tally) {
+                return Judged::Ignored;
+            }
+            if (end - values) % 4 == 0 {
+                return Judged::Live;
+            }
+            if l {
+                return Judged::Live;
+            }
+            return Judged::Refused(replies::refuse_at(4, Run::B, at));
+        }
+    }
+}
+
+// The TLV 238 that stands in run B from `at` to `end`, by its header.
+fn check_srlg(b: &[u8], h: Header, at: usize, end: usize) -> Judged
+    requires { ⌜ (at + 11 ≤ end) × (end ≤ length (now b)) × (length (now b) < 4294967296) × (h ≡ headerOf (behindIn (now b) at end)) × (h .standard < 128) × (h .user < 128) ⌝ }
+    ensures { λ r. ⌜ Judges (checkB at 238 (valueIn (now (b .entry)) at end)) at (behindIn (now (b .entry)) at end) r ⌝ }
+{
+    let head = at + 9;
+    match isis_check_a::masks_within(h, end - head - 1) {
+        Masks::Ignored => return Judged::Ignored,
+        Masks::Past => return Judged::Refused(replies::refuse_at(3, Run::B, at)),
+        Masks::End(masks) => {
+            let list = head + masks + 1;
+            let values = list + b[head + masks] as usize;
+            if end < values {
+                return Judged::Refused(replies::refuse_at(3, Run::B, at));
+            }
+            let l = h.l;
+            return check_parts(b, l, list, values, end, at);
+        }
+    }
+}
+
+// The names with those of an advertisement whose masks stand at a place of the run, by its header.
+fn names_with(names: Names, h: Header, s: &[u8], at: usize) -> Names
+    requires { ⌜ (h .standard ≤ 8) × (h .user ≤ 8) × (at + h .standard + h .user ≤ length (now s)) × (length (now s) < 4294967296) ⌝ }
+    ensures { λ r. ⌜ Adds names (advertisedAt h (now (s .entry)) at ∷ []) r ⌝ }
+{
+    let behind = at + h.standard;
+    let standard = masks::with_sent(names.standard, s, at, h.standard);
+    let user = masks::with_sent(names.user, s, behind, h.user);
+    let l = h.l;
+    if l {
+        let lstandard = masks::with_sent(names.lstandard, s, at, h.standard);
+        let luser = masks::with_sent(names.luser, s, behind, h.user);
+        return Names {
+            standard,
+            user,
+            lstandard,
+            luser,
+        };
+    }
+    Names {
+        standard,
+        user,
+        lstandard: names.lstandard,
+        luser: names.luser,
+    }
+}
+
+// The same TLV, behind elements that name `names`.
+fn check_tlv(b: &[u8], at: usize, end: usize, names: Names) -> Checking
+    requires { ⌜ (at + 2 ≤ end) × (end ≤ length (now b)) × (length (now b) < 4294967296) ⌝ }
+    ensures { λ r. ⌜ ChecksBehind names (checkB at 238 (valueIn (now (b .entry)) at end)) (srlgAdvertisements (element at 238 (valueIn (now (b .entry)) at end))) r ⌝ }
+{
+    let head = at + 9;
+    if end < head + 2 {
+        return rules::refuse(3, Run::B, at);
+    }
+    let h = isis_check_a::read_header(&b[head..end]);
+    match check_srlg(b, h, at, end) {
+        Judged::Refused(r) => return Checking::Refused(r),
+        Judged::Ignored => return Checking::Accepted(names),
+        Judged::Live => return Checking::Accepted(names_with(names, h, b, head + 2)),
+    }
+}
+
+// Run B whole: its refusal, or the applications that it names, and those that it names with L.
+pub fn check_b(b: &[u8]) -> Checking
+    requires { ⌜ length (now b) < 4294967296 ⌝ }
+    ensures { λ r. ⌜ ((c : List ℕ) → Checks (faults runB checkB (elements 1 0 (now (b .entry)))) ((sideB (now (b .entry)) c) .live) r) ⌝ }
+{
+    let mut names = rules::nobody();
+    let mut at = 0;
+    loop {
+        match frame_one(b, at) {
+            Frame::End => return Checking::Accepted(names),
+            Frame::Cut => return rules::refuse(3, Run::B, at),
+            Frame::Whole { kind: _, len } => {
+                let next = at + 2 + len;
+                if b[at] == 238 {
+                    match check_tlv(b, at, next, names) {
+                        Checking::Refused(r) => return Checking::Refused(r),
+                        Checking::Accepted(all) => {
+                            names = all;
+                        }
+                    }
+                }
+                at = next;
+            }
+        }
+    }
+}
+
+fn least(x: usize, y: usize) -> usize
+    ensures { λ r. ⌜ (r ≤ x) × (r ≤ y) × ((r ≡ x) ⊎ (r ≡ y)) ⌝ }
+{
+    if y < x {
+        return y;
+    }
+    x
+}
+
+// Whether a TLV 238 is live, by what follows its neighbour bytes: any bytes, also those of a TLV that the checks refuse.
+pub fn live_srlg(v: &[u8]) -> bool
+    ensures { λ r. ⌜ ((at : ℕ) → r ≡ liveSrlg at (now (v .entry))) ⌝ }
+{
+    if v.len() < 2 {
+        return false;
+    }
+    let h = isis_check_a::read_header(v);
+    if isis_check_a::l_for_nobody(h) {
+        return false;
+    }
+    match isis_check_a::masks_within(h, v.len() - 1) {
+        Masks::Ignored => return false,
+        Masks::Past => return false,
+        Masks::End(length_byte) => {
+            let list = length_byte + 1;
+            let end = least(list + (v[length_byte] as usize), v.len());
+            return identifies_link(&v[list..end]);
+        }
+    }
+}
 
 // Whether a run is longer than it may be, by the lengths of runs A, B and C.
 fn too_long(a: usize, b: usize, c: usize) -> bool
@@ -28,16 +327,6 @@ fn too_long(a: usize, b: usize, c: usize) -> bool
         return true;
     }
     1024 < c
-}
-
-// The first refusal of two checks.
-fn first_refusal(x: Checked, y: Checked) -> Checked
-    ensures { λ r. ⌜ toldChecked r ≡ (toldChecked x then toldChecked y) ⌝ }
-{
-    match x {
-        Checked::Accepted => y,
-        Checked::Refused(r) => Checked::Refused(r),
-    }
 }
 
 // Whom the two sides of a link name.
@@ -58,12 +347,17 @@ fn check_side_b(b: &[u8]) -> Checking
     ensures { λ r. ⌜ ((c : List ℕ) → Checks (faults runB checkB (elements 1 0 (now (b .entry)))) ((sideB (now (b .entry)) c) .live) r) ⌝ }
 {
     if b.len() == 0 {
-        return Checking::Accepted(naming::nobody());
+        return Checking::Accepted(rules::nobody());
     }
-    isis_check_b::check_b(b)
+    check_b(b)
 }
 
-// The checks of a link, with whom its sides name: by the names the rule of any question is known before a value is looked for.
+// Checks a link before anything is read from it. `a` holds the sub-TLVs of its neighbour entry, `b` its TLVs 238, `c` its legacy SRLG values.
+// Takes any bytes, walks each run once, and keeps nothing.
+// Accepted, with whom its sides name: every question to the link and its export can be answered from these runs, and the rule of a question is known by the names
+// before a value is looked for.
+// Refused: the first fault by its number, 1 a run too long, 2 run C no multiple of 4 bytes, 3 an element, mask or list cut off, 4 a wrong length;
+// 1 and 2 name run A and offset 0, 3 and 4 the run and the first byte of the innermost element at fault.
 pub fn check_sides(a: &[u8], b: &[u8], c: &[u8]) -> LinkChecked
     ensures { λ r. ⌜ ChecksLink (now (a .entry)) (now (b .entry)) (now (c .entry)) r ⌝ }
 {
@@ -80,23 +374,4 @@ pub fn check_sides(a: &[u8], b: &[u8], c: &[u8]) -> LinkChecked
             Checking::Accepted(y) => return LinkChecked::Accepted(Sides { a: x, b: y }),
         },
     }
-}
-
-// Checks a link before anything is read from it. `a` holds the sub-TLVs of its neighbour entry, `b` its TLVs 238, `c` its legacy SRLG values.
-// Takes any bytes, walks each run once, and keeps nothing.
-// Accepted: every question to the link and its export can be answered from these runs.
-// Refused: the first fault by its number, 1 a run too long, 2 run C no multiple of 4 bytes, 3 an element, mask or list cut off, 4 a wrong length;
-// 1 and 2 name run A and offset 0, 3 and 4 the run and the first byte of the innermost element at fault.
-pub fn check_link(a: &[u8], b: &[u8], c: &[u8]) -> Checked
-    ensures { λ r. ⌜ toldChecked r ≡ linkVerdict (now (a .entry)) (now (b .entry)) (now (c .entry)) ⌝ }
-{
-    if too_long(a.len(), b.len(), c.len()) {
-        return Checked::Refused(replies::refuse_call(1));
-    }
-    if c.len() % 4 != 0 {
-        return Checked::Refused(replies::refuse_call(2));
-    }
-    let of_a = naming::verdict_alone(isis_check_a::check_a(a));
-    let of_b = naming::verdict_alone(isis_check_b::check_b(b));
-    first_refusal(of_a, of_b)
 }

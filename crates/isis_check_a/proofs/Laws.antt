@@ -1,86 +1,27 @@
--- What framing at a position says of the elements that are left there, and one turn of a loop that checks them.
-use mathlib.Core.Path.{_≡_, refl, sym, ap, ap₂, _∙_, subst}
+-- The checks of run A, one law for each way in which one can go: an attribute and a list of them, the mask header, and an ASLA sub-TLV.
+use mathlib.Core.Path.{_≡_, refl, sym, ap, _∙_, subst}
 use mathlib.Core.Logic.{_⊎_, inl, inr}
 use mathlib.Core.Bool.{Bool, true, false, cond, _&&_}
 use mathlib.Core.List.{List, [], _∷_}
 use Prim.Native.Nat.{ℕ, zero, suc, _+_, _-_, _≤_, _<_}
 use native.Mathlib.Nat.{zero-add}
 use native.Mathlib.Omega.{arith}
-use borrow.Author.Tests.{le-leb, lt-leb, leb-true, leb-false, lt-ltb, le-ltb, ltb-true, ltb-false, ne-eqb}
-use lib.Dec.{leb, ltb}
+use borrow.Author.Tests.{lt-ltb, le-ltb, ltb-true, ltb-false, ne-eqb}
+use lib.Dec.{ltb}
 use lib.ListN.{length, take, drop, getD, length-drop}
-use lib.Seq.{take-all, take-nil, take-take, length-take-le, getD-take}
-use Rattle.linkstate.specs.Bytes.{bytesAt}
-use Rattle.linkstate.specs.Kinds.{wrongInA}
-use Rattle.linkstate.specs.Replies.{Run, runA, Verdict, accepted, refused, Refusal, fault}
+use lib.Seq.{take-all, take-nil, take-take, length-take-le}
+use Rattle.linkstate.specs.Replies.{runA, accepted, fault}
 use Rattle.linkstate.specs.Elements.{elements, faults}
-use Rattle.linkstate.proofs.WalkLaws.{left, typeAt, type-one, length-one, faults-end, faults-cut, faults-pass, faults-stop}
-use Rattle.octets.proofs.Laws.{length-bytesAt, part-is}
+use Rattle.linkstate.proofs.WalkLaws.{left}
+use Rattle.frames.proofs.Laws.{IsWhole, value-length, turn-passed, turn-refused}
+use Rattle.isis.specs.Types.{wrongInA}
 use Rattle.isis.specs.MaskHeader.{lFlag, headerLength, maskTooLong, lForNobody}
 use Rattle.isis.specs.RunA.{listElements, checkAttribute, checkAsla, checkA}
-use Rattle.isis_check_a.specs.declared.Frame.{Frame}
-use Rattle.isis_check_a.specs.declared.Frame.the-variants.{End, Cut, Whole}
 use Rattle.isis_check_a.specs.declared.Header.{Header}
 use Rattle.isis_check_a.specs.declared.Masks.{Masks}
-use Rattle.isis_check_a.specs.Frames.{frameAt}
 use Rattle.isis_check_a.specs.Headers.{headerOf, tooLong, forNobody, bytesBefore, masksIn}
 use Rattle.isis_check_a.specs.declared.Masks.the-variants as Masks
-
--- ---- framing
-
-module _ (s : List ℕ) (at : ℕ) where
-  abbrev size : ℕ
-  size = at + 2 + getD s (at + 1) 0
-
-  pub frame-end : length s ≤ at → End ≡ frameAt s at
-  unfolding frameAt
-  frame-end h = rw (le-leb (length s) at h)
-
-  pub frame-cut : at < length s → length s < size → Cut ≡ frameAt s at
-  unfolding frameAt
-  frame-cut h g = rw (lt-leb (length s) at h, lt-leb size (length s) g)
-
-  pub frame-whole : size ≤ length s → Whole (getD s (at + 1) 0) ≡ frameAt s at
-  unfolding frameAt
-  frame-whole h = rw (lt-leb (length s) at (omega arith), le-leb size (length s) h)
-
-  -- and back: what each answer says
-  abbrev Says : Frame → Type 0
-  Says End = length s ≤ at
-  Says Cut = (at < length s) × (length s < size)
-  Says (Whole n) = (getD s (at + 1) 0 ≡ n) × (at + 2 + n ≤ length s)
-
-  pub frame-says : (f : Frame) → frameAt s at ≡ f → Says f
-  unfolding frameAt
-  frame-says f e = subst Says e (go (leb (length s) at) refl (leb size (length s)) refl)
-    where
-      go : (b : Bool) → leb (length s) at ≡ b → (c : Bool) → leb size (length s) ≡ c → Says (cond b End (cond c (Whole (getD s (at + 1) 0)) Cut))
-      go true h c g = leb-true (length s) at h
-      go false h true g = (refl, leb-true size (length s) g)
-      go false h false g = (leb-false (length s) at h, leb-false size (length s) g)
-
-pub part-length : (s : List ℕ) (p n : ℕ) → p + n ≤ length s → length (take (p + n - p) (drop p s)) ≡ n
-part-length s p n h = ap length (part-is s p n) ∙ length-bytesAt s p n h
-
--- ---- one turn, at the offset o of the run
-
-module _ (run : Run) (check : ℕ → ℕ → List ℕ → Verdict) (base : ℕ) (s : List ℕ) (at : ℕ) where
-  pub turn-end : frameAt s at ≡ End → accepted ≡ faults run check (left 1 base s at)
-  turn-end e = sym (faults-end run check 1 (omega arith) base s at (frame-says s at End e))
-
-  module _ (o : ℕ) (z : o ≡ base + at) where
-    pub turn-cut : frameAt s at ≡ Cut → fault 3 run o ≡ faults run check (left 1 base s at)
-    turn-cut e = let h = frame-says s at Cut e in ap (fault 3 run) z ∙ sym (faults-cut run check 1 (omega arith) base s at (h .0) (omega (arith, h .1, length-one s at)))
-
-    module _ (n : ℕ) (e : frameAt s at ≡ Whole n) where
-      here : (v : Verdict) → check o (getD s at 0) (bytesAt s (at + 2) n) ≡ v → check (base + at) (typeAt 1 s at) (bytesAt s (at + 2) n) ≡ v
-      here v a = ap₂ (λ (i t : ℕ). check i t (bytesAt s (at + 2) n)) (sym z) (type-one s at) ∙ a
-
-      pub turn-passed : check o (getD s at 0) (bytesAt s (at + 2) n) ≡ accepted → faults run check (left 1 base s (at + 2 + n)) ≡ faults run check (left 1 base s at)
-      turn-passed a = faults-pass run check 1 (omega arith) base s at n (length-one s at ∙ frame-says s at (Whole n) e .0) (frame-says s at (Whole n) e .1) (here accepted a)
-
-      pub turn-refused : (r : Refusal) → check o (getD s at 0) (bytesAt s (at + 2) n) ≡ refused r → refused r ≡ faults run check (left 1 base s at)
-      turn-refused r a = faults-stop run check 1 (omega arith) base s at n r (length-one s at ∙ frame-says s at (Whole n) e .0) (frame-says s at (Whole n) e .1) (here (refused r) a)
+pub use Rattle.frames.proofs.Laws.{part-length}
 
 -- ---- an attribute's length
 
@@ -93,13 +34,14 @@ module _ (at t : ℕ) (v : List ℕ) (n : ℕ) (l : length v ≡ n) where
   unfolding checkAttribute
   attribute-wrong e = rw (l, e)
 
-module _ (base : ℕ) (s : List ℕ) (at n : ℕ) (e : frameAt s at ≡ Whole n) where
-  pub list-passed : wrongInA (getD s at 0) n ≡ false → faults runA checkAttribute (left 1 base s (at + 2 + n)) ≡ faults runA checkAttribute (left 1 base s at)
-  list-passed w = turn-passed runA checkAttribute base s at (base + at) refl n e (attribute-fits _ _ _ n (length-bytesAt s (at + 2) n (frame-says s at (Whole n) e .1)) w)
+-- one turn over an attribute list
+module _ (s : List ℕ) (at n : ℕ) (f : IsWhole 1 s at (getD s at 0) n) where
+  pub list-on : wrongInA (getD s at 0) n ≡ false → faults runA checkAttribute (left 1 0 s (at + 2 + n)) ≡ faults runA checkAttribute (left 1 0 s at)
+  list-on w = turn-passed runA checkAttribute 1 (omega arith) 0 s at at (sym (zero-add at)) _ n f (attribute-fits _ _ _ n (value-length 1 s at _ n f) w)
 
-  pub list-refused : wrongInA (getD s at 0) n ≡ true → fault 4 runA (base + at) ≡ faults runA checkAttribute (left 1 base s at)
+  pub list-wrong : wrongInA (getD s at 0) n ≡ true → fault 4 runA at ≡ faults runA checkAttribute (left 1 0 s at)
   unfolding fault
-  list-refused w = turn-refused runA checkAttribute base s at (base + at) refl n e _ (attribute-wrong _ _ _ n (length-bytesAt s (at + 2) n (frame-says s at (Whole n) e .1)) w)
+  list-wrong w = turn-refused runA checkAttribute 1 (omega arith) 0 s at at (sym (zero-add at)) _ n f _ (attribute-wrong _ _ _ n (value-length 1 s at _ n f) w)
 
 -- ---- the mask header
 
@@ -168,6 +110,13 @@ module _ (s : List ℕ) (end : ℕ) (fits : end ≤ length s) where
   pub front-length : length (take end s) ≡ end
   front-length = length-take-le end s fits
 
+  -- the front as it is lent
+  pub front-is : take (end - 0) s ≡ take end s
+  front-is = let z : end - 0 ≡ end = omega arith in ap (λ (i : ℕ). take i s) z
+
+  pub lent-length : length (take (end - 0) s) ≡ end
+  lent-length = ap length front-is ∙ front-length
+
   module _ (at : ℕ) (h : at ≤ end) where
     pub part-in : take (end - at) (drop at s) ≡ drop at (take end s)
     part-in = let e : at + (end - at) ≡ end = omega arith in sym (ap (λ (i : ℕ). drop at (take i s)) (sym e) ∙ drop-take at (end - at) s)
@@ -177,48 +126,6 @@ module _ (s : List ℕ) (end : ℕ) (fits : end ≤ length s) where
 
     pub part-of-part : (n : ℕ) → at + n ≤ end → take n (drop at (take end s)) ≡ take n (drop at s)
     part-of-part n g = ap (take n) (sym part-in) ∙ take-take n (end - at) (drop at s) (omega arith)
-
--- ---- elements from one place of a run to another: one turn of a loop that checks them
-
--- what is left to check at a place
-abbrev pub leftIn : Run → (ℕ → ℕ → List ℕ → Verdict) → List ℕ → ℕ → ℕ → Verdict
-leftIn run check s end at = faults run check (left 1 0 (take end s) at)
-
-module _ (run : Run) (check : ℕ → ℕ → List ℕ → Verdict) (s : List ℕ) (end : ℕ) (fits : end ≤ length s) (at : ℕ) where
-  pub in-start : leftIn run check s end at ≡ faults run check (elements 1 at (drop at (take end s)))
-  in-start = ap (λ (o : ℕ). faults run check (elements 1 o (drop at (take end s)))) (zero-add at)
-
-  pub in-end : end ≤ at → accepted ≡ leftIn run check s end at
-  in-end h = turn-end run check 0 (take end s) at (sym (frame-end (take end s) at (omega (arith, front-length s end fits))))
-
-  pub in-short : at < end → end < at + 2 → fault 3 run at ≡ leftIn run check s end at
-  in-short h g =
-      turn-cut run check 0 (take end s) at at (sym (zero-add at))
-      (sym (frame-cut (take end s) at (omega (arith, front-length s end fits)) (omega (arith, front-length s end fits))))
-
-  pub in-cut : at + 2 ≤ end → end < at + 2 + getD s (at + 1) 0 → fault 3 run at ≡ leftIn run check s end at
-  in-cut h g =
-      turn-cut run check 0 (take end s) at at (sym (zero-add at))
-      (sym (frame-cut (take end s) at (omega (arith, front-length s end fits)) (omega (arith, front-length s end fits, getD-take end s (at + 1) 0 (omega arith)))))
-
-module _ (s : List ℕ) (end : ℕ) (fits : end ≤ length s) (at : ℕ) (g : at + 2 + getD s (at + 1) 0 ≤ end) where
-  pub whole-in : frameAt (take end s) at ≡ Whole (getD s (at + 1) 0)
-  whole-in =
-      let e : getD (take end s) (at + 1) 0 ≡ getD s (at + 1) 0 = getD-take end s (at + 1) 0 (omega arith) in
-      sym (frame-whole (take end s) at (omega (arith, front-length s end fits))) ∙ ap Whole e
-
-  pub type-in : getD (take end s) at 0 ≡ getD s at 0
-  type-in = getD-take end s at 0 (omega arith)
-
--- of an attribute list
-module _ (a : List ℕ) (end : ℕ) (fits : end ≤ length a) (at : ℕ) (g : at + 2 + getD a (at + 1) 0 ≤ end) where
-  pub list-on : wrongInA (getD a at 0) (getD a (at + 1) 0) ≡ false → leftIn runA checkAttribute a end (at + 2 + getD a (at + 1) 0) ≡ leftIn runA checkAttribute a end at
-  list-on w = list-passed 0 (take end a) at (getD a (at + 1) 0) (whole-in a end fits at g) (ap (λ (t : ℕ). wrongInA t (getD a (at + 1) 0)) (type-in a end fits at g) ∙ w)
-
-  pub list-wrong : wrongInA (getD a at 0) (getD a (at + 1) 0) ≡ true → fault 4 runA at ≡ leftIn runA checkAttribute a end at
-  list-wrong w =
-      ap (fault 4 runA) (sym (zero-add at))
-      ∙ list-refused 0 (take end a) at (getD a (at + 1) 0) (whole-in a end fits at g) (ap (λ (t : ℕ). wrongInA t (getD a (at + 1) 0)) (type-in a end fits at g) ∙ w)
 
 -- ---- an ASLA sub-TLV, check by check
 

@@ -3,7 +3,7 @@
 use mathlib.Core.Path.{_≡_, refl, sym, ap, ap₂, _∙_, subst}
 use mathlib.Core.Bool.{Bool, true, false, cond, _&&_, _||_, not}
 use mathlib.Core.List.{List, [], _∷_, _++_}
-use Prim.Native.Nat.{ℕ, _+_, _-_, _/_, _%_, _^_, _≤_, _<_}
+use Prim.Native.Nat.{ℕ, _+_, _-_, _/_, _%_, _^_, _≤_}
 use native.Mathlib.Omega.{arith}
 use native.Mathlib.Nat.{zero-div, zero-add, add-sub-cancel-left}
 use borrow.Author.Tests.{eqb-true, ne-eqb, ltb-false}
@@ -16,29 +16,28 @@ use Rattle.linkstate.specs.Masks.{bit, inMasks}
 use Rattle.linkstate.specs.Replies.{Run, runA, Verdict, accepted, refused, Refusal, fault}
 use Rattle.linkstate.specs.Elements.{Element, element, elements, faults}
 use Rattle.linkstate.specs.Sides.{Advertisement, names}
-use Rattle.linkstate.specs.Kinds.{wrongInA}
 use Rattle.linkstate.proofs.ListLaws.{and-l, and-r, and-false, or-l, or-r}
-use Rattle.linkstate.proofs.WalkLaws.{left, typeAt, type-one, length-one, each-end, each-turn}
+use Rattle.linkstate.proofs.WalkLaws.{left, typeAt, type-one, each-end, each-turn}
 use Rattle.replies.specs.declared.Refusal.{Refusal as Fault}
 use Rattle.replies.specs.declared.Checked.{Checked}
 use Rattle.replies.specs.declared.Checked.the-variants as Check
 use Rattle.replies.specs.Told.{toldRefusal, toldChecked}
-use Rattle.naming.specs.declared.Names.{Names}
-use Rattle.naming.specs.declared.Checking.{Checking}
-use Rattle.naming.specs.declared.Checking.the-variants.{Refused, Accepted}
-use Rattle.naming.specs.Names.{advertised, Tells, Adds, toldChecking, Checks, Added, ChecksBehind}
-use Rattle.naming.proofs.Laws.{Ahead, ahead-start, ahead-end, ahead-turn, adds-none, adds-as}
+use Rattle.rules.specs.declared.Names.{Names}
+use Rattle.rules.specs.declared.Checking.{Checking}
+use Rattle.rules.specs.declared.Checking.the-variants.{Refused, Accepted}
+use Rattle.rules.specs.Names.{advertised, Tells, Adds, toldChecking, Checks, Added, ChecksBehind}
+use Rattle.rules.proofs.NameLaws.{Ahead, ahead-start, ahead-end, ahead-turn, adds-none, adds-as}
+use Rattle.frames.specs.declared.Frame.the-variants as Frame
+use Rattle.frames.specs.Frames.{frameIn}
+use Rattle.frames.proofs.Laws.{IsWhole, frame-says, turn-end, turn-cut, turn-passed, turn-refused}
+use Rattle.isis.specs.Types.{wrongInA}
 use Rattle.isis.specs.MaskHeader.{lFlag, sabmLength, udabmLength, headerLength, maskTooLong, lForNobody, advertisement}
 use Rattle.isis.specs.RunA.{attributesOf, listElements, liveAsla, aslaAdvertisements, checkAttribute, checkAsla, checkA}
-use Rattle.isis_check_a.specs.declared.Frame.the-variants.{Whole}
 use Rattle.isis_check_a.specs.declared.Header.{Header}
 use Rattle.isis_check_a.specs.declared.Masks.{Masks}
 use Rattle.isis_check_a.specs.declared.Masks.the-variants.{Ignored, Past, End}
-use Rattle.isis_check_a.specs.Frames.{frameAt}
 use Rattle.isis_check_a.specs.Headers.{headerOf, tooLong, masksIn, advertisedAt, valueIn}
-use Rattle.isis_check_a.proofs.Laws.{frame-end, frame-cut, frame-whole, turn-end, turn-cut, turn-passed, turn-refused, attribute-fits, attribute-wrong}
-use Rattle.isis_check_a.proofs.Laws.{sub-tlv-asla, sub-tlv-other, header-l, header-too-long, header-bytes, drop-take, part-in, part-of-part, part-in-length}
-use Rattle.isis_check_a.proofs.Laws.{Ends, masks-say, asla-ignored, asla-past, asla-l, asla-list}
+use Rattle.isis_check_a.proofs.Laws.{attribute-fits, attribute-wrong, sub-tlv-asla, sub-tlv-other, header-l, header-too-long, header-bytes, drop-take, front-is, part-in, part-of-part, part-in-length, Ends, masks-say, asla-ignored, asla-past, asla-l, asla-list}
 
 -- ---- the masks behind a header that stands at a place
 
@@ -191,10 +190,12 @@ module _ (a : List ℕ) (at end : ℕ) (fits : end ≤ length a) (two : at + 2 +
             names = names-in;
           }
 
-      module _ (l : h .l ≡ false) (c : Checked) (told : toldChecked c ≡ faults runA checkAttribute (elements 1 (at + 2 + list) (drop (at + 2 + list) (take end a)))) where
+      -- the list stands at the end of the run's front, which is lent
+      module _ (l : h .l ≡ false) (c : Checked) (told : toldChecked c ≡ faults runA checkAttribute (elements 1 (at + 2 + list) (drop (at + 2 + list) (take (end - 0) a)))) where
         list-told : toldChecked c ≡ checkAsla at asla
         list-told =
-            told ∙ ap (λ (s : List ℕ). faults runA checkAttribute (elements 1 (at + 2 + list) s)) (sym (drop-drop list (at + 2) (take end a)))
+            told
+            ∙ ap (λ (s : List ℕ). faults runA checkAttribute (elements 1 (at + 2 + list) s)) (ap (drop (at + 2 + list)) (front-is a end fits) ∙ sym (drop-drop list (at + 2) (take end a)))
             ∙ asla-list at asla (omega (arith, asla-length)) short-in list list-is (omega (arith, asla-length, list-in)) (sym (header-l h asla header-in) ∙ l)
 
         pub listed-in : c ≡ Check.Accepted → Answers m (Accepted r)
@@ -222,25 +223,19 @@ module _ (run : Run) (check : ℕ → ℕ → List ℕ → Verdict) (f : Element
   walked-start m t = record { verdict = refl; ahead = ahead-start (each f (elements 1 0 s)) m t }
 
   module _ (at : ℕ) (m : Names) (w : Walked at m) where
-    pub walked-end : length s ≤ at → Told (Accepted m)
-    walked-end h =
+    pub walked-end : frameIn 1 s at ≡ Frame.End → Told (Accepted m)
+    walked-end e =
         record {
-          told = turn-end run check 0 s at (sym (frame-end s at h)) ∙ w .verdict;
-          names = ahead-end (each f (left 1 0 s at)) (each f (elements 1 0 s)) m (each-end f 1 (omega arith) 0 s at h) (w .ahead);
+          told = turn-end run check 1 (omega arith) 0 s at e ∙ w .verdict;
+          names = ahead-end (each f (left 1 0 s at)) (each f (elements 1 0 s)) m (each-end f 1 (omega arith) 0 s at (frame-says 1 s at Frame.End e)) (w .ahead);
         }
 
-    pub walked-cut : at < length s → length s < at + 2 + getD s (at + 1) 0 → fault 3 run at ≡ faults run check (elements 1 0 s)
-    walked-cut h g = turn-cut run check 0 s at at (sym (zero-add at)) (sym (frame-cut s at h g)) ∙ w .verdict
+    pub walked-cut : frameIn 1 s at ≡ Frame.Cut → fault 3 run at ≡ faults run check (elements 1 0 s)
+    walked-cut e = turn-cut run check 1 (omega arith) 0 s at at (sym (zero-add at)) e ∙ w .verdict
 
-    module _ (fits : at + 2 + getD s (at + 1) 0 ≤ length s) where
-      abbrev n : ℕ
-      n = getD s (at + 1) 0
-
+    module _ (n : ℕ) (whole : IsWhole 1 s at (getD s at 0) n) where
       abbrev next : ℕ
       next = at + 2 + n
-
-      whole : frameAt s at ≡ Whole n
-      whole = sym (frame-whole s at fits)
 
       value-in : bytesAt s (at + 2) n ≡ valueIn s at next
       unfolding bytesAt
@@ -251,13 +246,13 @@ module _ (run : Run) (check : ℕ → ℕ → List ℕ → Verdict) (f : Element
           ap₂ (λ (o t : ℕ). element o t (bytesAt s (at + 2) n)) (zero-add at) (type-one s at) ∙ ap (λ (v : List ℕ). element at (getD s at 0) v) value-in
 
       left-turn : each f (left 1 0 s at) ≡ f (element at (getD s at 0) (valueIn s at next)) ++ each f (left 1 0 s next)
-      left-turn = each-turn f 1 (omega arith) 0 s at n (length-one s at) fits ∙ ap (λ (x : Element). f x ++ each f (left 1 0 s next)) here-is
+      left-turn = each-turn f 1 (omega arith) 0 s at n (whole .size) (whole .within) ∙ ap (λ (x : Element). f x ++ each f (left 1 0 s next)) here-is
 
       passed : check at (getD s at 0) (valueIn s at next) ≡ accepted → faults run check (left 1 0 s next) ≡ faults run check (elements 1 0 s)
-      passed a = turn-passed run check 0 s at at (sym (zero-add at)) n whole (ap (check at (getD s at 0)) value-in ∙ a) ∙ w .verdict
+      passed a = turn-passed run check 1 (omega arith) 0 s at at (sym (zero-add at)) _ n whole (ap (check at (getD s at 0)) value-in ∙ a) ∙ w .verdict
 
       pub walked-stop : (r : Refusal) → check at (getD s at 0) (valueIn s at next) ≡ refused r → refused r ≡ faults run check (elements 1 0 s)
-      walked-stop r a = turn-refused run check 0 s at at (sym (zero-add at)) n whole r (ap (check at (getD s at 0)) value-in ∙ a) ∙ w .verdict
+      walked-stop r a = turn-refused run check 1 (omega arith) 0 s at at (sym (zero-add at)) _ n whole r (ap (check at (getD s at 0)) value-in ∙ a) ∙ w .verdict
 
       -- an element that names nobody
       pub walked-over : check at (getD s at 0) (valueIn s at next) ≡ accepted → f (element at (getD s at 0) (valueIn s at next)) ≡ [] → Walked next m
@@ -290,16 +285,15 @@ pub asla-checks : (at t : ℕ) (v : List ℕ) (m : Names) (r : Checking) → t �
 asla-checks at t v m r e c =
     record { told = c .told ∙ sub-tlv-asla at t v e; names = subst (λ (i : ℕ). Added m r (aslaAdvertisements (element at i v))) (sym e) (c .names) }
 
-module _ (a : List ℕ) (at : ℕ) (m : Names) (w : Walked runA checkA aslaAdvertisements a at m) (fits : at + 2 + getD a (at + 1) 0 ≤ length a) (h : getD a at 0 ≡ 16 → ⊥) where
-  value-length : length (valueIn a at (at + 2 + getD a (at + 1) 0)) ≡ getD a (at + 1) 0
-  value-length = part-in-length a (at + 2 + getD a (at + 1) 0) fits (at + 2) (omega arith) ∙ add-sub-cancel-left (at + 2) (getD a (at + 1) 0)
+module _ (a : List ℕ) (at : ℕ) (m : Names) (w : Walked runA checkA aslaAdvertisements a at m) (n : ℕ) (whole : IsWhole 1 a at (getD a at 0) n) (h : getD a at 0 ≡ 16 → ⊥) where
+  value-length : length (valueIn a at (at + 2 + n)) ≡ n
+  value-length = part-in-length a (at + 2 + n) (whole .within) (at + 2) (omega arith) ∙ add-sub-cancel-left (at + 2) n
 
-  pub legacy-wrong : wrongInA (getD a at 0) (getD a (at + 1) 0) ≡ true → fault 4 runA at ≡ faults runA checkA (elements 1 0 a)
+  pub legacy-wrong : wrongInA (getD a at 0) n ≡ true → fault 4 runA at ≡ faults runA checkA (elements 1 0 a)
   unfolding fault
-  legacy-wrong x =
-      walked-stop runA checkA aslaAdvertisements a at m w fits _ (sym (sub-tlv-other at (getD a at 0) _ h) ∙ attribute-wrong at (getD a at 0) _ (getD a (at + 1) 0) value-length x)
+  legacy-wrong x = walked-stop runA checkA aslaAdvertisements a at m w n whole _ (sym (sub-tlv-other at (getD a at 0) _ h) ∙ attribute-wrong at (getD a at 0) _ n value-length x)
 
-  pub legacy-over : wrongInA (getD a at 0) (getD a (at + 1) 0) ≡ false → Walked runA checkA aslaAdvertisements a (at + 2 + getD a (at + 1) 0) m
+  pub legacy-over : wrongInA (getD a at 0) n ≡ false → Walked runA checkA aslaAdvertisements a (at + 2 + n) m
   legacy-over x =
-      walked-over runA checkA aslaAdvertisements a at m w fits
-      (sym (sub-tlv-other at (getD a at 0) _ h) ∙ attribute-fits at (getD a at 0) _ (getD a (at + 1) 0) value-length x) (other-nobody at (getD a at 0) _ h)
+      walked-over runA checkA aslaAdvertisements a at m w n whole
+      (sym (sub-tlv-other at (getD a at 0) _ h) ∙ attribute-fits at (getD a at 0) _ n value-length x) (other-nobody at (getD a at 0) _ h)

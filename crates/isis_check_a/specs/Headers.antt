@@ -5,7 +5,7 @@ use Prim.Native.Nat.{ℕ, _+_}
 use lib.Dec.{eqb, ltb}
 use lib.ListN.{take, drop}
 use Rattle.linkstate.specs.Sides.{Advertisement}
-use Rattle.naming.specs.Names.{advertised}
+use Rattle.rules.specs.Names.{advertised}
 use Rattle.isis.specs.MaskHeader.{lFlag, sabmLength, udabmLength}
 use Rattle.isis_check_a.specs.declared.Header.{Header}
 use Rattle.isis_check_a.specs.declared.Masks.{Masks}

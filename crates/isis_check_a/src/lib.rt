@@ -5,16 +5,17 @@ ghost use Prim.Native.Nat.{_+_, _≤_, _<_};
 ghost use lib.ListN.{length, take, drop};
 ghost use Rattle.linkstate.specs.Replies.{runA, fault};
 ghost use Rattle.linkstate.specs.Elements.{element, elements, faults};
-ghost use Rattle.linkstate.specs.Kinds.{wrongInA};
 ghost use Rattle.replies.specs.Told.{toldRun, toldChecked};
-ghost use Rattle.naming.specs.Names.{Adds, Checks, ChecksBehind};
+ghost use Rattle.rules.specs.Names.{Adds, Checks, ChecksBehind};
+ghost use Rattle.isis.specs.Types.{wrongInA};
 ghost use Rattle.isis.specs.RunA.{checkAttribute, checkAsla, checkA, aslaAdvertisements, sideA};
-ghost use Rattle.isis_check_a.specs.Frames.{frameAt};
 ghost use Rattle.isis_check_a.specs.Headers.{headerOf, tooLong, forNobody, bytesBefore, masksIn, advertisedAt, valueIn};
-use naming::Checking;
-use naming::Names;
+use frames::Frame;
+use frames::frame_one;
 use replies::Checked;
 use replies::Run;
+use rules::Checking;
+use rules::Names;
 
 // The first bytes of an ASLA, and of what follows the neighbour in a TLV 238: the L-flag, and how many bytes each mask has.
 pub struct Header {
@@ -82,31 +83,6 @@ pub fn masks_within(h: Header, n: usize) -> Masks
     Masks::End(end)
 }
 
-// What begins at a position of a list of elements: nothing more, one that is cut off, or a whole one, by the number of its value bytes.
-pub enum Frame {
-    End,
-    Cut,
-    Whole(usize),
-}
-
-pub fn frame_at(s: &[u8], at: usize) -> Frame
-    requires { ⌜ at ≤ length (now s) ⌝ }
-    ensures { λ r. ⌜ r ≡ frameAt (now (s .entry)) at ⌝ }
-{
-    let left = s.len() - at;
-    if left < 2 {
-        if left == 0 {
-            return Frame::End;
-        }
-        return Frame::Cut;
-    }
-    let n = s[at + 1] as usize;
-    if left - 2 < n {
-        return Frame::Cut;
-    }
-    Frame::Whole(n)
-}
-
 // A refusal for an element of a run.
 pub fn refused(number: u8, run: Run, at: usize) -> Checked
     ensures { λ r. ⌜ toldChecked r ≡ fault number (toldRun run) at ⌝ }
@@ -118,7 +94,7 @@ pub fn refused(number: u8, run: Run, at: usize) -> Checked
 fn wrong_by_rule(t: u8, n: usize) -> bool
     ensures { λ r. ⌜ r ≡ wrongInA t n ⌝ }
 {
-    let rule = kinds::classify_type(t);
+    let rule = isis_kinds::classify_type(t);
     let size = rule.size;
     !kinds::fits(size, n)
 }
@@ -141,27 +117,24 @@ fn wrong_length(t: u8, n: usize) -> bool
     wrong_by_rule(t, n)
 }
 
-// The attribute list that stands in run A from one place to another.
-fn check_list(a: &[u8], from: usize, end: usize) -> Checked
-    requires { ⌜ (from ≤ end) × (end ≤ length (now a)) × (length (now a) < 4294967296) ⌝ }
-    ensures { λ r. ⌜ toldChecked r ≡ faults runA checkAttribute (elements 1 from (drop from (take end (now (a .entry))))) ⌝ }
+// The attribute list that stands in run A from a place on, as far as s goes.
+fn check_list(s: &[u8], from: usize) -> Checked
+    requires { ⌜ from ≤ length (now s) ⌝ }
+    ensures { λ r. ⌜ toldChecked r ≡ faults runA checkAttribute (elements 1 from (drop from (now (s .entry)))) ⌝ }
 {
     let mut at = from;
-    while at + 2 <= end {
-        let n = a[at + 1] as usize;
-        let next = at + 2 + n;
-        if end < next {
-            return refused(3, Run::A, at);
+    loop {
+        match frame_one(s, at) {
+            Frame::End => return Checked::Accepted,
+            Frame::Cut => return refused(3, Run::A, at),
+            Frame::Whole { kind: _, len } => {
+                if wrong_length(s[at], len) {
+                    return refused(4, Run::A, at);
+                }
+                at = at + 2 + len;
+            }
         }
-        if wrong_length(a[at], n) {
-            return refused(4, Run::A, at);
-        }
-        at = next;
     }
-    if at < end {
-        return refused(3, Run::A, at);
-    }
-    Checked::Accepted
 }
 
 // The names with those of an advertisement whose masks stand at a place of the run, by its header.
@@ -198,19 +171,19 @@ fn check_asla(a: &[u8], at: usize, end: usize, names: Names) -> Checking
 {
     let value = at + 2;
     if end < value + 2 {
-        return naming::refuse(3, Run::A, at);
+        return rules::refuse(3, Run::A, at);
     }
     let h = read_header(&a[value..end]);
     match masks_within(h, end - value) {
         Masks::Ignored => return Checking::Accepted(names),
-        Masks::Past => return naming::refuse(3, Run::A, at),
+        Masks::Past => return rules::refuse(3, Run::A, at),
         Masks::End(list) => {
             let all = names_with(names, h, a, value + 2);
             let l = h.l;
             if l {
                 return Checking::Accepted(all);
             }
-            if let Checked::Refused(r) = check_list(a, value + list, end) {
+            if let Checked::Refused(r) = check_list(&a[0..end], value + list) {
                 return Checking::Refused(r);
             }
             return Checking::Accepted(all);
@@ -223,30 +196,28 @@ pub fn check_a(a: &[u8]) -> Checking
     requires { ⌜ length (now a) < 4294967296 ⌝ }
     ensures { λ r. ⌜ Checks (faults runA checkA (elements 1 0 (now (a .entry)))) ((sideA (now (a .entry))) .live) r ⌝ }
 {
-    let mut names = naming::nobody();
+    let mut names = rules::nobody();
     let mut at = 0;
-    while at + 2 <= a.len() {
-        let n = a[at + 1] as usize;
-        let next = at + 2 + n;
-        if a.len() < next {
-            return naming::refuse(3, Run::A, at);
-        }
-        if a[at] == 16 {
-            match check_asla(a, at, next, names) {
-                Checking::Refused(r) => return Checking::Refused(r),
-                Checking::Accepted(all) => {
-                    names = all;
+    loop {
+        match frame_one(a, at) {
+            Frame::End => return Checking::Accepted(names),
+            Frame::Cut => return rules::refuse(3, Run::A, at),
+            Frame::Whole { kind: _, len } => {
+                let next = at + 2 + len;
+                if a[at] == 16 {
+                    match check_asla(a, at, next, names) {
+                        Checking::Refused(r) => return Checking::Refused(r),
+                        Checking::Accepted(all) => {
+                            names = all;
+                        }
+                    }
+                } else {
+                    if wrong_length(a[at], len) {
+                        return rules::refuse(4, Run::A, at);
+                    }
                 }
-            }
-        } else {
-            if wrong_length(a[at], n) {
-                return naming::refuse(4, Run::A, at);
+                at = next;
             }
         }
-        at = next;
     }
-    if at < a.len() {
-        return naming::refuse(3, Run::A, at);
-    }
-    Checking::Accepted(names)
 }

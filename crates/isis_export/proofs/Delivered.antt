@@ -58,8 +58,8 @@ delivered a b c buffer n after e =
       accepted = w .passed;
       within = within n after (ap length (w .front) ∙ sym (w .size));
       bytes = w .front;
-      rival = subst (λ (r : List ℕ). IsRival (meaning (linkSource a b c)) r) (sym (w .front)) (d .rival);
-      shortest = λ r i. rw (w .size) (d .shortest r i);
+      rival = subst (λ (r : List ℕ). IsRival (meaning (linkSource a b c)) r) (sym (w .front)) (d .exported .rival);
+      shortest = λ r i. rw (w .size) (d .exported .shortest r i);
     }
 
 -- The same, of the answer that the code gives.

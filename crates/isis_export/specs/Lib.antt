@@ -1,2 +1,3 @@
-pub mod Tables
 pub mod Delivered
+pub mod Answers
+pub mod Stages

@@ -1,604 +1,325 @@
-// The export of an IS-IS link as BGP-LS TLVs (document 01, "BGP-LS bytes").
+// The export of an IS-IS link as BGP-LS TLVs, or its length alone (document 01, "BGP-LS bytes"): checks, indexes, and then the tables that no protocol is known of.
 ghost use mathlib.Core.Path.{_≡_};
-ghost use mathlib.Core.List.{List};
-ghost use Prim.Native.Nat.{ℕ, _+_, _*_, _/_, _≤_, _<_};
+ghost use mathlib.Core.List.{List, []};
+ghost use Prim.Native.Nat.{ℕ, _+_, _≤_};
 ghost use lib.ListN.{length, take};
-ghost use Rattle.linkstate.specs.Replies.{accepted, bytes};
-ghost use Rattle.linkstate.specs.Sides.{named};
-ghost use Rattle.linkstate.specs.Questions.{write};
+ghost use Rattle.linkstate.specs.Replies.{bytes};
 ghost use Rattle.linkstate.specs.Meaning.{meaning};
-ghost use Rattle.linkstate.specs.Export as Definitions;
 ghost use Rattle.replies.specs.Told.{toldWritten, toldExported};
-ghost use Rattle.isis.specs.RunA.{sideA};
-ghost use Rattle.isis.specs.RunB.{sideB};
+ghost use Rattle.masks.specs.Applications.{inBoth, inPair};
+ghost use Rattle.set_table.specs.Tables.{howMany};
+ghost use Rattle.export_bytes.specs.Whole.{answered};
 ghost use Rattle.isis.specs.Link.{linkSource, exportLink};
-ghost use Rattle.isis_sets.specs.Sets.{Holds};
-ghost use Rattle.isis_asla_index.specs.Index.{Room};
-ghost use Rattle.isis_srlg_values.specs.Gathered as B;
-ghost use Rattle.asla_bytes.specs.Applications.{inNumbers};
-ghost use Rattle.isis_table.specs.Filled.{PassedLink, NamedBy, ReadyA, Ready, left};
-ghost use Rattle.isis_table.specs.Filled as T;
-ghost use Rattle.isis_export.specs.Tables.{Beside};
+ghost use Rattle.isis_index.specs.Started.{Started};
+ghost use Rattle.isis_index.specs.Indexed.{Indexed};
+ghost use Rattle.isis_srlg_index.specs.Sources.{Room};
 ghost use Rattle.isis_export.specs.Delivered.{Delivered};
-use isis_asla_index::Index;
-use isis_sets::Masks;
-use isis_srlg_values::Gathered;
-use replies::Checked;
-use replies::Subject;
+ghost use Rattle.isis_export.specs.Answers.{exportLength, answeredLink};
+ghost use Rattle.isis_export.specs.Stages.{PassedA, Passed, Joined, Ready, Unowned, Roomy};
+ghost use Rattle.linkstate.specs.Export as Definitions;
+use export_tables::Plan;
+use isis_check::LinkChecked;
+use isis_check::Sides;
 use replies::Written;
+use rules::Names;
+use srlg_table::Used;
 
-// The applications other than RSVP-TE that either side names.
-fn named_in_link(x: Masks, y: isis_tlvs_238::Masks) -> Masks
-    ensures { λ r. ⌜ ((a b c : List ℕ) → Holds (λ n. named n (sideA a)) x → B.Holds (λ n. named n (sideB b c)) (y .standard) (y .user) → NamedBy a b c (r .standard) (r .user)) ⌝ }
-{
-    let standard = masks::without(masks::joined(x.standard, y.standard), 1);
-    let user = masks::joined(x.user, y.user);
-    Masks { standard, user }
+
+
+// Whom the sides of a link name, and whom either does, in masks as sent; how much of the sources of its SRLGs is used; and whether the length alone is asked for.
+struct Link {
+    a: Names,
+    b: Names,
+    standard: u64,
+    user: u64,
+    used: Used,
+    measuring: bool,
 }
 
-// The export, with lent room for the table of the groups and for the SRLGs of one of them.
+// How many slots the table of sets has, and which is that of RSVP-TE's set.
+struct Slots {
+    count: usize,
+    rsvp: usize,
+}
+
+// The first slots of the table, filled by the walk of run A; the slot of RSVP-TE's set.
+fn index_slots(
+    a: &[u8],
+    named: Names,
+    sets: &mut [[u32; 12]],
+    count: usize,
+    own: &mut [[u8; 2]; 128],
+) -> usize
+    requires { ⌜ PassedA (now a) named × (count ≤ length (now sets)) × Started named (take count (now sets)) (now own) ⌝ }
+    ensures { λ r. ⌜ Indexed (now (a .entry)) (take count (now (sets .exit))) (now (own .exit)) r ⌝ }
+{
+    isis_index::index_a(a, named, &mut sets[0..count], own)
+}
+
+// The table of sets: a slot for whom run A names, and then its walk.
+fn fill_sets(a: &[u8], named: Names, sets: &mut [[u32; 12]], own: &mut [[u8; 2]; 128]) -> Slots
+    requires { ⌜ PassedA (now a) named × Unowned (now own) × (3 + howMany (inBoth (named .standard) (named .user)) 128 ≤ length (now sets)) × (length (now sets) ≤ 256) ⌝ }
+    ensures { λ r. ⌜ (r .count ≤ length (now (sets .exit))) × Indexed (now (a .entry)) (take (r .count) (now (sets .exit))) (now (own .exit)) (r .rsvp) ⌝ }
+{
+    let standard = masks::turned(named.standard);
+    let user = masks::turned(named.user);
+    let count = set_table::assign_slots(standard, user, own, sets);
+    let rsvp = index_slots(a, named, sets, count, own);
+    Slots { count, rsvp }
+}
+
+// The export of an accepted link whose SRLGs are listed, with lent room for the tables.
 fn export_with(
     a: &[u8],
-    b: &[u8],
-    c: &[u8],
-    lists: &[[u16; 2]],
-    standards: &[u64],
-    users: &[u64],
-    index: Index,
-    l: &[[usize; 2]; 3],
-    legacy: &[[usize; 2]; 10],
-    general: &[[usize; 2]; 10],
-    values: &[u32],
-    sets: &[[u64; 12]],
-    takers: &[[u64; 2]],
-    entries: usize,
-    standard: u64,
-    user: u64,
-    rs: &[u32],
-    gs: &[u32],
-    grids: &mut [[[usize; 2]; 10]],
-    bits: &mut [[u64; 12]],
-    heads: &mut [[u64; 4]],
+    n: Link,
+    rows: &[[u64; 18]],
+    values: &[u64],
+    sets: &mut [[u32; 12]],
+    classes: &mut [[u64; 4]],
+    groups: &mut [[u64; 3]],
+    places: &mut [usize],
     out: &mut [u8],
 ) -> Written
-    requires { ⌜ Ready (now a) (now b) (now c) (now lists) (now standards) (now users) index (now legacy) (now general) (now values) (now sets) (now takers) entries standard user × Beside (now a) (now b) (now c) (now l) (now rs) (now gs) × T.Holds (left (inNumbers standard user) 1) (now grids) (now bits) (now heads) ⌝ }
-    ensures { λ r. ⌜ toldExported r (now (out .exit)) ≡ write accepted (Definitions.export (meaning (linkSource (now (a .entry)) (now (b .entry)) (now (c .entry))))) (now (out .entry)) ⌝ }
+    requires { ⌜ ((b : List ℕ) × (c : List ℕ) × Ready (now a) b c n (now rows) (now values)) × Roomy n (now sets) (now classes) (now groups) (now places) ⌝ }
+    ensures { λ q. ⌜ ((b c : List ℕ) → Ready (now (a .entry)) b c n (now (rows .entry)) (now (values .entry)) → toldExported q (now (out .exit)) ≡ answered (n .measuring) (Definitions.export (meaning (linkSource (now (a .entry)) b c))) (now (out .entry))) ⌝ }
 {
-    let count = isis_table::fill_groups(
+    let mut own = [[0u8; 2]; 128];
+    let s = fill_sets(a, n.a, sets, &mut own);
+    let names = n.b;
+    let used = n.used;
+    let t = Plan {
+        standard: n.standard,
+        user: n.user,
+        names,
+        used,
+        slots: s.count,
+        slot: s.rsvp,
+        measuring: n.measuring,
+    };
+    export_tables::export_rows(
         a,
-        b,
-        c,
-        lists,
-        standards,
-        users,
-        index,
-        legacy,
-        general,
+        t,
+        rows,
         values,
         sets,
-        takers,
-        entries,
-        standard,
-        user,
-        grids,
-        bits,
-        heads,
-    );
-    let r = isis_index_sets::rsvp_te_grid(a, lists, standards, users, index, legacy);
-    export_bytes::export_sets(
-        a,
-        l,
-        &r,
-        rs,
-        general,
-        gs,
-        values,
-        count,
-        grids,
-        bits,
-        heads,
+        &mut own,
+        classes,
+        groups,
+        places,
         out,
     )
 }
 
-// The same with room of its own, for two named applications, for few and for all.
-fn export_two(
-    a: &[u8],
-    b: &[u8],
-    c: &[u8],
-    lists: &[[u16; 2]],
-    standards: &[u64],
-    users: &[u64],
-    index: Index,
-    l: &[[usize; 2]; 3],
-    legacy: &[[usize; 2]; 10],
-    general: &[[usize; 2]; 10],
-    values: &[u32],
-    sets: &[[u64; 12]],
-    takers: &[[u64; 2]],
-    entries: usize,
-    standard: u64,
-    user: u64,
-    rs: &[u32],
-    gs: &[u32],
-    out: &mut [u8],
-) -> Written
-    requires { ⌜ Ready (now a) (now b) (now c) (now lists) (now standards) (now users) index (now legacy) (now general) (now values) (now sets) (now takers) entries standard user × Beside (now a) (now b) (now c) (now l) (now rs) (now gs) × (left (inNumbers standard user) 1 ≤ 2) ⌝ }
-    ensures { λ r. ⌜ toldExported r (now (out .exit)) ≡ write accepted (Definitions.export (meaning (linkSource (now (a .entry)) (now (b .entry)) (now (c .entry))))) (now (out .entry)) ⌝ }
+// The same with room of its own, for twelve named applications and for all.
+fn export_few(a: &[u8], n: Link, rows: &[[u64; 18]], values: &[u64], out: &mut [u8]) -> Written
+    requires { ⌜ ((b : List ℕ) × (c : List ℕ) × Ready (now a) b c n (now rows) (now values)) × (howMany (inPair (n .standard) (n .user)) 128 ≤ 12) ⌝ }
+    ensures { λ q. ⌜ ((b c : List ℕ) → Ready (now (a .entry)) b c n (now (rows .entry)) (now (values .entry)) → toldExported q (now (out .exit)) ≡ answered (n .measuring) (Definitions.export (meaning (linkSource (now (a .entry)) b c))) (now (out .entry))) ⌝ }
 {
-    let mut grids = [[[0usize; 2]; 10]; 2];
-    let mut bits = [[0u64; 12]; 2];
-    let mut heads = [[0u64; 4]; 2];
+    let mut sets = [[0u32; 12]; 15];
+    let mut classes = [[0u64; 4]; 16];
+    let mut groups = [[0u64; 3]; 13];
+    let mut places = [0usize; 16];
     export_with(
         a,
-        b,
-        c,
-        lists,
-        standards,
-        users,
-        index,
-        l,
-        legacy,
-        general,
+        n,
+        rows,
         values,
-        sets,
-        takers,
-        entries,
-        standard,
-        user,
-        rs,
-        gs,
-        &mut grids,
-        &mut bits,
-        &mut heads,
+        &mut sets,
+        &mut classes,
+        &mut groups,
+        &mut places,
         out,
     )
 }
 
-fn export_few(
-    a: &[u8],
-    b: &[u8],
-    c: &[u8],
-    lists: &[[u16; 2]],
-    standards: &[u64],
-    users: &[u64],
-    index: Index,
-    l: &[[usize; 2]; 3],
-    legacy: &[[usize; 2]; 10],
-    general: &[[usize; 2]; 10],
-    values: &[u32],
-    sets: &[[u64; 12]],
-    takers: &[[u64; 2]],
-    entries: usize,
-    standard: u64,
-    user: u64,
-    rs: &[u32],
-    gs: &[u32],
-    out: &mut [u8],
-) -> Written
-    requires { ⌜ Ready (now a) (now b) (now c) (now lists) (now standards) (now users) index (now legacy) (now general) (now values) (now sets) (now takers) entries standard user × Beside (now a) (now b) (now c) (now l) (now rs) (now gs) × (left (inNumbers standard user) 1 ≤ 12) ⌝ }
-    ensures { λ r. ⌜ toldExported r (now (out .exit)) ≡ write accepted (Definitions.export (meaning (linkSource (now (a .entry)) (now (b .entry)) (now (c .entry))))) (now (out .entry)) ⌝ }
+fn export_many(a: &[u8], n: Link, rows: &[[u64; 18]], values: &[u64], out: &mut [u8]) -> Written
+    requires { ⌜ ((b : List ℕ) × (c : List ℕ) × Ready (now a) b c n (now rows) (now values)) ⌝ }
+    ensures { λ q. ⌜ ((b c : List ℕ) → Ready (now (a .entry)) b c n (now (rows .entry)) (now (values .entry)) → toldExported q (now (out .exit)) ≡ answered (n .measuring) (Definitions.export (meaning (linkSource (now (a .entry)) b c))) (now (out .entry))) ⌝ }
 {
-    let mut grids = [[[0usize; 2]; 10]; 12];
-    let mut bits = [[0u64; 12]; 12];
-    let mut heads = [[0u64; 4]; 12];
+    let mut sets = [[1u32; 12]; 131];
+    let mut classes = [[1u64; 4]; 131];
+    let mut groups = [[1u64; 3]; 128];
+    let mut places = [0usize; 131];
     export_with(
         a,
-        b,
-        c,
-        lists,
-        standards,
-        users,
-        index,
-        l,
-        legacy,
-        general,
+        n,
+        rows,
         values,
-        sets,
-        takers,
-        entries,
-        standard,
-        user,
-        rs,
-        gs,
-        &mut grids,
-        &mut bits,
-        &mut heads,
-        out,
-    )
-}
-
-fn export_many(
-    a: &[u8],
-    b: &[u8],
-    c: &[u8],
-    lists: &[[u16; 2]],
-    standards: &[u64],
-    users: &[u64],
-    index: Index,
-    l: &[[usize; 2]; 3],
-    legacy: &[[usize; 2]; 10],
-    general: &[[usize; 2]; 10],
-    values: &[u32],
-    sets: &[[u64; 12]],
-    takers: &[[u64; 2]],
-    entries: usize,
-    standard: u64,
-    user: u64,
-    rs: &[u32],
-    gs: &[u32],
-    out: &mut [u8],
-) -> Written
-    requires { ⌜ Ready (now a) (now b) (now c) (now lists) (now standards) (now users) index (now legacy) (now general) (now values) (now sets) (now takers) entries standard user × Beside (now a) (now b) (now c) (now l) (now rs) (now gs) ⌝ }
-    ensures { λ r. ⌜ toldExported r (now (out .exit)) ≡ write accepted (Definitions.export (meaning (linkSource (now (a .entry)) (now (b .entry)) (now (c .entry))))) (now (out .entry)) ⌝ }
-{
-    let mut grids = [[[0usize; 2]; 10]; 127];
-    let mut bits = [[0u64; 12]; 127];
-    let mut heads = [[0u64; 4]; 127];
-    export_with(
-        a,
-        b,
-        c,
-        lists,
-        standards,
-        users,
-        index,
-        l,
-        legacy,
-        general,
-        values,
-        sets,
-        takers,
-        entries,
-        standard,
-        user,
-        rs,
-        gs,
-        &mut grids,
-        &mut bits,
-        &mut heads,
-        out,
-    )
-}
-
-// The same, by how many are named.
-fn export_named(
-    a: &[u8],
-    b: &[u8],
-    c: &[u8],
-    lists: &[[u16; 2]],
-    standards: &[u64],
-    users: &[u64],
-    index: Index,
-    l: &[[usize; 2]; 3],
-    legacy: &[[usize; 2]; 10],
-    general: &[[usize; 2]; 10],
-    values: &[u32],
-    sets: &[[u64; 12]],
-    takers: &[[u64; 2]],
-    entries: usize,
-    standard: u64,
-    user: u64,
-    rs: &[u32],
-    gs: &[u32],
-    out: &mut [u8],
-) -> Written
-    requires { ⌜ Ready (now a) (now b) (now c) (now lists) (now standards) (now users) index (now legacy) (now general) (now values) (now sets) (now takers) entries standard user × Beside (now a) (now b) (now c) (now l) (now rs) (now gs) ⌝ }
-    ensures { λ r. ⌜ toldExported r (now (out .exit)) ≡ write accepted (Definitions.export (meaning (linkSource (now (a .entry)) (now (b .entry)) (now (c .entry))))) (now (out .entry)) ⌝ }
-{
-    if isis_table::few_named(standard, user, 2) {
-        return export_two(
-            a,
-            b,
-            c,
-            lists,
-            standards,
-            users,
-            index,
-            l,
-            legacy,
-            general,
-            values,
-            sets,
-            takers,
-            entries,
-            standard,
-            user,
-            rs,
-            gs,
-            out,
-        );
-    }
-    if isis_table::few_named(standard, user, 12) {
-        return export_few(
-            a,
-            b,
-            c,
-            lists,
-            standards,
-            users,
-            index,
-            l,
-            legacy,
-            general,
-            values,
-            sets,
-            takers,
-            entries,
-            standard,
-            user,
-            rs,
-            gs,
-            out,
-        );
-    }
-    export_many(
-        a,
-        b,
-        c,
-        lists,
-        standards,
-        users,
-        index,
-        l,
-        legacy,
-        general,
-        values,
-        sets,
-        takers,
-        entries,
-        standard,
-        user,
-        rs,
-        gs,
-        out,
-    )
-}
-
-// The export, from the index of run A and the numbers of runs B and C.
-fn export_indexed(
-    a: &[u8],
-    b: &[u8],
-    c: &[u8],
-    lists: &[[u16; 2]],
-    standards: &[u64],
-    users: &[u64],
-    index: Index,
-    l: &[[usize; 2]; 3],
-    legacy: &[[usize; 2]; 10],
-    general: &[[usize; 2]; 10],
-    values: &[u32],
-    g: Gathered,
-    sets: &mut [[u64; 12]],
-    takers: &mut [[u64; 2]],
-    rs: &[u32],
-    gs: &[u32],
-    out: &mut [u8],
-) -> Written
-    requires { ⌜ PassedLink (now a) (now b) (now c) × ReadyA (now a) (now lists) (now standards) (now users) index (now legacy) (now general) × B.Values (now b) (now c) g (now values) × (length (now b) + 16 ≤ 16 * length (now sets)) × (length (now b) + 16 ≤ 16 * length (now takers)) × Beside (now a) (now b) (now c) (now l) (now rs) (now gs) ⌝ }
-    ensures { λ r. ⌜ toldExported r (now (out .exit)) ≡ write accepted (Definitions.export (meaning (linkSource (now (a .entry)) (now (b .entry)) (now (c .entry))))) (now (out .entry)) ⌝ }
-{
-    let entries = isis_srlg_index::index_srlgs(b, c, values, g, sets, takers);
-    let named = named_in_link(index.named, g.named);
-    let standard = named.standard;
-    let user = named.user;
-    export_named(
-        a,
-        b,
-        c,
-        lists,
-        standards,
-        users,
-        index,
-        l,
-        legacy,
-        general,
-        values,
-        sets,
-        takers,
-        entries,
-        standard,
-        user,
-        rs,
-        gs,
-        out,
-    )
-}
-
-// The same, with the numbers at the fronts of lists.
-fn export_sorted(
-    a: &[u8],
-    b: &[u8],
-    c: &[u8],
-    lists: &[[u16; 2]],
-    standards: &[u64],
-    users: &[u64],
-    index: Index,
-    l: &[[usize; 2]; 3],
-    legacy: &[[usize; 2]; 10],
-    general: &[[usize; 2]; 10],
-    values: &[u32],
-    g: Gathered,
-    sets: &mut [[u64; 12]],
-    takers: &mut [[u64; 2]],
-    rs: &[u32],
-    rn: usize,
-    gs: &[u32],
-    gn: usize,
-    out: &mut [u8],
-) -> Written
-    requires { ⌜ PassedLink (now a) (now b) (now c) × ReadyA (now a) (now lists) (now standards) (now users) index (now legacy) (now general) × B.Values (now b) (now c) g (take (g .count) (now values)) × (g .count ≤ length (now values)) × (length (now b) + 16 ≤ 16 * length (now sets)) × (length (now b) + 16 ≤ 16 * length (now takers)) × Beside (now a) (now b) (now c) (now l) (take rn (now rs)) (take gn (now gs)) × (rn ≤ length (now rs)) × (gn ≤ length (now gs)) ⌝ }
-    ensures { λ r. ⌜ toldExported r (now (out .exit)) ≡ write accepted (Definitions.export (meaning (linkSource (now (a .entry)) (now (b .entry)) (now (c .entry))))) (now (out .entry)) ⌝ }
-{
-    let n = g.count;
-    export_indexed(
-        a,
-        b,
-        c,
-        lists,
-        standards,
-        users,
-        index,
-        l,
-        legacy,
-        general,
-        &values[0..n],
-        g,
-        sets,
-        takers,
-        &rs[0..rn],
-        &gs[0..gn],
-        out,
-    )
-}
-
-// The export of an accepted link, with lent room for the indexes.
-fn export_runs(
-    a: &[u8],
-    b: &[u8],
-    c: &[u8],
-    lists: &mut [[u16; 2]],
-    standards: &mut [u64],
-    users: &mut [u64],
-    values: &mut [u32],
-    list: &mut [u32],
-    tmp: &mut [u32],
-    sets: &mut [[u64; 12]],
-    takers: &mut [[u64; 2]],
-    out: &mut [u8],
-) -> Written
-    requires { ⌜ PassedLink (now a) (now b) (now c) × Room (now a) (now lists) (now standards) (now users) × (length (now b) / 4 + length (now c) / 4 ≤ length (now values)) × (length (now b) / 4 + length (now c) / 4 ≤ length (now list)) × (length (now b) / 4 + length (now c) / 4 ≤ length (now tmp)) × (length (now b) + 16 ≤ 16 * length (now sets)) × (length (now b) + 16 ≤ 16 * length (now takers)) ⌝ }
-    ensures { λ r. ⌜ toldExported r (now (out .exit)) ≡ write accepted (Definitions.export (meaning (linkSource (now (a .entry)) (now (b .entry)) (now (c .entry))))) (now (out .entry)) ⌝ }
-{
-    let index = isis_asla_index::index_aslas(a, lists, standards, users);
-    let mut legacy = [[0usize; 2]; 10];
-    let mut link = [[0usize; 2]; 3];
-    isis_grids::fill_legacy(&mut legacy, &mut link, a);
-    let l = isis_index_sets::bandwidth_rows(a, lists, standards, users, index, &link);
-    let general = isis_index_sets::general_grid(a, lists, standards, users, index);
-    let g = isis_srlg_values::sort_values(b, c, values, list, tmp);
-    let rn = isis_srlgs::srlgs_of(b, c, Subject::Standard(0), list);
-    let gn = isis_srlgs::srlgs_of(b, c, Subject::General, tmp);
-    export_sorted(
-        a,
-        b,
-        c,
-        lists,
-        standards,
-        users,
-        index,
-        &l,
-        &legacy,
-        &general,
-        values,
-        g,
-        sets,
-        takers,
-        list,
-        rn,
-        tmp,
-        gn,
-        out,
-    )
-}
-
-// The same with room of its own, for the shortest runs, for short ones and for the longest.
-fn export_least(a: &[u8], b: &[u8], c: &[u8], out: &mut [u8]) -> Written
-    requires { ⌜ PassedLink (now a) (now b) (now c) × (length (now a) ≤ 96) × (length (now b) ≤ 32) × (length (now c) ≤ 32) ⌝ }
-    ensures { λ r. ⌜ toldExported r (now (out .exit)) ≡ write accepted (Definitions.export (meaning (linkSource (now (a .entry)) (now (b .entry)) (now (c .entry))))) (now (out .entry)) ⌝ }
-{
-    let mut lists = [[0u16; 2]; 16];
-    let mut standards = [0u64; 16];
-    let mut users = [0u64; 16];
-    let mut values = [0u32; 16];
-    let mut list = [0u32; 16];
-    let mut tmp = [0u32; 16];
-    let mut sets = [[0u64; 12]; 3];
-    let mut takers = [[0u64; 2]; 3];
-    export_runs(
-        a,
-        b,
-        c,
-        &mut lists,
-        &mut standards,
-        &mut users,
-        &mut values,
-        &mut list,
-        &mut tmp,
         &mut sets,
-        &mut takers,
+        &mut classes,
+        &mut groups,
+        &mut places,
         out,
     )
 }
 
-fn export_small(a: &[u8], b: &[u8], c: &[u8], out: &mut [u8]) -> Written
-    requires { ⌜ PassedLink (now a) (now b) (now c) × (length (now a) ≤ 384) × (length (now b) ≤ 320) × (length (now c) ≤ 192) ⌝ }
-    ensures { λ r. ⌜ toldExported r (now (out .exit)) ≡ write accepted (Definitions.export (meaning (linkSource (now (a .entry)) (now (b .entry)) (now (c .entry))))) (now (out .entry)) ⌝ }
+// By how many applications are named.
+fn export_sized(a: &[u8], n: Link, rows: &[[u64; 18]], values: &[u64], out: &mut [u8]) -> Written
+    requires { ⌜ ((b : List ℕ) × (c : List ℕ) × Ready (now a) b c n (now rows) (now values)) ⌝ }
+    ensures { λ q. ⌜ ((b c : List ℕ) → Ready (now (a .entry)) b c n (now (rows .entry)) (now (values .entry)) → toldExported q (now (out .exit)) ≡ answered (n .measuring) (Definitions.export (meaning (linkSource (now (a .entry)) b c))) (now (out .entry))) ⌝ }
 {
-    let mut lists = [[0u16; 2]; 64];
-    let mut standards = [0u64; 64];
-    let mut users = [0u64; 64];
-    let mut values = [0u32; 128];
-    let mut list = [0u32; 128];
-    let mut tmp = [0u32; 128];
-    let mut sets = [[0u64; 12]; 21];
-    let mut takers = [[0u64; 2]; 21];
-    export_runs(
+    if export_tables::at_most(n.standard, n.user, 12) {
+        return export_few(a, n, rows, values, out);
+    }
+    export_many(a, n, rows, values, out)
+}
+
+// The same, with the numbers at the front of a list.
+fn export_listed(
+    a: &[u8],
+    n: Link,
+    rows: &[[u64; 18]],
+    values: &[u64],
+    count: usize,
+    out: &mut [u8],
+) -> Written
+    requires { ⌜ (count ≤ length (now values)) × ((b : List ℕ) × (c : List ℕ) × Ready (now a) b c n (now rows) (take count (now values))) ⌝ }
+    ensures { λ q. ⌜ ((b c : List ℕ) → Ready (now (a .entry)) b c n (now (rows .entry)) (take count (now (values .entry))) → toldExported q (now (out .exit)) ≡ answered (n .measuring) (Definitions.export (meaning (linkSource (now (a .entry)) b c))) (now (out .entry))) ⌝ }
+{
+    export_sized(a, n, rows, &values[0..count], out)
+}
+
+// What an export goes by, with the masks of both sides joined.
+fn link_of(s: Sides, used: Used, measuring: bool) -> Link
+    ensures { λ r. ⌜ Joined s used measuring r ⌝ }
+{
+    let a = s.a;
+    let b = s.b;
+    let standard = masks::joined(a.standard, b.standard);
+    let user = masks::joined(a.user, b.user);
+    Link {
+        a,
+        b,
+        standard,
+        user,
+        used,
+        measuring,
+    }
+}
+
+// The export of a link that passed its checks, with lent room for the SRLGs: keys to sort, numbers, and rows of sources.
+fn export_keys(
+    a: &[u8],
+    b: &[u8],
+    c: &[u8],
+    s: Sides,
+    keys: &mut [u64],
+    values: &mut [u64],
+    rows: &mut [[u64; 18]],
+    measuring: bool,
+    out: &mut [u8],
+) -> Written
+    requires { ⌜ Passed (now a) (now b) (now c) s × Room (length (now b)) (length (now c)) (length (now keys)) (length (now rows)) × (length (now keys) ≤ length (now values)) ⌝ }
+    ensures { λ q. ⌜ toldExported q (now (out .exit)) ≡ answered measuring (Definitions.export (meaning (linkSource (now (a .entry)) (now (b .entry)) (now (c .entry))))) (now (out .entry)) ⌝ }
+{
+    let k = isis_srlg_index::index_srlgs(b, c, s.b, keys, values, rows);
+    let used = Used {
+        words: (k.count + 63) / 64,
+        sources: k.sources,
+    };
+    let n = link_of(s, used, measuring);
+    export_listed(a, n, rows, values, k.count, out)
+}
+
+// The same with room of its own, for short runs B and C and for all.
+fn export_short(
+    a: &[u8],
+    b: &[u8],
+    c: &[u8],
+    s: Sides,
+    measuring: bool,
+    out: &mut [u8],
+) -> Written
+    requires { ⌜ Passed (now a) (now b) (now c) s × (length (now b) ≤ 320) × (length (now c) ≤ 192) ⌝ }
+    ensures { λ q. ⌜ toldExported q (now (out .exit)) ≡ answered measuring (Definitions.export (meaning (linkSource (now (a .entry)) (now (b .entry)) (now (c .entry))))) (now (out .entry)) ⌝ }
+{
+    let mut keys = [1u64; 128];
+    let mut values = [1u64; 128];
+    let mut rows = [[1u64; 18]; 14];
+    export_keys(
         a,
         b,
         c,
-        &mut lists,
-        &mut standards,
-        &mut users,
+        s,
+        &mut keys,
         &mut values,
-        &mut list,
-        &mut tmp,
-        &mut sets,
-        &mut takers,
+        &mut rows,
+        measuring,
         out,
     )
 }
 
-fn export_large(a: &[u8], b: &[u8], c: &[u8], out: &mut [u8]) -> Written
-    requires { ⌜ PassedLink (now a) (now b) (now c) × (length (now a) ≤ 2048) ⌝ }
-    ensures { λ r. ⌜ toldExported r (now (out .exit)) ≡ write accepted (Definitions.export (meaning (linkSource (now (a .entry)) (now (b .entry)) (now (c .entry))))) (now (out .entry)) ⌝ }
+fn export_long(
+    a: &[u8],
+    b: &[u8],
+    c: &[u8],
+    s: Sides,
+    measuring: bool,
+    out: &mut [u8],
+) -> Written
+    requires { ⌜ Passed (now a) (now b) (now c) s ⌝ }
+    ensures { λ q. ⌜ toldExported q (now (out .exit)) ≡ answered measuring (Definitions.export (meaning (linkSource (now (a .entry)) (now (b .entry)) (now (c .entry))))) (now (out .entry)) ⌝ }
 {
-    let mut lists = [[0u16; 2]; 342];
-    let mut standards = [0u64; 342];
-    let mut users = [0u64; 342];
-    let mut values = [0u32; 768];
-    let mut list = [0u32; 768];
-    let mut tmp = [0u32; 768];
-    let mut sets = [[0u64; 12]; 129];
-    let mut takers = [[0u64; 2]; 129];
-    export_runs(
+    let mut keys = [1u64; 768];
+    let mut values = [1u64; 768];
+    let mut rows = [[1u64; 18]; 80];
+    export_keys(
         a,
         b,
         c,
-        &mut lists,
-        &mut standards,
-        &mut users,
+        s,
+        &mut keys,
         &mut values,
-        &mut list,
-        &mut tmp,
-        &mut sets,
-        &mut takers,
+        &mut rows,
+        measuring,
         out,
     )
 }
 
-// The export of an accepted link.
-fn export_accepted(a: &[u8], b: &[u8], c: &[u8], out: &mut [u8]) -> Written
-    requires { ⌜ PassedLink (now a) (now b) (now c) × (length (now a) ≤ 2048) ⌝ }
-    ensures { λ r. ⌜ toldExported r (now (out .exit)) ≡ write accepted (Definitions.export (meaning (linkSource (now (a .entry)) (now (b .entry)) (now (c .entry))))) (now (out .entry)) ⌝ }
+// Where runs B and C are empty: no SRLG at all.
+fn export_bare(a: &[u8], s: Sides, measuring: bool, out: &mut [u8]) -> Written
+    requires { ⌜ Passed (now a) [] [] s ⌝ }
+    ensures { λ q. ⌜ toldExported q (now (out .exit)) ≡ answered measuring (Definitions.export (meaning (linkSource (now (a .entry)) [] []))) (now (out .entry)) ⌝ }
 {
-    if (a.len() <= 96) & (b.len() <= 32) & (c.len() <= 32) {
-        return export_least(a, b, c, out);
+    let rows = [[0u64; 18]; 1];
+    let values = [0u64; 1];
+    let used = Used {
+        words: 0,
+        sources: 0,
+    };
+    let n = link_of(s, used, measuring);
+    export_listed(a, n, &rows, &values, 0, out)
+}
+
+// The export of a link that passed its checks, by the lengths of runs B and C.
+fn export_accepted(
+    a: &[u8],
+    b: &[u8],
+    c: &[u8],
+    s: Sides,
+    measuring: bool,
+    out: &mut [u8],
+) -> Written
+    requires { ⌜ Passed (now a) (now b) (now c) s ⌝ }
+    ensures { λ q. ⌜ toldExported q (now (out .exit)) ≡ answered measuring (Definitions.export (meaning (linkSource (now (a .entry)) (now (b .entry)) (now (c .entry))))) (now (out .entry)) ⌝ }
+{
+    if (b.len() == 0) & (c.len() == 0) {
+        return export_bare(a, s, measuring, out);
     }
-    if (a.len() <= 384) & (b.len() <= 320) & (c.len() <= 192) {
-        return export_small(a, b, c, out);
+    if (b.len() <= 320) & (c.len() <= 192) {
+        return export_short(a, b, c, s, measuring, out);
     }
-    export_large(a, b, c, out)
+    export_long(a, b, c, s, measuring, out)
+}
+
+// The checks of the link first: refused as they say, else the export or its length.
+fn export_checked(a: &[u8], b: &[u8], c: &[u8], measuring: bool, out: &mut [u8]) -> Written
+    ensures { λ q. ⌜ toldExported q (now (out .exit)) ≡ answeredLink measuring (now (a .entry)) (now (b .entry)) (now (c .entry)) (now (out .entry)) ⌝ }
+{
+    match isis_check::check_sides(a, b, c) {
+        LinkChecked::Refused(r) => Written::Refused(r),
+        LinkChecked::Accepted(s) => export_accepted(a, b, c, s, measuring, out),
+    }
 }
 
 // The link as BGP-LS TLVs: refused as its bytes are, then by 5; else they stand at the buffer's front, and their length is the answer. What was written is
@@ -607,8 +328,13 @@ pub fn export(a: &[u8], b: &[u8], c: &[u8], out: &mut [u8]) -> Written
     ensures { λ r. ⌜ toldExported r (now (out .exit)) ≡ exportLink (now (a .entry)) (now (b .entry)) (now (c .entry)) (now (out .entry)) ⌝ }
     ensures { λ r. ⌜ ((n : ℕ) → toldWritten r ≡ bytes n → Delivered (now (a .entry)) (now (b .entry)) (now (c .entry)) n (now (out .exit))) ⌝ }
 {
-    match isis_check::check_link(a, b, c) {
-        Checked::Accepted => export_accepted(a, b, c, out),
-        Checked::Refused(r) => Written::Refused(r),
-    }
+    export_checked(a, b, c, false, out)
+}
+
+// How much room the export of a link needs: refused as its bytes are, else the length of its TLVs. Nothing is written.
+pub fn export_length(a: &[u8], b: &[u8], c: &[u8]) -> Written
+    ensures { λ r. ⌜ toldWritten r ≡ exportLength (now (a .entry)) (now (b .entry)) (now (c .entry)) ⌝ }
+{
+    let mut none = [0u8; 0];
+    export_checked(a, b, c, true, &mut none)
 }

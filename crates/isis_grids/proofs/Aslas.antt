@@ -1,5 +1,5 @@
 -- ASLA sub-TLVs that passed their checks: what their headers promise, where their lists begin, and the turns of a loop that reads the selected lists.
-use mathlib.Core.Path.{_≡_, refl, sym, ap, _∙_, subst}
+use mathlib.Core.Path.{_≡_, refl, sym, ap, ap₂, _∙_, subst}
 use mathlib.Core.Logic.{_⊎_, inl, inr, ⊎-elim}
 use mathlib.Core.Bool.{Bool, true, false, cond, _&&_, _||_, not}
 use mathlib.Core.List.{List, [], _∷_, _++_}
@@ -19,13 +19,13 @@ use Rattle.linkstate.specs.Sides.{Advertisement, names, general, rsvpTeAlone, o
 use Rattle.linkstate.proofs.ElementLaws.{none-left}
 use Rattle.linkstate.proofs.ListLaws.{keep-append, each-append}
 use Rattle.linkstate.proofs.WalkLaws.{left, not-accepted}
-use Rattle.octets.proofs.Laws.{part-is, length-bytesAt, bytesAt-add}
+use Rattle.octets.proofs.Laws.{length-bytesAt, bytesAt-add}
 use Rattle.isis.specs.MaskHeader.{lFlag, maskTooLong, lForNobody, headerLength, advertisement}
 use Rattle.isis.specs.RunA.{listElements, checkAttribute, checkAsla, checkA, attributesOf, liveAsla, aslaAdvertisements, sideA}
 use Rattle.isis_grids.specs.declared.Which.{Which}
 use Rattle.isis_grids.specs.declared.Which.the-variants.{Naming, General, RsvpTeAlone, WithoutL}
 use Rattle.isis_grids.specs.Grid.{unchecked}
-use Rattle.isis_grids.specs.Selected.{selects, listFrom, listAt, Headed, selected}
+use Rattle.isis_grids.specs.Selected.{selects, listFrom, listAt, Headed, valueAt, selected}
 use Rattle.isis_grids.proofs.Grids.{All, all-each, Placed, placed-each}
 use Rattle.isis_grids.proofs.Walks.{framed, elementAt, inside, passed, turn}
 
@@ -152,21 +152,6 @@ module _ (w : Which) (a : List ℕ) (at : ℕ) where
   unfolding listAt
   list-other n = rw (ne-eqb (getD a at 0) 16 n)
 
-  abbrev part : List ℕ
-  part = take (at + 2 + getD a (at + 1) 0 - (at + 2)) (drop (at + 2) a)
-
-  module _ (asla : getD a at 0 ≡ 16) (h : Headed (bytesAt a (at + 2) (getD a (at + 1) 0))) where
-    pub value-headed : Headed part
-    value-headed = subst Headed (sym (part-is a (at + 2) (getD a (at + 1) 0))) h
-
-    pub list-asla : (k : ℕ) → k ≡ listFrom w part → at + 2 + k ≡ listAt w a at
-    unfolding listAt
-    list-asla k e = rw (eq-eqb (getD a at 0) 16 asla, e, part-is a (at + 2) (getD a (at + 1) 0))
-
-    pub list-ends : at + 2 + getD a (at + 1) 0 ≤ length a → (k : ℕ) → k ≡ listFrom w part → at + 2 + k ≤ length a
-    list-ends l k e =
-        omega (arith, e, list-within w part value-headed, ap length (part-is a (at + 2) (getD a (at + 1) 0)), length-bytesAt a (at + 2) (getD a (at + 1) 0) l)
-
 -- What holds of the attributes of every list that is read holds of those that are selected.
 pub all-selected : (P : Attribute → Type 0) (w : Which) (at t : ℕ) (v : List ℕ) → (t ≡ 16 → lFlag v ≡ false → maskTooLong v ≡ false → All P (each attributesOf (listElements at v))) → All P (selected w (element at t v))
 unfolding listElements
@@ -219,10 +204,7 @@ part-drop s p n k h l =
     ∙ sym (drop-at (bytesAt s p k) (bytesAt s (p + k) m) k (length-bytesAt s p k (omega arith)))
     ∙ ap (drop k) (sym (bytesAt-add s p k m) ∙ ap (bytesAt s p) f)
 
--- The value of the element at a position, and the part of the run from a position to the element's end.
-abbrev pub valueAt : List ℕ → ℕ → List ℕ
-valueAt a at = bytesAt a (at + 2) (getD a (at + 1) 0)
-
+-- The part of the run from a position to the end of the element at another.
 abbrev pub listPart : List ℕ → ℕ → ℕ → List ℕ
 listPart a at from = take (at + 2 + getD a (at + 1) 0 - from) (drop from a)
 
@@ -236,10 +218,6 @@ module _ (a : List ℕ) (at : ℕ) (here : at < length a) (ok : faults runA chec
 
   pub asla-headed : Headed (valueAt a at)
   asla-headed = headed at (valueAt a at) asla-ok
-
-  -- its value, as a part of the run
-  pub part-headed : Headed (listPart a at (at + 2))
-  part-headed = subst Headed (sym (part-is a (at + 2) (getD a (at + 1) 0))) asla-headed
 
 module _ (w : Which) (a : List ℕ) (at : ℕ) (here : at < length a) (ok : faults runA checkA (left 1 0 a at) ≡ accepted) where
   -- The list at a position: framed, and with the attributes that are selected here.
@@ -298,3 +276,35 @@ module _ (w : Which) (a : List ℕ) (at : ℕ) (here : at < length a) (ok : faul
     live-unread l =
         live-read g
         (sym (ap (λ (v : List ℕ). F g (each attributesOf (elements 1 from v))) (empty-list from l) ∙ ap (λ (es : List Element). F g (each attributesOf es)) (none-left 1 from) ∙ none g))
+
+-- ---- what an ASLA gives to those who select it, by its header
+
+-- The part of the run behind k bytes of a value.
+pub list-behind : (a : List ℕ) (at k : ℕ) → k ≤ getD a (at + 1) 0 → at + 2 + getD a (at + 1) 0 ≤ length a → listPart a at (at + 2 + k) ≡ drop k (valueAt a at)
+list-behind a at k h l = part-drop a (at + 2) (getD a (at + 1) 0) k h l
+
+module _ (w : Which) (at t : ℕ) (v : List ℕ) (asla : t ≡ 16) where
+  abbrev readFrom : ℕ → List Attribute
+  readFrom k = each attributesOf (elements 1 (at + 2 + k) (drop k v))
+
+  -- with L, or with a mask too long to be read, nothing
+  pub selected-flagged : lFlag v ≡ true → selected w (element at t v) ≡ []
+  unfolding listFrom
+  selected-flagged l = selected-asla w at t v asla ∙ ap (λ (b : Bool). readFrom (cond b (length v) (cond (maskTooLong v) (length v) (cond (selects w (advertisement v [])) (headerLength v) (length v))))) l ∙ none w at t v (at + 2 + length v)
+
+  pub selected-too-long : lFlag v ≡ false → maskTooLong v ≡ true → selected w (element at t v) ≡ []
+  unfolding listFrom
+  selected-too-long l m =
+      selected-asla w at t v asla
+      ∙ ap₂ (λ (b d : Bool). readFrom (cond b (length v) (cond d (length v) (cond (selects w (advertisement v [])) (headerLength v) (length v))))) l m ∙ none w at t v (at + 2 + length v)
+
+  -- else its list, by the test
+  pub selected-read : lFlag v ≡ false → maskTooLong v ≡ false → selected w (element at t v) ≡ cond (selects w (advertisement v [])) (each attributesOf (listElements at v)) []
+  unfolding listFrom listElements
+  selected-read l m =
+      selected-asla w at t v asla
+      ∙ ap₂ (λ (b d : Bool). readFrom (cond b (length v) (cond d (length v) (cond (selects w (advertisement v [])) (headerLength v) (length v))))) l m ∙ go (selects w (advertisement v []))
+    where
+      go : (b : Bool) → readFrom (cond b (headerLength v) (length v)) ≡ cond b (each attributesOf (elements 1 (at + 2 + headerLength v) (drop (headerLength v) v))) []
+      go true = refl
+      go false = none w at t v (at + 2 + length v)

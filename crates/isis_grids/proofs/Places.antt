@@ -12,19 +12,19 @@ use Rattle.linkstate.specs.Lists.{each, keep, empty}
 use Rattle.linkstate.specs.Bytes.{bytesAt}
 use Rattle.linkstate.specs.Replies.{Verdict, accepted, runA, fault}
 use Rattle.linkstate.specs.Elements.{Element, element, cut, elements, faults}
-use Rattle.linkstate.specs.Kinds.{codeOfType, wrongInA}
 use Rattle.linkstate.specs.Attributes.{Attribute, attribute, ofKind, firstValue, valueOf}
 use Rattle.linkstate.specs.Sides.{ofLive}
 use Rattle.linkstate.proofs.ElementLaws.{at-place}
 use Rattle.linkstate.proofs.WalkLaws.{then-first, then-second, not-accepted}
-use Rattle.kinds.proofs.Computing.{computing}
+use Rattle.isis_kinds.proofs.Computing.{computing}
 use Rattle.octets.proofs.Laws.{bytesAt-add}
+use Rattle.isis.specs.Types.{codeOfType, wrongInA}
 use Rattle.isis.specs.MaskHeader.{headerLength}
 use Rattle.isis.specs.RunA.{listElements, checkAttribute, checkAsla, checkA, attributesOf, aslaAdvertisements, sideA}
+use Rattle.isis.proofs.TypeLaws.{wrongOfCode, right-code, metric-type}
 use Rattle.isis_grids.specs.declared.Which.{Which}
-use Rattle.isis_grids.specs.Grid.{firstRow, rowOf, bgplsValue, rowValue, wrongOfCode}
+use Rattle.isis_grids.specs.Grid.{firstRow, rowOf, bgplsValue}
 use Rattle.isis_grids.specs.Selected.{selects, selected}
-use Rattle.isis_grids.proofs.Types.{right-code, metric-type}
 use Rattle.isis_grids.proofs.Grids.{All, all-member, all-each}
 use Rattle.isis_grids.proofs.Aslas.{headed, list-ok, all-selected, live-all}
 
@@ -167,19 +167,6 @@ module _ (a : List ℕ) (t : Attribute) (s : Stands a t) where
   pub within : 0 < t .len → t .at + t .len ≤ length a
   unfolding bytesAt
   within h = omega (arith, s .there, length-take (t .len) (drop (t .at) a), length-drop (t .at) a)
-
--- The row of a code gives the code's value back.
-pub row-value : (a : List ℕ) (c : ℕ) (ts : List Attribute) → eqb c 1096 ≡ false → All (Stands a) ts → rowValue a c (rowOf c ts) ≡ valueOf c ts
-unfolding rowValue rowOf valueOf firstRow firstValue
-row-value a c ts n h = rw n (go (first-of a c ts h))
-  where
-    go : First a c ts → rowValue a c (firstRow (ofKind c ts)) ≡ firstValue (ofKind c ts)
-    go (absent e) = ap (λ (us : List Attribute). rowValue a c (firstRow us)) e ∙ sym (ap firstValue e)
-    go (present t us e i s) =
-        let z = s .placed in
-        ap (λ (us : List Attribute). rowValue a c (firstRow us)) e
-        ∙ (rw (ne-eqb (t .at) 0 (λ i. omega arith)) (ap (λ (x : ℕ). bgplsValue x (bytesAt a (t .at) (t .len))) (sym i) ∙ sym (s .value)))
-        ∙ sym (ap firstValue e)
 
 -- A known code has no value exactly where its row is absent.
 pub value-none : (a : List ℕ) (c : ℕ) (ts : List Attribute) → eqb c 1096 ≡ false → wrongOfCode c 0 ≡ true → All (Stands a) ts → empty (valueOf c ts) ≡ eqb (getD (rowOf c ts) 0 0) 0

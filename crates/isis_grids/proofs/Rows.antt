@@ -10,15 +10,15 @@ use lib.ListN.{length, getD}
 use Rattle.linkstate.specs.Lists.{each, keep}
 use Rattle.linkstate.specs.Replies.{accepted, runA}
 use Rattle.linkstate.specs.Elements.{elements, faults}
-use Rattle.linkstate.specs.Kinds.{codeOfType}
 use Rattle.linkstate.specs.Attributes.{Attribute, attribute, ofKind}
 use Rattle.linkstate.proofs.WalkLaws.{left, each-end}
 use Rattle.octets.proofs.Laws.{length-bytesAt}
+use Rattle.isis.specs.Types.{codeOfType}
 use Rattle.isis.specs.RunA.{attributesOf, checkA}
+use Rattle.isis.proofs.TypeLaws.{type-code}
 use Rattle.isis_grids.specs.declared.Which.{Which}
 use Rattle.isis_grids.specs.Grid.{firstRow, rowOf, unchecked}
 use Rattle.isis_grids.specs.Selected.{selected, listAt}
-use Rattle.isis_grids.proofs.Types.{type-code}
 use Rattle.isis_grids.proofs.Grids.{All, Placed, eqb-swap, row-append, placed-each}
 use Rattle.isis_grids.proofs.Walks.{inside, turn}
 use Rattle.isis_grids.proofs.Aslas.{append-nil, listPart, live-read, live-unread}

@@ -4,17 +4,16 @@ use mathlib.Core.Bool.{Bool, true, false, _&&_, _||_, not, false≢true}
 use mathlib.Core.List.{List}
 use Prim.Native.Nat.{ℕ, zero, suc, _+_, _-_, _≤_, _<_}
 use native.Mathlib.Omega.{arith}
-use borrow.Author.Tests.{eqb-true, eqb-false, eq-eqb, ne-eqb, ltb-true, ltb-false, lt-ltb, le-ltb}
+use borrow.Author.Tests.{eqb-true, eqb-false, ne-eqb, ltb-true, ltb-false, lt-ltb, le-ltb}
 use lib.Dec.{eqb, ltb}
 use Rattle.linkstate.specs.Lists.{any, numbers}
 use Rattle.linkstate.specs.Masks.{bit, user, inMasks, others, asNumber, inNumber}
-use lib.ListN.{length}
-use Rattle.linkstate.specs.Sides.{Advertisement, names, general, rsvpTeAlone}
+use Rattle.linkstate.specs.Sides.{Advertisement, names, rsvpTeAlone}
 use Rattle.linkstate.proofs.Computing.{computing}
 use Rattle.masks.proofs.Laws.{in-number}
 use Rattle.linkstate.proofs.MaskLaws.{number-same}
 use Rattle.isis_grids.specs.declared.Which.{Which}
-use Rattle.isis_grids.specs.declared.Which.the-variants.{Naming, General, RsvpTeAlone, WithoutL}
+use Rattle.isis_grids.specs.declared.Which.the-variants.{RsvpTeAlone}
 use Rattle.isis_grids.specs.Selected.{selects, unflagged}
 
 -- ---- RSVP-TE alone: only standard 0 is set exactly when the masks are the numbers 1 and 0
@@ -117,18 +116,6 @@ module _ (s u : List ℕ) where
 -- ---- test by test
 
 module _ (w : Which) (s u : List ℕ) where
-  pub selects-naming : (n : ℕ) (r : Bool) → w ≡ Naming n → r ≡ inMasks s u n → r ≡ selects w (unflagged s u)
-  unfolding selects names
-  selects-naming n r e h = rw e h
-
-  pub general-not : w ≡ General → (length s ≡ 0 → ⊥) → false ≡ selects w (unflagged s u)
-  unfolding selects general
-  general-not e h = rw (e, ne-eqb (length s) 0 h)
-
-  pub general-is : w ≡ General → length s ≡ 0 → eqb (length u) 0 ≡ selects w (unflagged s u)
-  unfolding selects general
-  general-is e h = rw (e, eq-eqb (length s) 0 h)
-
   pub selects-not-alone : (m : ℕ) → w ≡ RsvpTeAlone → m ≡ asNumber (bit s) → (m ≡ 1 → ⊥) → false ≡ selects w (unflagged s u)
   unfolding selects
   selects-not-alone m e h n = rw e (alone-not s u (λ z. n (h ∙ z)))
@@ -136,7 +123,3 @@ module _ (w : Which) (s u : List ℕ) where
   pub selects-alone : (m n : ℕ) → w ≡ RsvpTeAlone → m ≡ asNumber (bit s) → m ≡ 1 → n ≡ asNumber (bit u) → eqb n 0 ≡ selects w (unflagged s u)
   unfolding selects
   selects-alone m n e h i j = rw (e, j) (alone-is s u (sym h ∙ i))
-
-  pub selects-without-l : w ≡ WithoutL → true ≡ selects w (unflagged s u)
-  unfolding selects
-  selects-without-l e = rw e

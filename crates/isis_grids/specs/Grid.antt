@@ -1,12 +1,8 @@
 -- Sets on side A as grids (rule W7): one row per kind, of place and length or absent.
-use mathlib.Core.Bool.{Bool, cond, _&&_, not}
+use mathlib.Core.Bool.{cond}
 use mathlib.Core.List.{List, [], _∷_}
 use Prim.Native.Nat.{ℕ}
 use lib.Dec.{eqb}
-use lib.ListN.{length, getD}
-use Rattle.linkstate.specs.Lists.{any}
-use Rattle.linkstate.specs.Bytes.{bytesAt}
-use Rattle.linkstate.specs.Kinds.{kinds, hasCode, fits}
 use Rattle.linkstate.specs.Replies.{Verdict, accepted}
 use Rattle.linkstate.specs.Attributes.{Attribute, ofKind}
 
@@ -26,11 +22,3 @@ unchecked at t v = accepted
 -- K1. The BGP-LS value bytes of a code whose value has these bytes in run A: a TE metric gets a zero in front.
 unfoldable pub bgplsValue : ℕ → List ℕ → List ℕ
 bgplsValue c v = cond (eqb c 1092) (0 ∷ v) v
-
--- The value that a row points at, as BGP-LS value bytes; none where it is absent.
-unfoldable pub rowValue : List ℕ → ℕ → List ℕ → List ℕ
-rowValue a c row = cond (eqb (getD row 0 0) 0) [] (bgplsValue c (bytesAt a (getD row 0 0) (getD row 1 0)))
-
--- R4. Whether a code is known and its values in run A do not have n bytes.
-unfoldable pub wrongOfCode : ℕ → ℕ → Bool
-wrongOfCode c n = any (λ q. hasCode c q && not (fits (q .isisSize) n)) kinds

@@ -1,23 +1,23 @@
 -- Cells and the attributes that come to them. Assumes nothing.
-use mathlib.Core.Path.{_≡_, refl, sym, ap, ap₂, _∙_, subst}
-use mathlib.Core.Bool.{Bool, true, false, cond, _&&_, _||_, not, and-false, false≢true}
+use mathlib.Core.Path.{_≡_, refl, sym, ap, ap₂, _∙_}
+use mathlib.Core.Bool.{Bool, true, false, cond, _&&_, and-false}
 use mathlib.Core.List.{List, [], _∷_, _++_}
-use Prim.Native.Nat.{ℕ, zero, suc, _+_, _≤_, _<_}
+use Prim.Native.Nat.{ℕ, _+_, _≤_, _<_}
 use native.Mathlib.Omega.{arith}
-use borrow.Author.Tests.{eqb-true, eqb-false, eq-eqb, ne-eqb, leb-true}
-use lib.Dec.{eqb, leb}
+use borrow.Author.Tests.{ne-eqb, leb-true}
+use lib.Dec.{eqb}
 use lib.ListN.{length, getD}
-use Rattle.linkstate.specs.Kinds.{linkCodes, codeOfType}
+use Rattle.linkstate.specs.Kinds.{linkCodes}
 use Rattle.linkstate.specs.Attributes.{Attribute}
-use Rattle.linkstate.proofs.ListLaws.{and-l, and-r}
 use Rattle.masks.specs.Sets.{turnedPlace}
 use Rattle.kinds.specs.Rules.{gridCodes}
+use Rattle.isis.specs.Types.{codeOfType}
 use Rattle.grids.specs.Slots.{cell, IsSet}
-use Rattle.set_table.specs.Tables.{cellOf, first, Table, Value, Given, onlyAt, slotAt, Slotted}
+use Rattle.set_table.specs.Tables.{cellOf, first, Table, Given, onlyAt, slotAt}
 use Rattle.set_table.proofs.Tables.{first-none, first-assoc, given-none}
-use Rattle.isis_grids.specs.declared.Which.{Which}
 use Rattle.isis_grids.specs.declared.Which.the-variants.{Naming, General, RsvpTeAlone, WithoutL}
-use Rattle.isis_index.specs.Index.{cellIn, Source, legacy, live, Spot, general, old, bandwidth, maximum, alone, own, sourceOf, slotIn, cellAt, codeOf, owning, Valid, Ground, Adds, Kept, Right, told, fromLegacy, heardByAll, heard, attributeAt, Took}
+use Rattle.isis_index.specs.Index.{cellIn, Source, legacy, live, Spot, general, old, bandwidth, maximum, alone, own, sourceOf, slotIn, cellAt, codeOf}
+use Rattle.isis_index.specs.Index.{owning, Valid, Ground, Adds, Kept, told, fromLegacy, heardByAll, attributeAt, Took}
 use Rattle.isis_index.proofs.Codes.{grid-same, link-same, grid-link, link-grid, grid-some, link-some, link-first}
 
 -- ---- attributes joined
@@ -68,14 +68,16 @@ pub adds-by : {owns table after : List (List ℕ)} {c : ℕ → ℕ → ℕ} (h 
     → Adds owns table after (told h (t ∷ []))
 adds-by {owns} {table} {after} {c} h t g d e = record {
   same = d .same;
-  cells = λ x v. d .cells (slotIn owns x) (cellAt x) (spot-inside g x v) (spot-low owns x v) ∙ ap (first (cell table (slotIn owns x) (cellAt x))) (e x v ∙ comes (codeOf x) (h (sourceOf x)));
+  cells = λ x v. d .cells (slotIn owns x) (cellAt x) (spot-inside g x v) (spot-low owns x v)
+      ∙ ap (first (cell table (slotIn owns x) (cellAt x))) (e x v ∙ comes (codeOf x) (h (sourceOf x)));
 }
   where
     comes : (i : ℕ) (b : Bool) → cond (b && eqb i (t .code)) (cellOf (t .at) (t .len)) 0 ≡ cellIn i (cond b (t ∷ []) [])
     comes i true = sym (cell-one i t)
     comes i false = sym (cell-none i)
 
-pub adds-then : {owns table mid after : List (List ℕ)} {f h : Source → List Attribute} → Adds owns table mid f → Adds owns mid after h → Adds owns table after (λ src. f src ++ h src)
+pub adds-then : {owns table mid after : List (List ℕ)} {f h : Source → List Attribute} → Adds owns table mid f → Adds owns mid after h
+    → Adds owns table after (λ src. f src ++ h src)
 adds-then {owns} {table} {mid} {after} {f} {h} a b = record {
   same = b .same ∙ a .same;
   cells = λ x v.
@@ -84,11 +86,13 @@ adds-then {owns} {table} {mid} {after} {f} {h} a b = record {
       ∙ ap (first (cell table (slotIn owns x) (cellAt x))) (sym (cell-append (codeOf x) (f (sourceOf x)) (h (sourceOf x))));
 }
 
-pub adds-as : {owns table after : List (List ℕ)} {f h : Source → List Attribute} → ((x : Spot) → Valid owns x → f (sourceOf x) ≡ h (sourceOf x)) → Adds owns table after f → Adds owns table after h
-adds-as {owns} {table} {after} {f} {h} e a = record {
-  same = a .same;
-  cells = λ x v. a .cells x v ∙ ap (λ (ts : List Attribute). first (cell table (slotIn owns x) (cellAt x)) (cellIn (codeOf x) ts)) (e x v);
-}
+pub adds-cells : {owns table after : List (List ℕ)} {f h : Source → List Attribute}
+    → ((x : Spot) → Valid owns x → cellIn (codeOf x) (f (sourceOf x)) ≡ cellIn (codeOf x) (h (sourceOf x))) → Adds owns table after f → Adds owns table after h
+adds-cells {owns} {table} e a = record { same = a .same; cells = λ x v. a .cells x v ∙ ap (first (cell table (slotIn owns x) (cellAt x))) (e x v) }
+
+pub adds-as : {owns table after : List (List ℕ)} {f h : Source → List Attribute} → ((x : Spot) → Valid owns x → f (sourceOf x) ≡ h (sourceOf x))
+    → Adds owns table after f → Adds owns table after h
+adds-as e a = adds-cells (λ x v. ap (cellIn (codeOf x)) (e x v)) a
 
 pub adds-none : (owns table : List (List ℕ)) (f : Source → List Attribute) → ((src : Source) → f src ≡ []) → Adds owns table table f
 adds-none owns table f e = record {
@@ -105,7 +109,8 @@ own-high owns n e = leb-true 3 (slotAt owns (turnedPlace n)) e
 pub kept-only : {table after : List (List ℕ)} (s k c : ℕ) → s < 3 → Given table after (onlyAt s k c) → Kept table after
 kept-only {table} {after} s k c l g = record {
   same = g .same;
-  above = λ t j h i m. g .cells t j i m ∙ ap (λ (b : Bool). first (cell table t j) (cond (b && eqb j k) c 0)) (ne-eqb t s (λ e. omega arith)) ∙ first-none (cell table t j) 0 0;
+  above = λ t j h i m. g .cells t j i m ∙ ap (λ (b : Bool). first (cell table t j) (cond (b && eqb j k) c 0)) (ne-eqb t s (λ e. omega arith))
+      ∙ first-none (cell table t j) 0 0;
 }
 
 pub kept-none : (table : List (List ℕ)) → Kept table table
@@ -122,7 +127,8 @@ test-as p q c e = ap (λ (b : Bool). cond b c 0) e
 
 module _ (owns : List (List ℕ)) (code c : ℕ) where
   -- Legacy: one of the ten kinds, one of the link's, or none.
-  pub legacy-grid : (k : ℕ) → k < 10 → code ≡ getD gridCodes k 0 → (x : Spot) → Valid owns x → onlyAt 1 k c (slotIn owns x) (cellAt x) ≡ cond (fromLegacy (sourceOf x) && eqb (codeOf x) code) c 0
+  pub legacy-grid : (k : ℕ) → k < 10 → code ≡ getD gridCodes k 0 → (x : Spot) → Valid owns x
+      → onlyAt 1 k c (slotIn owns x) (cellAt x) ≡ cond (fromLegacy (sourceOf x) && eqb (codeOf x) code) c 0
   unfolding fromLegacy
   legacy-grid k h e (general j) v = refl
   legacy-grid k h e (old j) v = test-as (eqb j k) (eqb (getD gridCodes j 0) code) c (sym (ap (eqb (getD gridCodes j 0)) e ∙ grid-same j k v h))
@@ -131,7 +137,8 @@ module _ (owns : List (List ℕ)) (code c : ℕ) where
   legacy-grid k h e (alone j) v = refl
   legacy-grid k h e (own n j) v = ap (λ (b : Bool). cond (b && eqb j k) c 0) (ne-eqb (slotAt owns (turnedPlace n)) 1 (λ i. omega (arith, own-high owns n (v .1))))
 
-  pub legacy-link : (k : ℕ) → k < 3 → code ≡ getD linkCodes k 0 → (x : Spot) → Valid owns x → onlyAt 2 k c (slotIn owns x) (cellAt x) ≡ cond (fromLegacy (sourceOf x) && eqb (codeOf x) code) c 0
+  pub legacy-link : (k : ℕ) → k < 3 → code ≡ getD linkCodes k 0 → (x : Spot) → Valid owns x
+      → onlyAt 2 k c (slotIn owns x) (cellAt x) ≡ cond (fromLegacy (sourceOf x) && eqb (codeOf x) code) c 0
   unfolding fromLegacy
   legacy-link k h e (general j) v = refl
   legacy-link k h e (old j) v = test-as false (eqb (getD gridCodes j 0) code) c (sym (ap (eqb (getD gridCodes j 0)) e ∙ grid-link j k v h))
@@ -158,7 +165,8 @@ given-nothing table = given-none table (λ s k. 0) (λ s k l m. first-none (cell
 
 -- The list of a general advertisement.
 module _ (owns : List (List ℕ)) (code c : ℕ) where
-  pub general-grid : (k : ℕ) → k < 10 → code ≡ getD gridCodes k 0 → (x : Spot) → Valid owns x → onlyAt 0 k c (slotIn owns x) (cellAt x) ≡ cond (heardByAll (sourceOf x) && eqb (codeOf x) code) c 0
+  pub general-grid : (k : ℕ) → k < 10 → code ≡ getD gridCodes k 0 → (x : Spot) → Valid owns x
+      → onlyAt 0 k c (slotIn owns x) (cellAt x) ≡ cond (heardByAll (sourceOf x) && eqb (codeOf x) code) c 0
   unfolding heardByAll
   general-grid k h e (general j) v = test-as (eqb j k) (eqb (getD gridCodes j 0) code) c (sym (ap (eqb (getD gridCodes j 0)) e ∙ grid-same j k v h))
   general-grid k h e (old j) v = refl
@@ -168,10 +176,12 @@ module _ (owns : List (List ℕ)) (code c : ℕ) where
   general-grid k h e (own n j) v = ap (λ (b : Bool). cond (b && eqb j k) c 0) (ne-eqb (slotAt owns (turnedPlace n)) 0 (λ i. omega (arith, own-high owns n (v .1))))
 
   -- Maximum bandwidth, of any list without L; the other two, which a general list gives to nobody.
-  pub maximum-only : (h : Source → Bool) → h (live WithoutL) ≡ true → h legacy ≡ false → code ≡ getD linkCodes 0 0 → (x : Spot) → Valid owns x → onlyAt 2 3 c (slotIn owns x) (cellAt x) ≡ cond (h (sourceOf x) && eqb (codeOf x) code) c 0
+  pub maximum-only : (h : Source → Bool) → h (live WithoutL) ≡ true → h legacy ≡ false → code ≡ getD linkCodes 0 0 → (x : Spot) → Valid owns x
+      → onlyAt 2 3 c (slotIn owns x) (cellAt x) ≡ cond (h (sourceOf x) && eqb (codeOf x) code) c 0
   maximum-only h w l e (general j) v = sym (ap (λ (b : Bool). cond (h (live General) && b) c 0) (ap (eqb (getD gridCodes j 0)) e ∙ grid-link j 0 v (omega arith)) ∙ ap (λ (b : Bool). cond b c 0) (and-false (h (live General))))
   maximum-only h w l e (old j) v = sym (ap (λ (b : Bool). cond (b && eqb (getD gridCodes j 0) code) c 0) l)
-  maximum-only h w l e (bandwidth j) v = ap (λ (b : Bool). cond b c 0) (ne-eqb j 3 (λ i. omega arith)) ∙ sym (ap (λ (b : Bool). cond (b && eqb (getD linkCodes j 0) code) c 0) l)
+  maximum-only h w l e (bandwidth j) v = ap (λ (b : Bool). cond b c 0) (ne-eqb j 3 (λ i. omega arith))
+      ∙ sym (ap (λ (b : Bool). cond (b && eqb (getD linkCodes j 0) code) c 0) l)
   maximum-only h w l e maximum v = sym (ap₂ (λ (a b : Bool). cond (a && b) c 0) w (ap (eqb 1089) (e ∙ link-first)))
   maximum-only h w l e (alone j) v =
       ap (λ (b : Bool). cond b c 0) (ne-eqb (4 + j) 3 (λ i. omega arith))
@@ -180,7 +190,8 @@ module _ (owns : List (List ℕ)) (code c : ℕ) where
       ap (λ (b : Bool). cond (b && eqb j 3) c 0) (ne-eqb (slotAt owns (turnedPlace n)) 2 (λ i. omega (arith, own-high owns n (v .1))))
       ∙ sym (ap (λ (b : Bool). cond (h (live (Naming n)) && b) c 0) (ap (eqb (getD gridCodes j 0)) e ∙ grid-link j 0 (v .2) (omega arith)) ∙ ap (λ (b : Bool). cond b c 0) (and-false (h (live (Naming n)))))
 
-  pub unheard-link : (h : Source → Bool) → h legacy ≡ false → h (live RsvpTeAlone) ≡ false → (k : ℕ) → k < 3 → (k ≡ 0 → ⊥) → code ≡ getD linkCodes k 0 → (x : Spot) → Valid owns x → 0 ≡ cond (h (sourceOf x) && eqb (codeOf x) code) c 0
+  pub unheard-link : (h : Source → Bool) → h legacy ≡ false → h (live RsvpTeAlone) ≡ false → (k : ℕ) → k < 3 → (k ≡ 0 → ⊥) → code ≡ getD linkCodes k 0
+      → (x : Spot) → Valid owns x → 0 ≡ cond (h (sourceOf x) && eqb (codeOf x) code) c 0
   unheard-link h l w k m d e (general j) v = sym (ap (λ (b : Bool). cond (h (live General) && b) c 0) (ap (eqb (getD gridCodes j 0)) e ∙ grid-link j k v m) ∙ ap (λ (b : Bool). cond b c 0) (and-false (h (live General))))
   unheard-link h l w k m d e (old j) v = sym (ap (λ (b : Bool). cond (b && eqb (getD gridCodes j 0) code) c 0) l)
   unheard-link h l w k m d e (bandwidth j) v = sym (ap (λ (b : Bool). cond (b && eqb (getD linkCodes j 0) code) c 0) l)

@@ -1,93 +1,27 @@
 -- The kind of a type and its code: what the arms of a match know. Assumes nothing.
-use mathlib.Core.Path.{_≡_, refl, sym, ap, _∙_, subst}
-use mathlib.Core.Bool.{Bool, true, false, cond, _&&_, _||_, not, false≢true}
-use mathlib.Core.List.{List, [], _∷_}
-use Prim.Native.Nat.{ℕ, zero, suc, _+_, _≤_, _<_}
+use mathlib.Core.Path.{_≡_, refl, sym, ap, _∙_}
+use mathlib.Core.Bool.{Bool, true, false, _&&_, not, false≢true}
+use mathlib.Core.List.{List}
+use Prim.Native.Nat.{ℕ, zero, suc, _<_}
 use native.Mathlib.Omega.{arith}
-use borrow.Author.Tests.{eqb-true, eqb-false, eq-eqb, ne-eqb, ltb-true, lt-ltb}
-use lib.Dec.{T, eqb, ltb, eqb→eq}
-use lib.ListN.{length, getD}
-use Rattle.linkstate.specs.Lists.{all, lookup}
-use Rattle.linkstate.specs.Kinds as K
-use Rattle.linkstate.specs.Kinds.{kinds, linkCodes, hasType, codeOfType, wrongInA}
-use Rattle.kinds.specs.declared.Kind.{Kind}
-use Rattle.kinds.specs.declared.Kind.the-variants.{Link, Application, Srlg, Asla, Unknown}
-use Rattle.kinds.specs.declared.Size.the-variants.{Any}
-use Rattle.kinds.specs.declared.Rule.{Rule}
-use Rattle.kinds.specs.Rules.{rule, ruleWith, ruleOfType, gridCodes}
-use Rattle.kinds.proofs.Computing.{computing}
-use Rattle.isis_grids.specs.Grid.{wrongOfCode}
-use Rattle.isis_grids.proofs.Types.{right-code, all-at, ten-codes, three-codes}
+use borrow.Author.Tests.{eqb-true, eqb-false}
+use lib.Dec.{eqb}
+use lib.ListN.{getD}
+use Rattle.linkstate.specs.Kinds.{linkCodes}
+use Rattle.kinds.specs.Rules.{gridCodes}
+use Rattle.isis_kinds.proofs.Computing.{computing}
+use Rattle.isis.specs.Types.{codeOfType}
+use Rattle.isis.proofs.TypeLaws.{wrongOfCode, right-code}
 use Rattle.set_table.specs.Tables.{Value}
 use Rattle.isis_index.specs.Index.{Right}
 
--- ---- the code of a kind
-
-abbrev pub TypeOf : Kind → ℕ → Type 0
-TypeOf (Link i) c = (i < 3) × (c ≡ getD linkCodes i 0)
-TypeOf (Application i) c = (i < 10) × (c ≡ getD gridCodes i 0)
-TypeOf Srlg c = ⊥
-TypeOf Asla c = c ≡ 0
-TypeOf Unknown c = c ≡ 0
-
-module _ (t : ℕ) where
-  abbrev Rows : List K.Kind → Type 0
-  Rows [] = Unit {0}
-  Rows (q ∷ qs) = (hasType t q ≡ true → TypeOf ((ruleWith (λ q. q .isisSize) q) .kind) (q .code)) × Rows qs
-
-  found : (qs : List K.Kind) → Rows qs → TypeOf ((lookup (hasType t) (ruleWith (λ q. q .isisSize)) (rule Unknown Any 0) qs) .kind) (lookup (hasType t) (λ q. q .code) 0 qs)
-  unfolding lookup
-  found [] h = refl
-  found (q ∷ qs) h = go (hasType t q) (h .0) (found qs (h .1))
-    where
-      go : (b : Bool) → (b ≡ true → TypeOf ((ruleWith (λ q. q .isisSize) q) .kind) (q .code)) → TypeOf ((lookup (hasType t) (ruleWith (λ q. q .isisSize)) (rule Unknown Any 0) qs) .kind) (lookup (hasType t) (λ q. q .code) 0 qs)
-          → TypeOf ((cond b (ruleWith (λ q. q .isisSize) q) (lookup (hasType t) (ruleWith (λ q. q .isisSize)) (rule Unknown Any 0) qs)) .kind) (cond b (q .code) (lookup (hasType t) (λ q. q .code) 0 qs))
-      go true f r = f refl
-      go false f r = r
-
-  pub type-of : TypeOf ((ruleOfType t) .kind) (codeOfType t)
-  unfolding computing
-  type-of = go (eqb t 16) refl
-    where
-      go : (b : Bool) → eqb t 16 ≡ b → TypeOf ((cond b (rule Asla Any 1122) (lookup (hasType t) (ruleWith (λ q. q .isisSize)) (rule Unknown Any 0) kinds)) .kind) (lookup (hasType t) (λ q. q .code) 0 kinds)
-      go true e = ap codeOfType (eqb-true t 16 e)
-      go false e = found kinds (
-        λ h. (omega arith, refl),
-        (
-          λ h. (omega arith, refl),
-          (
-            λ h. (omega arith, refl),
-            (
-              λ h. (omega arith, refl),
-              (
-                λ h. (omega arith, refl),
-                (
-                  λ h. absurd (false≢true h),
-                  (
-                    λ h. (omega arith, refl),
-                    (
-                      λ h. (omega arith, refl),
-                      (λ h. (omega arith, refl), (λ h. (omega arith, refl), (λ h. (omega arith, refl), (λ h. (omega arith, refl), (λ h. (omega arith, refl), (λ h. (omega arith, refl), tt)))))),
-                    ),
-                  ),
-                ),
-              ),
-            ),
-          ),
-        ),
-      )
-
--- As the code has it.
-pub kind-read : (t : ℕ) (r : Rule) (k : Kind) → r ≡ ruleOfType t → r .kind ≡ k → TypeOf k (codeOfType t)
-kind-read t r k e h = subst (λ (x : Kind). TypeOf x (codeOfType t)) (sym (ap (λ (x : Rule). x .kind) e) ∙ h) (type-of t)
-
 -- ---- codes are different
 
-every : (ℕ → Bool) → ℕ → Bool
+unfoldable pub every : (ℕ → Bool) → ℕ → Bool
 every f zero = true
 every f (suc k) = f k && every f k
 
-every-at : (f : ℕ → Bool) (k : ℕ) → every f k ≡ true → (n : ℕ) → n < k → f n ≡ true
+pub every-at : (f : ℕ → Bool) (k : ℕ) → every f k ≡ true → (n : ℕ) → n < k → f n ≡ true
 unfolding every
 every-at f zero h n l = absurd (omega arith)
 every-at f (suc k) h n l = go (f k) refl h (every-at f k)
@@ -100,11 +34,11 @@ every-at f (suc k) h n l = go (f k) refl h (every-at f k)
         pick false i = let d = eqb-false n k i in ih h n (omega arith)
     go false e h ih = absurd (false≢true h)
 
-same : Bool → Bool → Bool
+unfoldable pub same : Bool → Bool → Bool
 same true b = b
 same false b = not b
 
-same-eq : (a b : Bool) → same a b ≡ true → a ≡ b
+pub same-eq : (a b : Bool) → same a b ≡ true → a ≡ b
 unfolding same
 same-eq true b e = sym e
 same-eq false true e = absurd (false≢true e)

@@ -1,26 +1,24 @@
 -- An attribute of an advertisement with two masks: the cells it comes to. Assumes nothing.
-use mathlib.Core.Path.{_≡_, refl, sym, ap, ap₂, _∙_, subst}
-use mathlib.Core.Bool.{Bool, true, false, cond, _&&_, _||_, not, and-false, false≢true}
-use mathlib.Core.List.{List, [], _∷_, _++_}
-use Prim.Native.Nat.{ℕ, zero, suc, _+_, _≤_, _<_}
+use mathlib.Core.Path.{_≡_, refl, sym, ap, ap₂, _∙_}
+use mathlib.Core.Bool.{Bool, true, false, cond, _&&_, not}
+use mathlib.Core.List.{List, [], _∷_}
+use Prim.Native.Nat.{ℕ, _+_, _<_}
 use native.Mathlib.Omega.{arith}
 use borrow.Author.Tests.{eqb-true, eqb-false, eq-eqb, ne-eqb, leb-true}
-use lib.Dec.{eqb, leb}
+use lib.Dec.{eqb}
 use lib.ListN.{length, getD}
-use Rattle.linkstate.specs.Lists.{any, numbers}
-use Rattle.linkstate.specs.Kinds.{linkCodes, codeOfType}
-use Rattle.linkstate.specs.Attributes.{Attribute}
+use Rattle.linkstate.specs.Kinds.{linkCodes}
 use Rattle.masks.specs.Sets.{turnedPlace}
 use Rattle.kinds.specs.Rules.{gridCodes}
-use Rattle.grids.specs.Slots.{cell, IsSet}
+use Rattle.isis.specs.Types.{codeOfType}
 use Rattle.srlg_sources.proofs.Joins.{any-none}
-use Rattle.set_table.specs.Tables.{cellOf, first, Table, Value, Given, onlyAt, slotAt, inPair, reaches, toNamed, Slotted, Having, Within}
+use Rattle.set_table.specs.Tables.{cellOf, Table, Given, onlyAt, slotAt, reaches, toNamed, Having, Within}
+use Rattle.masks.specs.Applications.{inPair}
 use Rattle.set_table.proofs.Named.{reaches-own}
-use Rattle.isis_grids.specs.declared.Which.{Which}
-use Rattle.isis_grids.specs.declared.Which.the-variants.{Naming, General, RsvpTeAlone, WithoutL}
-use Rattle.isis_index.specs.Index.{cellIn, Source, legacy, live, Spot, general, old, bandwidth, maximum, alone, own, sourceOf, slotIn, cellAt, codeOf, owning, Valid, Ground, Adds, Kept, Right, told, heard, attributeAt, TookFor, Ready}
+use Rattle.isis_grids.specs.declared.Which.the-variants.{RsvpTeAlone, WithoutL}
+use Rattle.isis_index.specs.Index.{legacy, live, Spot, general, old, bandwidth, maximum, alone, own, sourceOf, slotIn, cellAt, codeOf, owning, Valid, Ground, Kept, told, heard, attributeAt, TookFor, Ready}
 use Rattle.isis_index.proofs.Codes.{grid-same, link-same, grid-link, link-grid, link-first}
-use Rattle.isis_index.proofs.Cells.{own-high, place-low, adds-by, given-nothing, kept-only, kept-none}
+use Rattle.isis_index.proofs.Cells.{own-high, place-low, adds-by, given-nothing, kept-only}
 
 -- Who hears such a list.
 module _ (standard user : ℕ) where
@@ -64,7 +62,8 @@ module _ (owns table : List (List ℕ)) (g : Ground owns table) (standard user :
   named-grid k h e (old j) v = none-in (eqb j k) _ c (low-unreached owns standard user w 1 (omega arith))
   named-grid k h e (bandwidth j) v = none-in (eqb j k) _ c (low-unreached owns standard user w 2 (omega arith))
   named-grid k h e maximum v =
-      none-in (eqb 3 k) _ c (low-unreached owns standard user w 2 (omega arith)) ∙ sym (ap (λ (b : Bool). cond b c 0) (ap₂ eqb (sym link-first) e ∙ link-grid 0 k (omega arith) h))
+      none-in (eqb 3 k) _ c (low-unreached owns standard user w 2 (omega arith))
+      ∙ sym (ap (λ (b : Bool). cond b c 0) (ap₂ eqb (sym link-first) e ∙ link-grid 0 k (omega arith) h))
   named-grid k h e (alone j) v =
       none-in (eqb (4 + j) k) _ c (low-unreached owns standard user w 2 (omega arith))
       ∙ sym (none-in (eqb standard 128 && eqb user 0) _ c (ap (eqb (getD linkCodes (1 + j) 0)) e ∙ link-grid (1 + j) k (omega arith) h))
@@ -97,10 +96,12 @@ module _ (owns : List (List ℕ)) (standard user code c : ℕ) where
 
 -- ---- who has a value, where the slots of applications stay
 
-pub having-kept : {owns table after have : List (List ℕ)} → Ground owns table → Kept table after → Having table owns have (owning owns) → Having after owns have (owning owns)
+pub having-kept : {owns table after have : List (List ℕ)} → Ground owns table → Kept table after → Having table owns have (owning owns)
+    → Having after owns have (owning owns)
 having-kept {owns} {table} {after} {have} g k h = record {
   ten = h .ten;
-  told = λ i p l m e. h .told i p l m e ∙ ap (λ (x : ℕ). not (eqb x 0)) (sym (k .above (slotAt owns p) i (leb-true 3 (slotAt owns p) e) (g .slotted .stand p m e .inside) l));
+  told = λ i p l m e. h .told i p l m e
+      ∙ ap (λ (x : ℕ). not (eqb x 0)) (sym (k .above (slotAt owns p) i (leb-true 3 (slotAt owns p) e) (g .slotted .stand p m e .inside) l));
 }
 
 pub ground-same : {owns table after : List (List ℕ)} → length after ≡ length table → Ground owns table → Ground owns after
@@ -118,7 +119,8 @@ module _ (run : List ℕ) (owns table have after : List (List ℕ)) (r : Ready r
   abbrev c : ℕ
   c = cellOf place n
 
-  pub for-only : (k : ℕ) → Table run after → Given table after (onlyAt 2 k c) → ((x : Spot) → Valid owns x → onlyAt 2 k c (slotIn owns x) (cellAt x) ≡ cond (heard standard user (sourceOf x) && eqb (codeOf x) code) c 0)
+  pub for-only : (k : ℕ) → Table run after → Given table after (onlyAt 2 k c)
+      → ((x : Spot) → Valid owns x → onlyAt 2 k c (slotIn owns x) (cellAt x) ≡ cond (heard standard user (sourceOf x) && eqb (codeOf x) code) c 0)
       → TookFor run owns table have after have (heard standard user) (attributeAt t place n v ∷ [])
   for-only k holds g e = record {
     holds = holds;
@@ -126,7 +128,8 @@ module _ (run : List ℕ) (owns table have after : List (List ℕ)) (r : Ready r
     adds = adds-by (heard standard user) (attributeAt t place n v) (r .ground) g e;
   }
 
-  pub for-named : Within standard user (owning owns) → (k : ℕ) → k < 10 → codeOfType t ≡ getD gridCodes k 0 → (had : List (List ℕ)) → Table run after → Given table after (toNamed owns standard user k c) → Having after owns had (owning owns)
+  pub for-named : Within standard user (owning owns) → (k : ℕ) → k < 10 → codeOfType t ≡ getD gridCodes k 0 → (had : List (List ℕ)) → Table run after
+      → Given table after (toNamed owns standard user k c) → Having after owns had (owning owns)
       → TookFor run owns table have after had (heard standard user) (attributeAt t place n v ∷ [])
   for-named w k l e had holds g h = record {
     holds = holds;

@@ -2,65 +2,104 @@
 use mathlib.Core.Path.{_≡_, refl, sym, ap, ap₂, _∙_, subst}
 use mathlib.Core.Bool.{Bool, true, false, cond}
 use mathlib.Core.List.{List, [], _∷_, _++_, append-assoc, append-nil}
-use Prim.Native.Nat.{ℕ, _+_, _≤_, _<_}
+use Prim.Native.Nat.{ℕ, _+_, _-_, _≤_, _<_}
 use native.Mathlib.Omega.{arith}
 use lib.Dec.{eqb}
 use lib.ListN.{length, getD}
 use Rattle.linkstate.specs.Lists.{each}
 use Rattle.linkstate.specs.Bytes.{bytesAt}
 use Rattle.linkstate.specs.Replies.{accepted, runA, fault}
-use Rattle.linkstate.specs.Elements.{Element, element, elements, faults}
-use Rattle.linkstate.specs.Kinds.{codeOfType, wrongInA}
+use Rattle.linkstate.specs.Elements.{elements, faults}
 use Rattle.linkstate.specs.Attributes.{Attribute, attribute}
 use Rattle.linkstate.proofs.WalkLaws.{left, each-end, not-accepted}
-use Rattle.octets.proofs.Laws.{length-bytesAt}
+use Rattle.octets.proofs.Laws.{length-bytesAt, getD-bytesAt}
+use Rattle.isis.specs.Types.{codeOfType, wrongInA}
 use Rattle.isis.specs.RunA.{checkAttribute, attributesOf}
-use Rattle.isis_grids.proofs.Walks.{left-all, elementAt, inside, passed, rest-ok, turn}
-use Rattle.set_table.specs.Tables.{Table, Having, Within}
-use Rattle.isis_index.specs.Index.{Source, Spot, sourceOf, Valid, Ground, Adds, Kept, Right, Listed, owning, told, attributeAt, Took, TookFor, Ready}
+use Rattle.isis_grids.proofs.Walks.{left-all, inside, passed, rest-ok, turn}
+use Rattle.set_table.specs.Tables.{Table}
+use Rattle.isis_index.specs.Index.{Source, sourceOf, Right, partOf, Listed, told, attributeAt, Took, TookFor, Ready}
 use Rattle.isis_index.proofs.Cells.{adds-then, adds-as, adds-none, kept-none, kept-then}
 use Rattle.isis_index.proofs.Heard.{ground-same}
 
--- The value bytes that an attribute of type t has in BGP-LS.
-module _ (run list : List ℕ) (base : ℕ) (l : Listed run list base) (at : ℕ) (here : at < length list) (ok : faults runA checkAttribute (left 1 base list at) ≡ accepted) where
-  abbrev size : ℕ
-  size = getD list (at + 1) 0
+-- An attribute that has passed its check.
+pub right-of : (at t : ℕ) (v : List ℕ) → checkAttribute at t v ≡ accepted → wrongInA t (length v) ≡ false
+unfolding checkAttribute
+right-of at t v h = go (wrongInA t (length v)) h
+  where
+    go : (b : Bool) → cond b (fault 4 runA at) accepted ≡ accepted → b ≡ false
+    go true e = absurd (not-accepted 4 runA at e)
+    go false e = refl
 
-  abbrev kind : ℕ
-  kind = getD list at 0
+-- ---- the attribute at a position of a list that stands in run A
 
-  abbrev rest : List Attribute
-  rest = each attributesOf (left 1 base list (at + 2 + size))
+module _ {a : List ℕ} {from end : ℕ} (l : Listed a from end) where
+  list-size : length (partOf a from end) ≡ end - from
+  unfolding bytesAt
+  list-size = let o = l .order in let i = l .inside in length-bytesAt a from (end - from) (omega arith)
 
-  right-length : wrongInA kind (length (bytesAt list (at + 2) size)) ≡ false
-  unfolding checkAttribute
-  right-length = go (wrongInA kind (length (bytesAt list (at + 2) size))) (passed checkAttribute base list at here ok)
-    where
-      go : (b : Bool) → cond b (fault 4 runA (base + at)) accepted ≡ accepted → b ≡ false
-      go true e = absurd (not-accepted 4 runA (base + at) e)
-      go false e = refl
+  byte-at : (i : ℕ) → i < end - from → getD (partOf a from end) i 0 ≡ getD a (from + i) 0
+  unfolding bytesAt
+  byte-at i h = getD-bytesAt a from (end - from) i h
 
-  pub list-right : size < 256 → Right run kind (base + at + 2) size
-  list-right b =
-      let i = inside checkAttribute base list at here ok in
-      let p = l .inside in
-      let s = l .small in
-      record {
-        within = omega arith;
-        low = omega arith;
-        short = omega arith;
-        right = ap (wrongInA kind) (sym (length-bytesAt list (at + 2) size i)) ∙ right-length;
-      }
+  module _ (at : ℕ) (low : from ≤ at) (here : at < end) (ok : faults runA checkAttribute (left 1 from (partOf a from end) (at - from)) ≡ accepted) where
+    abbrev list : List ℕ
+    list = partOf a from end
 
-  -- The attribute here.
-  abbrev pub valueHere : List ℕ
-  valueHere = cond (eqb kind 18) (0 ∷ bytesAt list (at + 2) size) (bytesAt list (at + 2) size)
+    abbrev i : ℕ
+    i = at - from
 
-  pub one-here : each attributesOf (left 1 base list at) ≡ attributeAt kind (base + at + 2) size valueHere ∷ rest
-  unfolding attributesOf attribute
-  one-here =
-      turn checkAttribute base list at here ok attributesOf
-      ∙ ap (λ (n : ℕ). record { code = codeOfType kind; at = base + at + 2; len = n; value = valueHere } ∷ rest) (length-bytesAt list (at + 2) size (inside checkAttribute base list at here ok))
+    abbrev kind : ℕ
+    kind = getD a at 0
+
+    abbrev size : ℕ
+    size = getD a (at + 1) 0
+
+    inner : i < length list
+    inner = omega (arith, list-size)
+
+    kind-is : getD list i 0 ≡ kind
+    kind-is = byte-at i (omega arith) ∙ ap (λ (k : ℕ). getD a k 0) (omega arith)
+
+    inside-list : i + 2 + getD list (i + 1) 0 ≤ length list
+    inside-list = inside checkAttribute from list i inner ok
+
+    size-is : getD list (i + 1) 0 ≡ size
+    size-is = byte-at (i + 1) (omega (arith, inside-list, list-size)) ∙ ap (λ (k : ℕ). getD a k 0) (omega arith)
+
+    pub list-inside : at + 2 + size ≤ end
+    list-inside = omega (arith, inside-list, size-is, list-size)
+
+    pub list-ok-next : faults runA checkAttribute (left 1 from list (at + 2 + size - from)) ≡ accepted
+    list-ok-next =
+        let e : i + 2 + getD list (i + 1) 0 ≡ at + 2 + size - from = omega (arith, size-is) in
+        ap (λ (k : ℕ). faults runA checkAttribute (left 1 from list k)) (sym e) ∙ rest-ok checkAttribute from list i inner ok
+
+    value-size : length (bytesAt list (i + 2) (getD list (i + 1) 0)) ≡ size
+    value-size = length-bytesAt list (i + 2) (getD list (i + 1) 0) inside-list ∙ size-is
+
+    right-length : wrongInA kind size ≡ false
+    right-length = ap₂ wrongInA (sym kind-is) (sym value-size) ∙ right-of (from + i) (getD list i 0) _ (passed checkAttribute from list i inner ok)
+
+    pub list-right : size < 256 → Right a kind (at + 2) size
+    list-right b = record {
+      within = omega (arith, list-inside, l .inside);
+      low = omega (arith, list-inside, l .inside, l .small);
+      short = omega arith;
+      right = right-length;
+    }
+
+    -- The attribute here, and those that follow.
+    abbrev pub valueHere : List ℕ
+    valueHere = cond (eqb (getD list i 0) 18) (0 ∷ bytesAt list (i + 2) (getD list (i + 1) 0)) (bytesAt list (i + 2) (getD list (i + 1) 0))
+
+    pub one-here : each attributesOf (left 1 from list i) ≡ attributeAt kind (at + 2) size valueHere ∷ each attributesOf (left 1 from list (at + 2 + size - from))
+    unfolding attributesOf attribute
+    one-here =
+        let e : i + 2 + getD list (i + 1) 0 ≡ at + 2 + size - from = omega (arith, size-is) in
+        let p : from + i + 2 ≡ at + 2 = omega arith in
+        turn checkAttribute from list i inner ok attributesOf
+        ∙ ap₂ (λ (n k : ℕ). record { code = codeOfType (getD list i 0); at = from + i + 2; len = n; value = valueHere } ∷ each attributesOf (left 1 from list k)) value-size e
+        ∙ ap₂ (λ (t q : ℕ). attributeAt t q size valueHere ∷ each attributesOf (left 1 from list (at + 2 + size - from))) kind-is p
 
 -- ---- what has been read of a list, and what is left
 
@@ -79,7 +118,8 @@ told-none h src = go (h src)
     go false = refl
 
 -- Attributes after attributes.
-pub took-then : {run : List ℕ} {table mid after : List (List ℕ)} {h : Source → Bool} {ts us : List Attribute} → Took run table mid h ts → Took run mid after h us → Took run table after h (ts ++ us)
+pub took-then : {run : List ℕ} {table mid after : List (List ℕ)} {h : Source → Bool} {ts us : List Attribute} → Took run table mid h ts
+    → Took run mid after h us → Took run table after h (ts ++ us)
 took-then {run} {table} {mid} {after} {h} {ts} {us} a b = record {
   holds = b .holds;
   kept = kept-then (a .kept) (b .kept);
@@ -103,49 +143,65 @@ for-empty run owns table have h r = record { holds = r .holds; having = r .havin
 -- ---- the two loops, over what has been taken
 
 -- P: what a loop has done with the attributes so far.
-pub record Reading (list : List ℕ) (base at : ℕ) (P : List Attribute → Type 0) : Type 0 where
-  pub bound : at ≤ length list
-  pub ok : faults runA checkAttribute (left 1 base list at) ≡ accepted
+pub record Reading (a : List ℕ) (from end at : ℕ) (P : List Attribute → Type 0) : Type 0 where
+  pub low : from ≤ at
+  pub high : at ≤ end
+  pub ok : faults runA checkAttribute (left 1 from (partOf a from end) (at - from)) ≡ accepted
   pub gone : List Attribute
-  pub parts : gone ++ each attributesOf (left 1 base list at) ≡ each attributesOf (elements 1 base list)
+  pub parts : gone ++ each attributesOf (left 1 from (partOf a from end) (at - from)) ≡ each attributesOf (elements 1 from (partOf a from end))
   pub done : P gone
 
-pub reading-begin : {run list : List ℕ} {base : ℕ} {P : List Attribute → Type 0} → Listed run list base → P [] → Reading list base 0 P
-reading-begin {run} {list} {base} l p = record {
-  bound = omega arith;
-  ok = ap (faults runA checkAttribute) (left-all base list) ∙ l .passed;
-  gone = [];
-  parts = ap (each attributesOf) (left-all base list);
-  done = p;
-}
+module _ {a : List ℕ} {from end : ℕ} (l : Listed a from end) where
+  all-left : left 1 from (partOf a from end) (from - from) ≡ elements 1 from (partOf a from end)
+  all-left = let z : from - from ≡ 0 = omega arith in ap (left 1 from (partOf a from end)) z ∙ left-all from (partOf a from end)
 
-pub reading-end : {list : List ℕ} {base at : ℕ} {P : List Attribute → Type 0} → Reading list base at P → length list ≤ at → P (each attributesOf (elements 1 base list))
-reading-end {list} {base} {at} {P} r h =
-    subst P (sym (append-nil (r .gone)) ∙ ap (λ (ts : List Attribute). r .gone ++ ts) (sym (each-end attributesOf 1 (omega arith) base list at h)) ∙ r .parts) (r .done)
+  pub reading-begin : {P : List Attribute → Type 0} → P [] → Reading a from end from P
+  reading-begin p = record {
+    low = omega arith;
+    high = l .order;
+    ok = ap (faults runA checkAttribute) all-left ∙ l .passed;
+    gone = [];
+    parts = ap (each attributesOf) all-left;
+    done = p;
+  }
 
-module _ {run list : List ℕ} {base at : ℕ} (l : Listed run list base) {P : List Attribute → Type 0} (r : Reading list base at P) (here : at < length list) where
-  pub reading-right : getD list (at + 1) 0 < 256 → Right run (getD list at 0) (base + at + 2) (getD list (at + 1) 0)
-  reading-right b = list-right run list base l at here (r .ok) b
+  pub reading-end : {at : ℕ} {P : List Attribute → Type 0} → Reading a from end at P → end ≤ at → P (each attributesOf (elements 1 from (partOf a from end)))
+  reading-end {at} {P} r h =
+      subst P
+      (sym (append-nil (r .gone)) ∙ ap (λ (ts : List Attribute). r .gone ++ ts) (sym (each-end attributesOf 1 (omega arith) from (partOf a from end) (at - from) (omega (arith, list-size l)))) ∙ r .parts)
+      (r .done)
 
-  pub reading-inside : at + 2 + getD list (at + 1) 0 ≤ length list
-  reading-inside = inside checkAttribute base list at here (r .ok)
+  module _ {at : ℕ} {P : List Attribute → Type 0} (r : Reading a from end at P) (here : at < end) where
+    pub reading-inside : at + 2 + getD a (at + 1) 0 ≤ end
+    reading-inside = list-inside l at (r .low) here (r .ok)
 
-  pub reading-next : {Q : List Attribute → Type 0} → ((v : List ℕ) → Q (r .gone ++ (attributeAt (getD list at 0) (base + at + 2) (getD list (at + 1) 0) v ∷ []))) → Reading list base (at + 2 + getD list (at + 1) 0) Q
-  reading-next {Q} q =
-      let v = valueHere run list base l at here (r .ok) in
-      let t = attributeAt (getD list at 0) (base + at + 2) (getD list (at + 1) 0) v in
-      record {
-        bound = reading-inside;
-        ok = rest-ok checkAttribute base list at here (r .ok);
-        gone = r .gone ++ (t ∷ []);
-        parts = append-assoc (r .gone) (t ∷ []) _ ∙ ap (λ (ts : List Attribute). r .gone ++ ts) (sym (one-here run list base l at here (r .ok))) ∙ r .parts;
-        done = q v;
-      }
+    pub reading-room : (at + 2 + getD a (at + 1) 0 ≤ length a) × (at + 2 + getD a (at + 1) 0 < 65536)
+    reading-room = (omega (arith, reading-inside, l .inside), omega (arith, reading-inside, l .inside, l .small))
+
+    pub reading-right : getD a (at + 1) 0 < 256 → Right a (getD a at 0) (at + 2) (getD a (at + 1) 0)
+    reading-right b = list-right l at (r .low) here (r .ok) b
+
+    pub reading-next : {Q : List Attribute → Type 0} → ((v : List ℕ) → Q (r .gone ++ (attributeAt (getD a at 0) (at + 2) (getD a (at + 1) 0) v ∷ [])))
+        → Reading a from end (at + 2 + getD a (at + 1) 0) Q
+    reading-next q =
+        let v = valueHere l at (r .low) here (r .ok) in
+        let t = attributeAt (getD a at 0) (at + 2) (getD a (at + 1) 0) v in
+        let o = r .low in
+        record {
+          low = omega arith;
+          high = reading-inside;
+          ok = list-ok-next l at (r .low) here (r .ok);
+          gone = r .gone ++ (t ∷ []);
+          parts = append-assoc (r .gone) (t ∷ []) _ ∙ ap (λ (ts : List Attribute). r .gone ++ ts) (sym (one-here l at (r .low) here (r .ok))) ∙ r .parts;
+          done = q v;
+        }
 
 -- ---- the turns, as the code has them
 
-pub general-ready : {run list : List ℕ} {table sets : List (List ℕ)} {h : Source → Bool} {base at : ℕ} → 3 ≤ length table → Reading list base at (Took run table sets h) → Table run sets × (3 ≤ length sets)
+pub general-ready : {run : List ℕ} {table sets : List (List ℕ)} {h : Source → Bool} {from end at : ℕ} → 3 ≤ length table
+    → Reading run from end at (Took run table sets h) → Table run sets × (3 ≤ length sets)
 general-ready m r = (r .done .holds, omega (arith, r .done .kept .same))
 
-pub named-ready : {run list : List ℕ} {owns table have sets had : List (List ℕ)} {h : Source → Bool} {base at : ℕ} → Ready run owns table have → Reading list base at (TookFor run owns table have sets had h) → Ready run owns sets had
+pub named-ready : {run : List ℕ} {owns table have sets had : List (List ℕ)} {h : Source → Bool} {from end at : ℕ} → Ready run owns table have
+    → Reading run from end at (TookFor run owns table have sets had h) → Ready run owns sets had
 named-ready y r = record { holds = r .done .holds; ground = ground-same (r .done .adds .same) (y .ground); having = r .done .having }

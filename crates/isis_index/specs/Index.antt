@@ -2,22 +2,29 @@
 use mathlib.Core.Path.{_≡_}
 use mathlib.Core.Bool.{Bool, true, false, cond, _&&_}
 use mathlib.Core.List.{List, [], _∷_}
-use Prim.Native.Nat.{ℕ, _+_, _≤_, _<_}
+use Prim.Native.Nat.{ℕ, _+_, _-_, _≤_, _<_}
 use lib.Dec.{eqb, leb}
-use lib.ListN.{length, getD}
+use lib.ListN.{length, take, drop, getD}
+use Rattle.linkstate.specs.Limits.{mostBytes}
+use Rattle.linkstate.specs.Lists.{any, each}
+use Rattle.linkstate.specs.Bytes.{bytesAt}
 use Rattle.linkstate.specs.Replies.{accepted, runA}
-use Rattle.linkstate.specs.Elements.{Element, elements, faults}
-use Rattle.linkstate.specs.Kinds.{linkCodes, wrongInA, codeOfType}
+use Rattle.linkstate.specs.Elements.{Element, element, elements, faults}
+use Rattle.linkstate.specs.Kinds.{linkCodes}
 use Rattle.linkstate.specs.Attributes.{Attribute}
+use Rattle.linkstate.specs.Sides.{Advertisement, names}
 use Rattle.masks.specs.Sets.{turnedPlace}
 use Rattle.kinds.specs.Rules.{gridCodes}
-use Rattle.grids.specs.Grids.{mostBytes}
 use Rattle.grids.specs.Slots.{cell}
-use Rattle.set_table.specs.Tables.{cellOf, first, Table, slotAt, inPair, Slotted, Having}
-use Rattle.isis.specs.RunA.{checkAttribute, attributesOf}
+use Rattle.set_table.specs.Tables.{cellOf, first, Table, slotAt, Slotted, Having, emptyRow}
+use Rattle.masks.specs.Applications.{inPair}
+use Rattle.isis.specs.Types.{wrongInA, codeOfType}
+use Rattle.isis.specs.RunA.{checkAttribute, checkA, attributesOf, aslaAdvertisements}
 use Rattle.isis_grids.specs.declared.Which.{Which}
 use Rattle.isis_grids.specs.declared.Which.the-variants.{Naming, General, RsvpTeAlone, WithoutL}
 use Rattle.isis_grids.specs.Selected.{selected}
+use Rattle.isis_index.specs.declared.Asla.{Asla}
+use Rattle.isis_index.specs.declared.Asla.the-variants.{Unread, ForAll, ForNamed}
 
 -- W5. The cell of a code's first value among attributes; 0 where it is absent.
 unfoldable pub cellIn : ℕ → List Attribute → ℕ
@@ -33,7 +40,8 @@ unfoldable pub takes : Source → Element → List Attribute
 takes legacy e = attributesOf e
 takes (live w) e = selected w e
 
--- The cells that are filled: of the general set and of legacy; of the link's bandwidths from legacy, from any advertisement without L, and from those for RSVP-TE alone;
+-- The cells that are filled: of the general set and of legacy; of the link's bandwidths from legacy, from any advertisement without L, and from those for
+-- RSVP-TE alone;
 -- and of an application's own set.
 pub data Spot : Type 0 where
   general : (k : ℕ) → Spot
@@ -95,7 +103,8 @@ pub record Ground (owns table : List (List ℕ)) : Type 0 where
 -- What a table has become where attributes came to its cells, by their source.
 pub record Adds (owns table after : List (List ℕ)) (new : Source → List Attribute) : Type 0 where
   pub same : length after ≡ length table
-  pub cells : (x : Spot) → Valid owns x → cell after (slotIn owns x) (cellAt x) ≡ first (cell table (slotIn owns x) (cellAt x)) (cellIn (codeOf x) (new (sourceOf x)))
+  pub cells : (x : Spot) → Valid owns x
+      → cell after (slotIn owns x) (cellAt x) ≡ first (cell table (slotIn owns x) (cellAt x)) (cellIn (codeOf x) (new (sourceOf x)))
 
 -- The slots of applications are as they were.
 pub record Kept (table after : List (List ℕ)) : Type 0 where
@@ -109,7 +118,8 @@ pub record Right (run : List ℕ) (t place n : ℕ) : Type 0 where
   pub short : n ≤ mostBytes
   pub right : wrongInA t n ≡ false
 
--- Who hears the list of an advertisement without L: that of a general one, and that of two masks as sent, which are not both empty. RSVP-TE alone is bit 7 of the standard mask.
+-- Who hears the list of an advertisement without L: that of a general one, and that of two masks as sent, which are not both empty. RSVP-TE alone is bit 7 of
+-- the standard mask.
 unfoldable pub heardByAll : Source → Bool
 heardByAll legacy = false
 heardByAll (live (Naming n)) = false
@@ -155,8 +165,58 @@ pub record Ready (run : List ℕ) (owns table have : List (List ℕ)) : Type 0 w
   pub ground : Ground owns table
   pub having : Having table owns have (owning owns)
 
--- A4. An attribute list that stands in run A and has passed its checks.
-pub record Listed (run list : List ℕ) (base : ℕ) : Type 0 where
-  pub inside : base + length list ≤ length run
-  pub small : length run < 65536
-  pub passed : faults runA checkAttribute (elements 1 base list) ≡ accepted
+-- The part of a run between two places.
+abbrev pub partOf : List ℕ → ℕ → ℕ → List ℕ
+partOf a from end = take (end - from) (drop from a)
+
+-- A4. An attribute list that stands in run A from one place to another, and has passed its checks.
+pub record Listed (a : List ℕ) (from end : ℕ) : Type 0 where
+  pub order : from ≤ end
+  pub inside : end ≤ length a
+  pub small : length a < 65536
+  pub passed : faults runA checkAttribute (elements 1 from (partOf a from end)) ≡ accepted
+
+-- W1. What the elements of run A give to a source.
+abbrev pub inRun : List ℕ → Source → List Attribute
+inRun a src = each (takes src) (elements 1 0 a)
+
+-- The element at a position of run A, by its length byte.
+abbrev pub hereIn : List ℕ → ℕ → Element
+hereIn a at = element at (getD a at 0) (bytesAt a (at + 2) (getD a (at + 1) 0))
+
+-- An element of run A that has passed its checks, from its position to its end.
+pub record Here (a : List ℕ) (at end : ℕ) : Type 0 where
+  pub ends : end ≡ at + 2 + getD a (at + 1) 0
+  pub inside : end ≤ length a
+  pub small : length a < 65536
+  pub passed : checkA at (getD a at 0) (bytesAt a (at + 2) (getD a (at + 1) 0)) ≡ accepted
+
+-- Whoever these advertisements name has a slot of its own.
+abbrev pub Owning : List (List ℕ) → List Advertisement → Type 0
+Owning owns ds = (n : ℕ) → n < 128 → any (names n) ds ≡ true → owning owns (turnedPlace n) ≡ true
+
+-- A2. The list of the ASLA at a position, from a place on, and who hears it.
+pub record Told (a : List ℕ) (at end from : ℕ) (h : Source → Bool) : Type 0 where
+  pub listed : Listed a from end
+  pub gives : (w : Which) → selected w (hereIn a at) ≡ told h (each attributesOf (elements 1 from (partOf a from end))) (live w)
+
+-- A3, A7, A8. What the header of an ASLA says: nobody hears its list, all hear it, or those of two masks as sent do, whom it names.
+abbrev pub ReadAs : List ℕ → ℕ → ℕ → Asla → Type 0
+ReadAs a at end Unread = (w : Which) → selected w (hereIn a at) ≡ []
+ReadAs a at end (ForAll from) = Told a at end from heardByAll
+ReadAs a at end (ForNamed from standard user) = Told a at end from (heard standard user) × ((n : ℕ) → inPair standard user (turnedPlace n) ≡ any (names n) (aslaAdvertisements (hereIn a at)))
+
+-- What a table has become where attributes came to its cells, by their source; and who has a value of a kind now.
+pub record Gains (run : List ℕ) (owns table after had : List (List ℕ)) (new : Source → List Attribute) : Type 0 where
+  pub holds : Table run after
+  pub having : Having after owns had (owning owns)
+  pub adds : Adds owns table after new
+
+-- All rows of a table are empty.
+abbrev pub Empty : List (List ℕ) → Type 0
+Empty table = (s : ℕ) → s < length table → getD table s [] ≡ emptyRow
+
+-- W5. The table when run A has been walked: each cell has the first value of its source's attributes.
+pub record Walked (a : List ℕ) (owns table : List (List ℕ)) : Type 0 where
+  pub holds : Table a table
+  pub cells : (x : Spot) → Valid owns x → cell table (slotIn owns x) (cellAt x) ≡ cellIn (codeOf x) (inRun a (sourceOf x))

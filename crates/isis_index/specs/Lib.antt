@@ -1,1 +1,4 @@
 pub mod Index
+pub mod Started
+pub mod Settled
+pub mod Indexed

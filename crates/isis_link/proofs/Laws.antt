@@ -10,7 +10,7 @@ use lib.Dec.{eqb}
 use lib.ListN.{length}
 use Rattle.linkstate.specs.Lists.{empty, member, numbers}
 use Rattle.linkstate.specs.Masks.{user, others, inNumber}
-use Rattle.linkstate.specs.Replies.{runA, Verdict, Asked, absent, unless, accepted, listed}
+use Rattle.linkstate.specs.Replies.{runA, Verdict, Asked, absent, unless, accepted, listed, place}
 use Rattle.linkstate.specs.Sides.{named}
 use Rattle.linkstate.specs.Attributes.{Attribute, srlgs}
 use Rattle.linkstate.specs.Questions.{Subject, setOf, given, beforeAnswer, unwritten, bytesOfFirst, srlgAnswer, answer, ask, listNamed}
@@ -20,17 +20,18 @@ use Rattle.isis.specs.Link.{linkVerdict, linkSource}
 use Rattle.masks.proofs.Laws.{is-number}
 use Rattle.rivals.proofs.KindLaws.{standard-other, user-other}
 use Rattle.masks.specs.Sets.{inSent}
-use Rattle.naming.specs.declared.Names.{Names}
-use Rattle.naming.specs.Names.{inBoth, Tells, Joins}
-use Rattle.naming.proofs.Laws.{side-named}
+use Rattle.rules.specs.declared.Names.{Names}
+use Rattle.rules.specs.Names.{Tells, Joins}
+use Rattle.masks.specs.Applications.{inBoth}
+use Rattle.rules.proofs.NameLaws.{side-named}
 use Rattle.answering.proofs.Entries.{ask-answered}
 use Rattle.rules.specs.Rules.{givenOn}
 use Rattle.isis_check.specs.declared.Sides.{Sides}
 use Rattle.isis_check.specs.declared.LinkChecked.{LinkChecked}
 use Rattle.isis_check.specs.declared.LinkChecked.the-variants.{Accepted}
 use Rattle.isis_check.specs.Sides.{NamedSides}
-use Rattle.isis_values.proofs.Checks.{b-passed, b-short, c-short}
-use Rattle.isis_values.proofs.Given.{given-in-b}
+use Rattle.isis_link.proofs.Checks.{b-passed, b-short, c-short}
+use Rattle.isis_link.proofs.Given.{given-in-b}
 use Rattle.isis_srlgs.specs.Runs.{Passed}
 use Rattle.isis_srlgs.proofs.Words.{no-srlgs}
 
@@ -43,11 +44,11 @@ unfolding linkSource
 of-link a b c v e = e
 
 -- Places lie in run A, and the bytes are its own.
-pub answered : (a b c : List ℕ) (whom : Subject) (k : ℕ) (list : List ℕ) (x : Asked) → beforeAnswer (linkSource a b c) whom k ≡ accepted → x ≡ answer runA k (given (linkSource a b c) whom k) list → x ≡ ask (linkSource a b c) whom k list
+pub answered : (a b c : List ℕ) (whom : Subject) (k : ℕ) (list : List ℕ) (x : Asked) → beforeAnswer (linkSource a b c) whom k ≡ accepted → x ≡ answer (place runA) k (given (linkSource a b c) whom k) list → x ≡ ask (linkSource a b c) whom k list
 unfolding linkSource
 answered a b c whom k list x e h = h ∙ of-run
   where
-    of-run : answer runA k (given (linkSource a b c) whom k) list ≡ ask (linkSource a b c) whom k list
+    of-run : answer (place runA) k (given (linkSource a b c) whom k) list ≡ ask (linkSource a b c) whom k list
     of-run = ask-answered (linkSource a b c) whom k list e
 
 pub source-bytes : (a b c v : List ℕ) (ts : List Attribute) → v ≡ bytesOfFirst a ts → v ≡ bytesOfFirst ((linkSource a b c) .bytes) ts

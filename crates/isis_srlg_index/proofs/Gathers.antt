@@ -20,9 +20,9 @@ use Rattle.linkstate.proofs.WalkLaws.{left}
 use Rattle.octets.proofs.Laws.{put-nil, put-then, front-is}
 use Rattle.masks.specs.Sets.{turnedPlace}
 use Rattle.masks.proofs.Steps.{zero-none}
-use Rattle.naming.specs.declared.Names.{Names}
-use Rattle.naming.specs.Names.{inBoth}
-use Rattle.naming.proofs.Laws.{side-flagged, in-none}
+use Rattle.rules.specs.declared.Names.{Names}
+use Rattle.masks.specs.Applications.{inBoth}
+use Rattle.rules.proofs.NameLaws.{side-flagged, in-none}
 use Rattle.srlg.proofs.Laws.{Order, less, more, same, order}
 use Rattle.srlg_ranks.specs.Ranks.{inWords}
 use Rattle.srlg_ranks.proofs.Bits.{or-none}
@@ -33,8 +33,8 @@ use Rattle.srlg_sources.specs.Sources.{Small, keyOf, inRows, numbersOf, sourceR
 use Rattle.srlg_sources.proofs.Joins.{any-same, any-none, any-some, any-out}
 use Rattle.srlg_sources.proofs.Marks.{length-keys}
 use Rattle.srlg_sources.proofs.Keying.{numbers-append, numbers-own, numbers-beyond, all-append, all-more, rows-more, own-rows}
-use Rattle.srlg_blocks.specs.Blocks.{namedBy, naming}
-use Rattle.srlg_blocks.proofs.Sizes.{low-bit}
+use Rattle.srlg_table.specs.Blocks.{namedBy, naming}
+use Rattle.srlg_table.proofs.Sizes.{low-bit}
 use Rattle.srlg_classes.specs.Sided.{carried, Carried}
 use Rattle.srlg_classes.proofs.Siding.{both-words}
 use Rattle.srlg_classes.proofs.Carrying.{sourced, values-small}

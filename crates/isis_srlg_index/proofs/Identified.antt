@@ -14,11 +14,10 @@ use Rattle.linkstate.proofs.ElementLaws.{Framed, done, short, step, framed, val
 use Rattle.linkstate.proofs.ListLaws.{and-l, and-r}
 use Rattle.linkstate.proofs.WalkLaws.{then-first, then-second, not-accepted}
 use Rattle.isis.specs.MaskHeader.{lFlag, headerLength, maskTooLong, lForNobody}
-use Rattle.isis.specs.RunB.{identifier, knownIdentifiers, checkIdentifier, isOfType, identifies, repeats, identifiers}
-use Rattle.isis.specs.RunB.{identifierBytes, ignored, liveSrlg, afterNeighbour, checkB}
-use Rattle.isis_check_b.specs.Identifiers.{onceAndPaired}
-use Rattle.isis_check_b.specs.Parts.{partsVerdict}
-use Rattle.isis_check_b.proofs.SrlgLaws.{behind, srlg-parts, tlv-srlg}
+use Rattle.isis.specs.RunB.{identifier, knownIdentifiers, checkIdentifier, isOfType, identifies, repeats, identifiers, identifierBytes, ignored, liveSrlg, afterNeighbour, checkB}
+use Rattle.isis_check.specs.Identifiers.{onceAndPaired}
+use Rattle.isis_check.specs.Parts.{partsVerdict}
+use Rattle.isis_check.proofs.SrlgLaws.{behind, srlg-parts, tlv-srlg}
 use Rattle.isis_tlvs_238.proofs.Tlvs.{whole, after-is}
 
 -- ---- the bytes of elements

@@ -25,8 +25,8 @@ use Rattle.srlg_sources.specs.Sources.{Small, keyOf, sourceRow}
 use Rattle.isis_check_a.specs.declared.Header.{Header}
 use Rattle.isis_check_a.specs.Headers.{headerOf}
 use Rattle.isis_check_a.proofs.Laws.{rest-is}
-use Rattle.naming.specs.Names.{inBoth}
-use Rattle.naming.proofs.Laws.{in-none}
+use Rattle.masks.specs.Applications.{inBoth}
+use Rattle.rules.proofs.NameLaws.{in-none}
 use Rattle.isis.specs.MaskHeader.{lFlag, sabmLength, udabmLength, headerLength, maskTooLong, advertisement}
 use Rattle.isis.specs.RunB.{afterNeighbour, identifierBytes, srlgValues, liveSrlg}
 use Rattle.isis_tlvs_238.specs.declared.Which.{Which}

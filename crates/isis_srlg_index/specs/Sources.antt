@@ -5,23 +5,24 @@ use lib.Dec.{eqb}
 use mathlib.Core.List.{List, [], map, _++_}
 use Prim.Native.Nat.{ℕ, _+_, _*_, _/_, _≤_, _<_}
 use lib.ListN.{length, getD, set, take, drop}
+use Rattle.linkstate.specs.Limits.{mostNumbers}
 use Rattle.linkstate.specs.Lists.{put, each, all, member}
 use Rattle.linkstate.specs.Bytes.{words}
 use Rattle.linkstate.specs.Elements.{Element, elements, faults}
 use Rattle.linkstate.proofs.WalkLaws.{left}
 use Rattle.masks.specs.Sets.{turnedPlace}
 use Rattle.srlg_ranks.specs.Ranks.{inWords}
-use Rattle.srlg_sources.specs.Classes.{mostNumbers}
 use Rattle.srlg_classes.specs.Sided.{carried, Carried, Sourced}
 use Rattle.linkstate.specs.Sides.{Side, names}
 use Rattle.isis.specs.MaskHeader.{sabmLength, udabmLength, headerLength, maskTooLong, advertisement}
 use Rattle.isis.specs.RunB.{identifierBytes, checkB, sideB}
 use Rattle.linkstate.specs.Replies.{accepted, runB}
-use Rattle.naming.specs.Names.{inBoth, Tells}
-use Rattle.naming.specs.declared.Names.{Names}
+use Rattle.rules.specs.Names.{Tells}
+use Rattle.masks.specs.Applications.{inBoth}
+use Rattle.rules.specs.declared.Names.{Names}
 use Rattle.srlg_sources.specs.declared.Keys.{Keys}
 use Rattle.srlg_sources.specs.Sources.{Small, keyOf, inRows, numbersOf, sourceRow}
-use Rattle.srlg_blocks.specs.Blocks.{namedBy}
+use Rattle.srlg_table.specs.Blocks.{namedBy}
 use Rattle.isis_check_a.specs.declared.Header.{Header}
 use Rattle.isis_check_a.specs.Headers.{headerOf}
 use Rattle.isis_tlvs_238.specs.declared.Which.the-variants.{Naming, General}

@@ -5,13 +5,13 @@ ghost use Prim.Native.Nat.{ℕ, _+_, _*_, _/_, _≤_, _<_};
 ghost use lib.ListN.{length, take};
 ghost use Rattle.linkstate.specs.Replies.{accepted, runB};
 ghost use Rattle.linkstate.specs.Elements.{element, elements, faults};
-ghost use Rattle.srlg_blocks.specs.Blocks.{namedBy};
+ghost use Rattle.srlg_table.specs.Blocks.{namedBy};
 ghost use Rattle.srlg_classes.specs.Sided.{Carried};
 ghost use Rattle.isis.specs.MaskHeader.{lFlag};
 ghost use Rattle.isis.specs.RunB.{checkB, liveSrlg, sideB};
 ghost use Rattle.isis_srlg_index.specs.Sources.{noTlv, Passed, Readable, Lives, Says, RoomAt, Adds, Gathered, Unused, WithLegacy, Room, Ready, Indexes};
 use isis_check_a::Header;
-use naming::Names;
+use rules::Names;
 use srlg_sources::Keys;
 
 // What a TLV of run B says of SRLGs: whether its numbers are general ones, or for whom they are, as its masks were sent, and where in its value they begin.
@@ -60,7 +60,7 @@ fn tells_link(v: &[u8], h: Header) -> bool
     let length_byte = isis_check_a::header_length(h);
     let list = length_byte + 1;
     let end = list + v[length_byte] as usize;
-    isis_check_b::identifies_link(&v[list..end])
+    isis_check::identifies_link(&v[list..end])
 }
 
 // A TLV of run B. With L no number of it is read.

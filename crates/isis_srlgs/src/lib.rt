@@ -8,15 +8,15 @@ ghost use Rattle.linkstate.specs.Bytes.{distinct};
 ghost use Rattle.linkstate.specs.Attributes.{srlgs};
 ghost use Rattle.linkstate.specs.Questions.{numberTooHigh};
 ghost use Rattle.replies.specs.Told.{subjectOf};
-ghost use Rattle.naming.specs.Names.{Tells};
+ghost use Rattle.rules.specs.Names.{Tells};
 ghost use Rattle.rules.specs.Rules.{takenBy, givenOn};
 ghost use Rattle.rules.specs.declared.Rule.the-variants.{NamingFirst};
 ghost use Rattle.isis.specs.RunB.{sideB};
 ghost use Rattle.isis_tlvs_238.specs.Selected.{srlgWords};
 ghost use Rattle.isis_srlgs.specs.Runs.{Passed, Fronts, OnSideB};
 use isis_tlvs_238::Which;
-use naming::Names;
 use replies::Subject;
+use rules::Names;
 use rules::Rule;
 
 // The numbers of the TLVs 238 that name RSVP-TE, and those of run C where these carry none, at the front of the list; how many there are.

@@ -22,7 +22,7 @@ use Rattle.isis.specs.MaskHeader.{lFlag, sabmLength, udabmLength, headerLength,
 use Rattle.isis.specs.RunB.{afterNeighbour, identifierBytes, srlgValues, srlgAttribute, ignored, identifiers, checkSrlg, checkB, liveSrlg, srlgAdvertisement, srlgAdvertisements}
 use Rattle.isis_check_a.specs.declared.Header.{Header}
 use Rattle.isis_check_a.specs.Headers.{headerOf}
-use Rattle.isis_check_b.proofs.SrlgLaws.{behind, tlv-srlg, srlg-short, srlg-no-list, srlg-past}
+use Rattle.isis_check.proofs.SrlgLaws.{behind, tlv-srlg, srlg-short, srlg-no-list, srlg-past}
 use Rattle.isis_check_a.proofs.Laws.{rest-is}
 use Rattle.isis_tlvs_238.specs.declared.Which.{Which}
 use Rattle.isis_tlvs_238.specs.declared.Which.the-variants.{Naming, General}

@@ -66,7 +66,7 @@ fn taken(v: &[u8], h: Header, which: Which) -> bool
     if !passes(which, standard_mask(v, h), user_mask(v, h)) {
         return false;
     }
-    isis_check_b::live_srlg(v)
+    isis_check::live_srlg(v)
 }
 
 // Where the SRLG values of a TLV 238 begin; past the end where they are not read, or the TLV is not selected.

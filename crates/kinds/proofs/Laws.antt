@@ -1,4 +1,4 @@
--- The table of kinds against the classifiers' ranges, and what a rule says of lengths and codes.
+-- The table of kinds against the classifier's range, and what a rule says of lengths and codes.
 use mathlib.Core.Path.{_≡_, refl, sym, ap, ap₂, _∙_, subst}
 use mathlib.Core.Bool.{Bool, true, false, cond, _&&_, _||_, not}
 use mathlib.Core.List.{List, [], _∷_}
@@ -8,16 +8,16 @@ use borrow.Author.Tests.{eqb-true, ne-eqb, eq-eqb, le-leb, lt-leb}
 use lib.Dec.{eqb, leb, lit<}
 use Rattle.linkstate.specs.Lists.{any, keep, lookup}
 use Rattle.linkstate.specs.Kinds as T
-use Rattle.linkstate.specs.Kinds.{kinds, hasType, hasCode, isApplications, codeOfType, wrongInA, wrongAtTop, wrongInside}
-use Rattle.kinds.specs.declared.Kind.the-variants.{Application, Asla, Unknown}
+use Rattle.linkstate.specs.Kinds.{kinds, hasCode, isApplications, wrongAtTop, wrongInside}
+use Rattle.kinds.specs.declared.Kind.the-variants.{Application, Srlg, Asla, Unknown}
 use Rattle.kinds.specs.declared.Size.the-variants.{Exactly, FoursFrom, FoursWithin, Any}
 use Rattle.kinds.specs.declared.Size.{Size}
 use Rattle.kinds.specs.declared.Rule.{Rule}
-use Rattle.kinds.specs.Rules.{rule, ruleWith, sizeOf, kindOf, ruleOfType, ruleOfCode, fitsIn, wrongInsideBy, isKnown, isLink, KindOfCode}
+use Rattle.kinds.specs.Rules.{gridCodes, rowIn, rule, ruleOf, sizeOf, kindOf, ruleOfCode, fitsIn, wrongInsideBy, isKnown, isLink, KindOfCode}
 use Rattle.kinds.proofs.Computing.{computing}
 
 -- a fact at seven numbers in a row holds in their range
-seven : (P : ℕ → Type 0) (k : ℕ) → P k → P (k + 1) → P (k + 2) → P (k + 3) → P (k + 4) → P (k + 5) → P (k + 6) → (b : ℕ) → k ≤ b → b < k + 7 → P b
+pub seven : (P : ℕ → Type 0) (k : ℕ) → P k → P (k + 1) → P (k + 2) → P (k + 3) → P (k + 4) → P (k + 5) → P (k + 6) → (b : ℕ) → k ≤ b → b < k + 7 → P b
 seven P k p0 p1 p2 p3 p4 p5 p6 b h g = let e : k + (b - k) ≡ b = omega arith in subst P e (go (b - k) (omega arith))
   where
     go : (d : ℕ) → d < 7 → P (k + d)
@@ -30,25 +30,12 @@ seven P k p0 p1 p2 p3 p4 p5 p6 b h g = let e : k + (b - k) ≡ b = omega arith i
     go (suc (suc (suc (suc (suc (suc zero)))))) l = p6
     go (suc (suc (suc (suc (suc (suc (suc d))))))) l = absurd (omega arith)
 
--- IS-IS types 33 to 39
-pub type-range : (b : ℕ) → 33 ≤ b → b < 40 → rule (Application (b - 31)) (Exactly (cond (eqb b 34) 8 4)) (b + 1081) ≡ ruleOfType b
-unfolding computing
-type-range = seven (λ b. rule (Application (b - 31)) (Exactly (cond (eqb b 34) 8 4)) (b + 1081) ≡ ruleOfType b) 33 refl refl refl refl refl refl refl
-
 -- BGP-LS codes 1114 to 1120
 pub code-range : (c : ℕ) → 1114 ≤ c → c < 1121 → rule (Application (c - 1112)) (Exactly (cond (eqb c 1115) 8 4)) c ≡ ruleOfCode c
 unfolding computing
 code-range = seven (λ c. rule (Application (c - 1112)) (Exactly (cond (eqb c 1115) 8 4)) c ≡ ruleOfCode c) 1114 refl refl refl refl refl refl refl
 
--- any other type and any other code is unknown
-pub type-unknown : (b : ℕ)
-    → (b ≡ 3 → ⊥) → (b ≡ 9 → ⊥) → (b ≡ 10 → ⊥) → (b ≡ 11 → ⊥) → (b ≡ 14 → ⊥) → (b ≡ 16 → ⊥) → (b ≡ 18 → ⊥) → ((k : ℕ) → 33 ≤ k → k < 40 → b ≡ k → ⊥)
-    → rule Unknown Any 0 ≡ ruleOfType b
-unfolding computing
-type-unknown b n3 n9 n10 n11 n14 n16 n18 out =
-    let away : (k : ℕ) → 33 ≤ k → k < 40 → eqb b k ≡ false = λ k h g. ne-eqb b k (out k h g) in
-    simp (ne-eqb b 3 n3, ne-eqb b 9 n9, ne-eqb b 10 n10, ne-eqb b 11 n11, ne-eqb b 14 n14, ne-eqb b 16 n16, ne-eqb b 18 n18, away 33 (omega arith) (omega arith), away 34 (omega arith) (omega arith), away 35 (omega arith) (omega arith), away 36 (omega arith) (omega arith), away 37 (omega arith) (omega arith), away 38 (omega arith) (omega arith), away 39 (omega arith) (omega arith))
-
+-- any other code is unknown
 pub code-unknown : (c : ℕ)
     → (c ≡ 1088 → ⊥) → (c ≡ 1089 → ⊥) → (c ≡ 1090 → ⊥) → (c ≡ 1091 → ⊥) → (c ≡ 1092 → ⊥) → (c ≡ 1096 → ⊥) → (c ≡ 1122 → ⊥) → (c ≡ 1173 → ⊥)
     → ((k : ℕ) → 1114 ≤ k → k < 1121 → c ≡ k → ⊥)
@@ -58,10 +45,7 @@ code-unknown c n88 n89 n90 n91 n92 n96 n122 n173 out =
     let away : (k : ℕ) → 1114 ≤ k → k < 1121 → eqb c k ≡ false = λ k h g. ne-eqb c k (out k h g) in
     simp (ne-eqb c 1088 n88, ne-eqb c 1089 n89, ne-eqb c 1090 n90, ne-eqb c 1091 n91, ne-eqb c 1092 n92, ne-eqb c 1096 n96, ne-eqb c 1122 n122, ne-eqb c 1173 n173, away 1114 (omega arith) (omega arith), away 1115 (omega arith) (omega arith), away 1116 (omega arith) (omega arith), away 1117 (omega arith) (omega arith), away 1118 (omega arith) (omega arith), away 1119 (omega arith) (omega arith), away 1120 (omega arith) (omega arith))
 
--- the ranges with the length that an inner test picked
-pub type-at : (b n : ℕ) → 33 ≤ b → b < 40 → n ≡ cond (eqb b 34) 8 4 → rule (Application (b - 31)) (Exactly n) (b + 1081) ≡ ruleOfType b
-type-at b n h g e = ap (λ (k : ℕ). rule (Application (b - 31)) (Exactly k) (b + 1081)) e ∙ type-range b h g
-
+-- the range with the length that an inner test picked
 pub code-at : (c n : ℕ) → 1114 ≤ c → c < 1121 → n ≡ cond (eqb c 1115) 8 4 → rule (Application (c - 1112)) (Exactly n) c ≡ ruleOfCode c
 code-at c n h g e = ap (λ (k : ℕ). rule (Application (c - 1112)) (Exactly k) c) e ∙ code-range c h g
 
@@ -100,7 +84,7 @@ module _ (s : Size) (n least : ℕ) where
 
 -- ---- rules and lengths: a table's row is found once, so a wrong length is one that does not fit the rule's size
 
-abbrev Once : {A : Type 0} → (A → Bool) → List A → Type 0
+abbrev pub Once : {A : Type 0} → (A → Bool) → List A → Type 0
 Once p [] = Unit {0}
 Once p (q ∷ qs) = (p q ≡ true → any p qs ≡ false) × Once p qs
 
@@ -132,13 +116,13 @@ lookup-map f p g h d (q ∷ qs) e = go (p q) (e q) (lookup-map f p g h d qs e)
     go true x y = x
     go false x y = y
 
--- No type and no code stands twice in the table: a computed test, where a row answers to its own key alone.
-module _ (p : ℕ → T.Kind → Bool) (key : T.Kind → ℕ) where
-  alone : List T.Kind → Bool
+-- No key stands twice in a table: a computed test, where a row answers to its own key alone.
+module _ {A : Type 0} (p : ℕ → A → Bool) (key : A → ℕ) where
+  unfoldable pub alone : List A → Bool
   alone [] = true
   alone (q ∷ qs) = not (any (p (key q)) qs) && alone qs
 
-  once : ((t : ℕ) (q : T.Kind) → p t q ≡ true → key q ≡ t) → (qs : List T.Kind) → alone qs ≡ true → (t : ℕ) → Once (p t) qs
+  pub once : ((t : ℕ) (q : A) → p t q ≡ true → key q ≡ t) → (qs : List A) → alone qs ≡ true → (t : ℕ) → Once (p t) qs
   unfolding alone
   once own [] h t = tt
   once own (q ∷ qs) h t = go (any (p (key q)) qs) refl (alone qs) refl h (λ e. once own qs e t)
@@ -148,38 +132,25 @@ module _ (p : ℕ → T.Kind → Bool) (key : T.Kind → ℕ) where
       go false e true f h r = (λ x. subst (λ (k : ℕ). any (p k) qs ≡ false) (own t q x) e, r f)
       go false e false f h r = absurd (let z : _≡_ {A = ℕ} 0 1 = cc in omega arith)
 
-carried : T.Carrier → ℕ
-carried (T.typeInA n) = n
-carried T.valuesInBC = 0
-
-carried-own : (t : ℕ) (w : T.Carrier) → T.carriedAs t w ≡ true → carried w ≡ t
-unfolding T.carriedAs carried
-carried-own t (T.typeInA n) h = sym (eqb-true t n h)
-carried-own t T.valuesInBC h = absurd (let z : _≡_ {A = ℕ} 0 1 = cc in omega arith)
-
-types-once : (t : ℕ) → Once (hasType t) kinds
-unfolding computing alone carried
-types-once = once hasType (λ q. carried (q .carrier)) (λ t q. carried-own t (q .carrier)) kinds refl
-
 codes-once : (c : ℕ) → Once (hasCode c) kinds
 unfolding computing alone
 codes-once = once hasCode (λ q. q .code) (λ c q h. sym (eqb-true c (q .code) h)) kinds refl
 
-size-fits : (s : T.Size) (n : ℕ) → fitsIn (sizeOf s) n ≡ T.fits s n
+pub size-fits : (s : T.Size) (n : ℕ) → fitsIn (sizeOf s) n ≡ T.fits s n
 unfolding fitsIn sizeOf
 size-fits (T.exactly k) n = refl
 size-fits (T.foursFrom l) n = refl
 size-fits (T.foursWithin l m) n = refl
 
 -- What a test f says of the rule that is found by p is what a test of the table's row says. ASLA's own rule stands apart: it has no row.
-module _ (p : ℕ → T.Kind → Bool) (size : T.Kind → T.Size) (asla t : ℕ) (f : Rule → Bool) (wrong : T.Kind → Bool) where
-  by-rule : Once (p t) kinds → ((q : T.Kind) → f (ruleWith size q) ≡ wrong q) → f (rule Unknown Any 0) ≡ false → f (rule Asla Any 1122) ≡ false → lookup (p asla) wrong false kinds ≡ false
-      → any (λ q. p t q && wrong q) kinds ≡ f (cond (eqb t asla) (rule Asla Any 1122) (lookup (p t) (ruleWith size) (rule Unknown Any 0) kinds))
-  by-rule o same unknown own h = any-lookup (p t) wrong kinds o ∙ go (eqb t asla) refl
+module _ {A : Type 0} (qs : List A) (p : ℕ → A → Bool) (own : A → Rule) (asla t : ℕ) (f : Rule → Bool) (wrong : A → Bool) where
+  pub by-rule : Once (p t) qs → ((q : A) → f (own q) ≡ wrong q) → f (rule Unknown Any 0) ≡ false → f (rule Asla Any 1122) ≡ false → lookup (p asla) wrong false qs ≡ false
+      → any (λ q. p t q && wrong q) qs ≡ f (cond (eqb t asla) (rule Asla Any 1122) (lookup (p t) own (rule Unknown Any 0) qs))
+  by-rule o same unknown apart h = any-lookup (p t) wrong qs o ∙ go (eqb t asla) refl
     where
-      go : (b : Bool) → eqb t asla ≡ b → lookup (p t) wrong false kinds ≡ f (cond b (rule Asla Any 1122) (lookup (p t) (ruleWith size) (rule Unknown Any 0) kinds))
-      go true e = subst (λ (x : ℕ). lookup (p x) wrong false kinds ≡ false) (sym (eqb-true t asla e)) h ∙ sym own
-      go false e = ap (λ (d : Bool). lookup (p t) wrong d kinds) (sym unknown) ∙ sym (lookup-map f (p t) (ruleWith size) wrong (rule Unknown Any 0) kinds same)
+      go : (b : Bool) → eqb t asla ≡ b → lookup (p t) wrong false qs ≡ f (cond b (rule Asla Any 1122) (lookup (p t) own (rule Unknown Any 0) qs))
+      go true e = subst (λ (x : ℕ). lookup (p x) wrong false qs ≡ false) (sym (eqb-true t asla e)) h ∙ sym apart
+      go false e = ap (λ (d : Bool). lookup (p t) wrong d qs) (sym unknown) ∙ sym (lookup-map f (p t) own wrong (rule Unknown Any 0) qs same)
 
 -- What p finds among those with g.
 pub any-kept : {A : Type 0} (p g : A → Bool) (qs : List A) → any (λ q. p q && g q) qs ≡ any p (keep g qs)
@@ -193,40 +164,11 @@ any-kept p g (q ∷ qs) = go (p q) (g q) refl (any-kept p g qs)
     go true false i e = e
     go false false i e = e
 
--- A wrong length is one that does not fit the rule's size: in run A, and at the top of a BGP-LS run.
-pub wrong-in-a : (t n : ℕ) → wrongInA t n ≡ not (fitsIn ((ruleOfType t) .size) n)
-unfolding computing
-wrong-in-a t n =
-    by-rule hasType (λ q. q .isisSize) 16 t (λ r. not (fitsIn (r .size) n)) (λ q. not (T.fits (q .isisSize) n)) (types-once t) (λ q. ap not (size-fits (q .isisSize) n)) refl refl refl
-
--- In run A four bytes are wrong for three types; three are right for a type, and eight for two.
-pub four-in-a : (t n : ℕ) → n ≡ 4 → (eqb t 11 || eqb t 18) || eqb t 34 ≡ wrongInA t n
-unfolding computing
-four-in-a t n e =
-    sym (ap (wrongInA t) e ∙ any-kept (hasType t) (λ q. not (T.fits (q .isisSize) 4)) kinds ∙ go (eqb t 11) (eqb t 18) (eqb t 34))
-  where
-    go : (x y z : Bool) → x || (y || (z || false)) ≡ (x || y) || z
-    go true y z = refl
-    go false true z = refl
-    go false false true = refl
-    go false false false = refl
-
-pub three-in-a : (t n : ℕ) → n ≡ 3 → t ≡ 18 → wrongInA t n ≡ false
-unfolding computing
-three-in-a t n e f = ap₂ wrongInA f e
-
-pub eight-in-a : (t n : ℕ) → n ≡ 8 → eqb t 14 || eqb t 34 ≡ true → wrongInA t n ≡ false
-unfolding computing
-eight-in-a t n e f = go (eqb t 14) refl f
-  where
-    go : (b : Bool) → eqb t 14 ≡ b → b || eqb t 34 ≡ true → wrongInA t n ≡ false
-    go true g h = ap₂ wrongInA (eqb-true t 14 g) e
-    go false g h = ap₂ wrongInA (eqb-true t 34 h) e
-
+-- A wrong length is one that does not fit the rule's size.
 pub wrong-at-top : (c n : ℕ) → wrongAtTop c n ≡ not (fitsIn ((ruleOfCode c) .size) n)
 unfolding computing
 wrong-at-top c n =
-    by-rule hasCode (λ q. q .bgplsSize) 1122 c (λ r. not (fitsIn (r .size) n)) (λ q. not (T.fits (q .bgplsSize) n)) (codes-once c) (λ q. ap not (size-fits (q .bgplsSize) n)) refl refl refl
+    by-rule kinds hasCode ruleOf 1122 c (λ r. not (fitsIn (r .size) n)) (λ q. not (T.fits (q .bgplsSize) n)) (codes-once c) (λ q. ap not (size-fits (q .bgplsSize) n)) refl refl refl
 
 -- Inside a 1122 the link's kinds are unknown.
 any-keep : {A : Type 0} (a p g : A → Bool) (qs : List A) → any (λ q. p q && g q) (keep a qs) ≡ any (λ q. p q && (a q && g q)) qs
@@ -240,18 +182,21 @@ any-keep {A = A} a p g (q ∷ qs) = go (a q) (p q) (g q) refl refl (any-keep a p
     go false true z i j e = e
     go false false z i j e = e
 
-owner-wrong : (o : T.Owner) (w : T.Carrier) (c : ℕ) (s : T.Size) (n : ℕ) → wrongInsideBy (kindOf o w c) (sizeOf s) n ≡ T.forApplications o && not (T.fits s n)
+owner-wrong : (o : T.Owner) (c : ℕ) (s : T.Size) (n : ℕ) → wrongInsideBy (kindOf o c) (sizeOf s) n ≡ T.forApplications o && not (T.fits s n)
 unfolding wrongInsideBy kindOf T.forApplications
-owner-wrong T.link w c s n = refl
-owner-wrong T.applications (T.typeInA t) c s n = ap not (size-fits s n)
-owner-wrong T.applications T.valuesInBC c s n = ap not (size-fits s n)
+owner-wrong T.link c s n = refl
+owner-wrong T.applications c s n = go (eqb c 1096)
+  where
+    go : (b : Bool) → wrongInsideBy (cond b Srlg (Application (rowIn gridCodes c))) (sizeOf s) n ≡ not (T.fits s n)
+    go true = ap not (size-fits s n)
+    go false = ap not (size-fits s n)
 
 pub wrong-inside : (c n : ℕ) → wrongInside c n ≡ wrongInsideBy ((ruleOfCode c) .kind) ((ruleOfCode c) .size) n
 unfolding computing
 wrong-inside c n =
     any-keep isApplications (hasCode c) (λ q. not (T.fits (q .bgplsSize) n)) kinds
-    ∙ by-rule hasCode (λ q. q .bgplsSize) 1122 c (λ r. wrongInsideBy (r .kind) (r .size) n) (λ q. isApplications q && not (T.fits (q .bgplsSize) n)) (codes-once c)
-    (λ q. owner-wrong (q .owner) (q .carrier) (q .code) (q .bgplsSize) n) refl refl refl
+    ∙ by-rule kinds hasCode ruleOf 1122 c (λ r. wrongInsideBy (r .kind) (r .size) n) (λ q. isApplications q && not (T.fits (q .bgplsSize) n)) (codes-once c)
+    (λ q. owner-wrong (q .owner) (q .code) (q .bgplsSize) n) refl refl refl
 
 -- ---- codes by their rule
 
@@ -264,33 +209,39 @@ any-true p (q ∷ qs) = ap₂ (λ (b : Bool) (c : Bool). b || c) (and-true (p q)
     and-true true = refl
     and-true false = refl
 
-owner-known : (o : T.Owner) (w : T.Carrier) (c : ℕ) → isKnown (kindOf o w c) ≡ true
+owner-known : (o : T.Owner) (c : ℕ) → isKnown (kindOf o c) ≡ true
 unfolding isKnown kindOf
-owner-known T.link w c = refl
-owner-known T.applications (T.typeInA t) c = refl
-owner-known T.applications T.valuesInBC c = refl
+owner-known T.link c = refl
+owner-known T.applications c = go (eqb c 1096)
+  where
+    go : (b : Bool) → isKnown (cond b Srlg (Application (rowIn gridCodes c))) ≡ true
+    go true = refl
+    go false = refl
 
-owner-link : (o : T.Owner) (w : T.Carrier) (c : ℕ) → isLink (kindOf o w c) ≡ not (T.forApplications o)
+owner-link : (o : T.Owner) (c : ℕ) → isLink (kindOf o c) ≡ not (T.forApplications o)
 unfolding isLink kindOf T.forApplications
-owner-link T.link w c = refl
-owner-link T.applications (T.typeInA t) c = refl
-owner-link T.applications T.valuesInBC c = refl
+owner-link T.link c = refl
+owner-link T.applications c = go (eqb c 1096)
+  where
+    go : (b : Bool) → isLink (cond b Srlg (Application (rowIn gridCodes c))) ≡ false
+    go true = refl
+    go false = refl
 
 pub code-known : (c : ℕ) → T.isCode c ≡ isKnown ((ruleOfCode c) .kind)
 unfolding computing
 code-known c =
     any-true (hasCode c) kinds
-    ∙ by-rule hasCode (λ q. q .bgplsSize) 1122 c (λ r. isKnown (r .kind)) (λ q. true) (codes-once c) (λ q. owner-known (q .owner) (q .carrier) (q .code)) refl refl refl
+    ∙ by-rule kinds hasCode ruleOf 1122 c (λ r. isKnown (r .kind)) (λ q. true) (codes-once c) (λ q. owner-known (q .owner) (q .code)) refl refl refl
 
 pub code-link : (c : ℕ) → T.isLinkCode c ≡ isLink ((ruleOfCode c) .kind)
 unfolding computing
 code-link c =
-    by-rule hasCode (λ q. q .bgplsSize) 1122 c (λ r. isLink (r .kind)) (λ q. not (isApplications q)) (codes-once c) (λ q. owner-link (q .owner) (q .carrier) (q .code)) refl refl refl
+    by-rule kinds hasCode ruleOf 1122 c (λ r. isLink (r .kind)) (λ q. not (isApplications q)) (codes-once c) (λ q. owner-link (q .owner) (q .code)) refl refl refl
 
 -- every row of the table stands in its place
 Placed : List T.Kind → Type 0
 Placed [] = Unit {0}
-Placed (q ∷ qs) = KindOfCode (kindOf (q .owner) (q .carrier) (q .code)) (q .code) × Placed qs
+Placed (q ∷ qs) = KindOfCode (kindOf (q .owner) (q .code)) (q .code) × Placed qs
 
 placed : Placed kinds
 unfolding computing Placed
@@ -300,15 +251,15 @@ placed =
 -- the row that is found, or none
 module _ (c : ℕ) where
   found : List T.Kind → Rule
-  found qs = lookup (hasCode c) (ruleWith (λ q. q .bgplsSize)) (rule Unknown Any 0) qs
+  found qs = lookup (hasCode c) ruleOf (rule Unknown Any 0) qs
 
   found-right : (qs : List T.Kind) → Placed qs → KindOfCode ((found qs) .kind) c
-  unfolding found Placed lookup ruleWith hasCode
+  unfolding found Placed lookup ruleOf hasCode
   found-right [] h = tt
   found-right (q ∷ qs) h = go (eqb c (q .code)) refl (found-right qs (h .1))
     where
-      go : (b : Bool) → eqb c (q .code) ≡ b → KindOfCode ((found qs) .kind) c → KindOfCode ((cond b (ruleWith (λ q. q .bgplsSize) q) (found qs)) .kind) c
-      go true e r = subst (λ (x : ℕ). KindOfCode (kindOf (q .owner) (q .carrier) (q .code)) x) (sym (eqb-true c (q .code) e)) (h .0)
+      go : (b : Bool) → eqb c (q .code) ≡ b → KindOfCode ((found qs) .kind) c → KindOfCode ((cond b (ruleOf q) (found qs)) .kind) c
+      go true e r = subst (λ (x : ℕ). KindOfCode (kindOf (q .owner) (q .code)) x) (sym (eqb-true c (q .code) e)) (h .0)
       go false e r = r
 
   pub kind-of-code : KindOfCode ((ruleOfCode c) .kind) c

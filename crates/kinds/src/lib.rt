@@ -1,9 +1,9 @@
-// What a type says of an element: its kind, the lengths that its value may have, and its BGP-LS code.
+// What a type or a code says of an element: its kind, the lengths that its value may have, and its BGP-LS code.
 ghost use mathlib.Core.Path.{_≡_};
 ghost use Rattle.linkstate.specs.Kinds.{formOf};
-ghost use Rattle.kinds.specs.Rules.{ruleOfType, ruleOfCode, fitsIn, toldForm};
+ghost use Rattle.kinds.specs.Rules.{ruleOfCode, fitsIn, toldForm};
 
-// A kind by its row: one of the link's three bandwidths, or one of the ten kinds of an application that run A can carry, both ascending by code.
+// A kind by its row: one of the link's three bandwidths, or one of the ten kinds of an application other than SRLG, both ascending by code.
 pub enum Kind {
     Link(usize),
     Application(usize),
@@ -33,59 +33,6 @@ pub struct Rule {
     pub kind: Kind,
     pub size: Size,
     pub code: u16,
-}
-
-// The rule of an IS-IS type byte.
-pub fn classify_type(b: u8) -> Rule
-    ensures { λ r. ⌜ r ≡ ruleOfType b ⌝ }
-{
-    match b {
-        3 => Rule {
-            kind: Kind::Application(0),
-            size: Size::Exactly(4),
-            code: 1088,
-        },
-        9 => Rule {
-            kind: Kind::Link(0),
-            size: Size::Exactly(4),
-            code: 1089,
-        },
-        10 => Rule {
-            kind: Kind::Link(1),
-            size: Size::Exactly(4),
-            code: 1090,
-        },
-        11 => Rule {
-            kind: Kind::Link(2),
-            size: Size::Exactly(32),
-            code: 1091,
-        },
-        14 => Rule {
-            kind: Kind::Application(9),
-            size: Size::FoursWithin(4, 252),
-            code: 1173,
-        },
-        16 => Rule {
-            kind: Kind::Asla,
-            size: Size::Any,
-            code: 1122,
-        },
-        18 => Rule {
-            kind: Kind::Application(1),
-            size: Size::Exactly(3),
-            code: 1092,
-        },
-        33..=39 => Rule {
-            kind: Kind::Application((b - 31) as usize),
-            size: Size::Exactly(if b == 34 { 8 } else { 4 }),
-            code: (b as u16) + 1081,
-        },
-        _ => Rule {
-            kind: Kind::Unknown,
-            size: Size::Any,
-            code: 0,
-        },
-    }
 }
 
 // The rule of a BGP-LS code.

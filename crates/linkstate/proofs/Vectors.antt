@@ -10,7 +10,7 @@ use Rattle.linkstate.specs.Lists.{numbers, keep, each}
 use Rattle.linkstate.specs.Bytes.{number, two, four, words, distinct}
 use Rattle.linkstate.specs.Replies.{Verdict, accepted, refused, fault, faultOfCall, runA, runBgpLs, place, refusalAt, whole, pair, bandwidth, part, count, absent, found, askRefused, Reply, listed}
 use Rattle.linkstate.specs.Elements.{element, cut, elements}
-use Rattle.linkstate.specs.Kinds.{codes, linkCodes, applicationCodes, codeOfType, wrongInA, wrongAtTop, wrongInside}
+use Rattle.linkstate.specs.Kinds.{codes, linkCodes, applicationCodes, wrongAtTop, wrongInside}
 use Rattle.linkstate.specs.Masks.{bit, inMasks, user, others, asNumber, Last, none, last, lastBelow, maskSize, mask}
 use Rattle.linkstate.specs.Attributes.{Attribute, valueOf}
 use Rattle.linkstate.specs.Sides.{Advertisement, Side, general, names, applicationSet, rsvpTeKind, bandwidthKind, generalSet}
@@ -52,23 +52,15 @@ past-the-end = refl
 
 -- ---- kinds
 
-codes-by-type :
-    map codeOfType (3 ∷ 9 ∷ 10 ∷ 11 ∷ 14 ∷ 18 ∷ 33 ∷ 34 ∷ 35 ∷ 36 ∷ 37 ∷ 38 ∷ 39 ∷ 0 ∷ 16 ∷ 32 ∷ 40 ∷ [])
-    ≡ 1088 ∷ 1089 ∷ 1090 ∷ 1091 ∷ 1173 ∷ 1092 ∷ 1114 ∷ 1115 ∷ 1116 ∷ 1117 ∷ 1118 ∷ 1119 ∷ 1120 ∷ 0 ∷ 0 ∷ 0 ∷ 0 ∷ []
-unfolding computing
-codes-by-type = refl
-
 three-and-eleven : (linkCodes ≡ 1089 ∷ 1090 ∷ 1091 ∷ []) × (length applicationCodes ≡ 11) × (length codes ≡ 14)
 unfolding computing
 three-and-eleven = (refl, refl, refl)
 
--- Metric of 3 bytes in run A and of 4 in BGP-LS; extended group from 4 on, to 252 in run A; SRLG of none at all in BGP-LS.
-right-lengths :
-    (map (wrongInA 18) (3 ∷ 4 ∷ []) ≡ false ∷ true ∷ []) × (map (wrongAtTop 1092) (3 ∷ 4 ∷ []) ≡ true ∷ false ∷ [])
-    × (map (wrongInA 14) (0 ∷ 4 ∷ 6 ∷ 252 ∷ 256 ∷ []) ≡ true ∷ false ∷ true ∷ false ∷ true ∷ []) × (map (wrongAtTop 1173) (0 ∷ 4 ∷ 256 ∷ []) ≡ true ∷ false ∷ false ∷ [])
-    × (map (wrongInside 1096) (0 ∷ 4 ∷ 5 ∷ []) ≡ false ∷ false ∷ true ∷ []) × (map (wrongInA 34) (4 ∷ 8 ∷ []) ≡ true ∷ false ∷ []) × (map (wrongInA 11) (4 ∷ 32 ∷ []) ≡ true ∷ false ∷ [])
+-- Metric of 4 bytes; extended group from 4 on; SRLG of none at all.
+right-lengths : (map (wrongAtTop 1092) (3 ∷ 4 ∷ []) ≡ true ∷ false ∷ []) × (map (wrongAtTop 1173) (0 ∷ 4 ∷ 256 ∷ []) ≡ true ∷ false ∷ false ∷ [])
+    × (map (wrongInside 1096) (0 ∷ 4 ∷ 5 ∷ []) ≡ false ∷ false ∷ true ∷ [])
 unfolding computing
-right-lengths = (refl, refl, refl, refl, refl, refl, refl)
+right-lengths = (refl, refl, refl)
 
 -- The link's own kinds and 1122 are unknown inside a 1122.
 unknown-inside : map (λ k. wrongInside k 1) (1089 ∷ 1090 ∷ 1091 ∷ 1122 ∷ 1088 ∷ []) ≡ false ∷ false ∷ false ∷ false ∷ true ∷ []

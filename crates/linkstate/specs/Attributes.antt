@@ -9,7 +9,7 @@ use Rattle.linkstate.specs.Lists.{keep, each, empty}
 use Rattle.linkstate.specs.Bytes.{number, words, distinct, bytesOfWords}
 use Rattle.linkstate.specs.Elements.{Element, element, cut}
 use Rattle.linkstate.specs.Kinds.{Form, wholeNumber, twoNumbers, float, placeAndLength, srlgCount, formOf}
-use Rattle.linkstate.specs.Replies.{Run, place, Reading, whole, pair, bandwidth, part, count}
+use Rattle.linkstate.specs.Replies.{Place, Reading, whole, pair, bandwidth, part, count}
 
 -- A link attribute: its kind's BGP-LS code, where its value stands in its run (the first byte's offset, the length), and its BGP-LS value bytes.
 pub record Attribute : Type 0 where
@@ -38,13 +38,13 @@ firstValue (t ∷ ts) = t .value
 unfoldable pub valueOf : ℕ → List Attribute → List ℕ
 valueOf k ts = cond (eqb k 1096) (bytesOfWords (srlgs ts)) (firstValue (ofKind k ts))
 
--- K4. The reading of a value, by its kind's form. `ofBits` makes one NaN of every pattern of a NaN.
-unfoldable pub readingAs : Form → Run → Attribute → Reading
-readingAs wholeNumber run t = whole (number (t .value))
-readingAs twoNumbers run t = pair (number (take 4 (t .value))) (number (drop 4 (t .value)))
-readingAs float run t = bandwidth (ofBits binary32 (number (t .value)))
-readingAs placeAndLength run t = part (place run (t .at)) (t .len)
-readingAs srlgCount run t = count (length (distinct (words (t .value))))
+-- K4. The reading of a value, by its kind's form; `spot` tells the place of an offset. `ofBits` makes one NaN of every pattern of a NaN.
+unfoldable pub readingAs : Form → (ℕ → Place) → Attribute → Reading
+readingAs wholeNumber spot t = whole (number (t .value))
+readingAs twoNumbers spot t = pair (number (take 4 (t .value))) (number (drop 4 (t .value)))
+readingAs float spot t = bandwidth (ofBits binary32 (number (t .value)))
+readingAs placeAndLength spot t = part (spot (t .at)) (t .len)
+readingAs srlgCount spot t = count (length (distinct (words (t .value))))
 
-unfoldable pub reading : Run → Attribute → Reading
-reading run t = readingAs (formOf (t .code)) run t
+unfoldable pub reading : (ℕ → Place) → Attribute → Reading
+reading spot t = readingAs (formOf (t .code)) spot t

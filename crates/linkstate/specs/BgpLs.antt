@@ -5,9 +5,10 @@ use Prim.Native.Nat.{ℕ, _+_}
 use lib.Dec.{eqb, ltb}
 use lib.ListN.{length, take, drop, getD}
 use Rattle.linkstate.specs.Lists.{each, member}
+use Rattle.linkstate.specs.Limits.{mostInBgpLs}
 use Rattle.linkstate.specs.Kinds.{wrongAtTop, wrongInside}
 use Rattle.linkstate.specs.Masks.{others}
-use Rattle.linkstate.specs.Replies.{Verdict, accepted, fault, refusedIf, _then_, runBgpLs}
+use Rattle.linkstate.specs.Replies.{place, Verdict, accepted, fault, refusedIf, _then_, runBgpLs}
 use Rattle.linkstate.specs.Elements.{Element, element, cut, elements, faults}
 use Rattle.linkstate.specs.Attributes.{Attribute, attribute}
 use Rattle.linkstate.specs.Sides.{Advertisement, Side, named, generalSet, applicationSet}
@@ -50,7 +51,7 @@ checkTop at t v = cond (eqb t 1122) (checkAsla at v) (cond (wrongAtTop t (length
 
 -- R1, R9. The checks of a run: its size, then its elements from the start.
 unfoldable pub runVerdict : List ℕ → Verdict
-runVerdict r = refusedIf (ltb 524288 (length r)) 1 then faults runBgpLs checkTop (elements 2 0 r)
+runVerdict r = refusedIf (ltb mostInBgpLs (length r)) 1 then faults runBgpLs checkTop (elements 2 0 r)
 
 -- L9, L10. An element, at the top level or inside a 1122, as an attribute: its code is its type, known or not.
 unfoldable pub attributesOf : Element → List Attribute
@@ -86,7 +87,7 @@ runSide r = record { legacy = topLevel r; live = aslas r }
 unfoldable pub runSource : List ℕ → Source
 runSource r =
     record {
-      run = runBgpLs;
+      spot = place runBgpLs;
       bytes = r;
       verdict = runVerdict r;
       bandwidth = λ k. topLevel r;

@@ -1,4 +1,5 @@
--- Document 01, "The fourteen kinds" (rules K1 to K4; K5 and K6 stand in Questions): one table, and what it says of an IS-IS type and of a BGP-LS code.
+-- Document 01, "The fourteen kinds" (rules K1, K2, K4; K5 and K6 stand in Questions): one table, and what it says of a BGP-LS code.
+-- By which types and in which lengths a protocol carries a kind is told by a table of that protocol.
 use mathlib.Core.Bool.{Bool, true, false, cond, _&&_, not}
 use mathlib.Core.List.{List, [], _∷_, map}
 use Prim.Native.Nat.{ℕ, _%_}
@@ -16,11 +17,6 @@ fits (exactly k) n = eqb n k
 fits (foursFrom least) n = eqb (n % 4) 0 && leb least n
 fits (foursWithin least most) n = eqb (n % 4) 0 && leb least n && leb n most
 
--- K1. Where an IS-IS link carries the kind: in elements of a type in run A, or as the SRLG values of runs B and C.
-pub data Carrier : Type 0 where
-  typeInA : ℕ → Carrier
-  valuesInBC : Carrier
-
 -- K2. Whose the kind is: the link's (three of them), or the applications' (eleven).
 pub data Owner : Type 0 where
   link : Owner
@@ -36,33 +32,30 @@ pub data Form : Type 0 where
 
 pub record Kind : Type 0 where
   pub code : ℕ
-  pub carrier : Carrier
-  pub isisSize : Size
   pub bgplsSize : Size
   pub owner : Owner
   pub form : Form
 
-unfoldable pub kind : ℕ → Carrier → Size → Size → Owner → Form → Kind
-kind c t i b o f = record { code = c; carrier = t; isisSize = i; bgplsSize = b; owner = o; form = f }
+unfoldable pub kind : ℕ → Size → Owner → Form → Kind
+kind c n o f = record { code = c; bgplsSize = n; owner = o; form = f }
 
--- K1, K2, K4. The table, ascending by code (RFC 8919 section 3; RFC 9294 section 3; RFC 8571 section 2 for 1114 to 1120).
--- No type carries 1096, so no check asks for its IS-IS size, any number of values: run C and the rest of a 238 are measured by rules R2 and B3.
+-- K1, K2, K4. The table, ascending by code (RFC 9294 section 3; RFC 8571 section 2 for 1114 to 1120).
 unfoldable pub kinds : List Kind
 kinds =
-    kind 1088 (typeInA 3) (exactly 4) (exactly 4) applications wholeNumber
-    ∷ kind 1089 (typeInA 9) (exactly 4) (exactly 4) link float
-    ∷ kind 1090 (typeInA 10) (exactly 4) (exactly 4) link float
-    ∷ kind 1091 (typeInA 11) (exactly 32) (exactly 32) link placeAndLength
-    ∷ kind 1092 (typeInA 18) (exactly 3) (exactly 4) applications wholeNumber
-    ∷ kind 1096 valuesInBC (foursFrom 0) (foursFrom 0) applications srlgCount
-    ∷ kind 1114 (typeInA 33) (exactly 4) (exactly 4) applications wholeNumber
-    ∷ kind 1115 (typeInA 34) (exactly 8) (exactly 8) applications twoNumbers
-    ∷ kind 1116 (typeInA 35) (exactly 4) (exactly 4) applications wholeNumber
-    ∷ kind 1117 (typeInA 36) (exactly 4) (exactly 4) applications wholeNumber
-    ∷ kind 1118 (typeInA 37) (exactly 4) (exactly 4) applications float
-    ∷ kind 1119 (typeInA 38) (exactly 4) (exactly 4) applications float
-    ∷ kind 1120 (typeInA 39) (exactly 4) (exactly 4) applications float
-    ∷ kind 1173 (typeInA 14) (foursWithin 4 252) (foursFrom 4) applications placeAndLength
+    kind 1088 (exactly 4) applications wholeNumber
+    ∷ kind 1089 (exactly 4) link float
+    ∷ kind 1090 (exactly 4) link float
+    ∷ kind 1091 (exactly 32) link placeAndLength
+    ∷ kind 1092 (exactly 4) applications wholeNumber
+    ∷ kind 1096 (foursFrom 0) applications srlgCount
+    ∷ kind 1114 (exactly 4) applications wholeNumber
+    ∷ kind 1115 (exactly 8) applications twoNumbers
+    ∷ kind 1116 (exactly 4) applications wholeNumber
+    ∷ kind 1117 (exactly 4) applications wholeNumber
+    ∷ kind 1118 (exactly 4) applications float
+    ∷ kind 1119 (exactly 4) applications float
+    ∷ kind 1120 (exactly 4) applications float
+    ∷ kind 1173 (foursFrom 4) applications placeAndLength
     ∷ []
 
 unfoldable pub forApplications : Owner → Bool
@@ -85,21 +78,7 @@ applicationCodes = map (λ q. q .code) (keep isApplications kinds)
 unfoldable pub hasCode : ℕ → Kind → Bool
 hasCode c q = eqb c (q .code)
 
-unfoldable pub carriedAs : ℕ → Carrier → Bool
-carriedAs t (typeInA n) = eqb t n
-carriedAs t valuesInBC = false
-
-unfoldable pub hasType : ℕ → Kind → Bool
-hasType t q = carriedAs t (q .carrier)
-
--- K1, K3. The BGP-LS code of an IS-IS type; 0, which no question asks for, of an unknown one.
-unfoldable pub codeOfType : ℕ → ℕ
-codeOfType t = lookup (hasType t) (λ q. q .code) 0 kinds
-
--- R4. A known kind of a wrong length: in run A, at the top of a BGP-LS run, and inside a 1122.
-unfoldable pub wrongInA : ℕ → ℕ → Bool
-wrongInA t n = any (λ q. hasType t q && not (fits (q .isisSize) n)) kinds
-
+-- R4. A known kind of a wrong length: at the top of a BGP-LS run, and inside a 1122.
 unfoldable pub wrongAtTop : ℕ → ℕ → Bool
 wrongAtTop c n = any (λ q. hasCode c q && not (fits (q .bgplsSize) n)) kinds
 

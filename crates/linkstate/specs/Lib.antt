@@ -1,4 +1,5 @@
 pub mod Lists
+pub mod Limits
 pub mod Bytes
 pub mod Replies
 pub mod Elements

@@ -5,11 +5,12 @@ use Prim.Native.Nat.{ℕ, _+_}
 use lib.Dec.{eqb, ltb}
 use lib.ListN.{length}
 use Rattle.linkstate.specs.Lists.{empty, put}
+use Rattle.linkstate.specs.Limits.{lastNumber}
 use Rattle.linkstate.specs.Bytes.{bytesAt}
 use Rattle.linkstate.specs.Kinds.{isCode, isLinkCode}
 use Rattle.linkstate.specs.Masks.{user, asNumber}
 use Rattle.linkstate.specs.Attributes.{Attribute, ofKind, srlgs, reading}
-use Rattle.linkstate.specs.Replies.{Run, Verdict, refusedIf, _then_, unless, count, Reply, absent, found, askRefused, Asked, Named, listed, namedRefused, bytes, exportRefused, Exported}
+use Rattle.linkstate.specs.Replies.{Place, Verdict, refusedIf, _then_, unless, count, Reply, absent, found, askRefused, Asked, Named, listed, namedRefused, bytes, exportRefused, Exported}
 
 -- Whom a question is about: the general set, or an application.
 pub data Subject : Type 0 where
@@ -17,11 +18,11 @@ pub data Subject : Type 0 where
   standardNo : ℕ → Subject
   userNo : ℕ → Subject
 
--- What questions are put to, a link or a BGP-LS run: the run that places lie in, what the checks of its bytes say, and the attributes read
+-- What questions are put to, a link or a BGP-LS run: the place of an offset, the bytes there, what the checks of its bytes say, and the attributes read
 -- together for a kind of the link, of RSVP-TE, of the general set, and of another application, with the applications
 -- other than RSVP-TE that it names.
 pub record Source : Type 0 where
-  pub run : Run
+  pub spot : (offset : ℕ) → Place
   pub bytes : List ℕ
   pub verdict : Verdict
   pub bandwidth : (code : ℕ) → List Attribute
@@ -33,8 +34,8 @@ pub record Source : Type 0 where
 -- R6. An application number above 63; the general set has no number.
 unfoldable pub numberTooHigh : Subject → Bool
 numberTooHigh generally = false
-numberTooHigh (standardNo n) = ltb 63 n
-numberTooHigh (userNo n) = ltb 63 n
+numberTooHigh (standardNo n) = ltb lastNumber n
+numberTooHigh (userNo n) = ltb lastNumber n
 
 -- The attributes of the subject's set.
 unfoldable pub setOf : Source → Subject → ℕ → List Attribute
@@ -51,9 +52,9 @@ unfoldable pub beforeAnswer : Source → Subject → ℕ → Verdict
 beforeAnswer s whom k = refusedIf (numberTooHigh whom) 6 then refusedIf (not (isCode k)) 7 then s .verdict
 
 -- K4, R12. The reply of every kind but SRLG: that of the first attribute.
-unfoldable pub firstOf : Run → List Attribute → Reply
-firstOf run [] = absent
-firstOf run (t ∷ ts) = found (reading run t)
+unfoldable pub firstOf : (ℕ → Place) → List Attribute → Reply
+firstOf spot [] = absent
+firstOf spot (t ∷ ts) = found (reading spot t)
 
 unfoldable pub unwritten : List ℕ → Reply → Asked
 unwritten list r = record { reply = r; list = list }
@@ -65,12 +66,12 @@ srlgAnswer ns list =
     (unless (refusedIf (ltb (length list) (length ns)) 5) (λ r. unwritten list (askRefused r))
     (record { reply = found (count (length ns)); list = put list 0 ns }))
 
-unfoldable pub answer : Run → ℕ → List Attribute → List ℕ → Asked
-answer run k ts list = cond (eqb k 1096) (srlgAnswer (srlgs ts) list) (unwritten list (firstOf run (ofKind k ts)))
+unfoldable pub answer : (ℕ → Place) → ℕ → List Attribute → List ℕ → Asked
+answer spot k ts list = cond (eqb k 1096) (srlgAnswer (srlgs ts) list) (unwritten list (firstOf spot (ofKind k ts)))
 
 -- I5. The first service: one kind of one subject, with a lent list.
 unfoldable pub ask : Source → Subject → ℕ → List ℕ → Asked
-ask s whom k list = unless (beforeAnswer s whom k) (λ r. unwritten list (askRefused r)) (answer (s .run) k (given s whom k) list)
+ask s whom k list = unless (beforeAnswer s whom k) (λ r. unwritten list (askRefused r)) (answer (s .spot) k (given s whom k) list)
 
 unfoldable pub bytesOfFirst : List ℕ → List Attribute → List ℕ
 bytesOfFirst run [] = []

@@ -5,18 +5,19 @@ use mathlib.Core.List.{List}
 use Prim.Native.Nat.{ℕ, _≤_}
 use lib.ListN.{length}
 use Rattle.linkstate.specs.Lists.{member, each, empty}
+use Rattle.linkstate.specs.Limits.{mostInSet}
 use Rattle.linkstate.specs.Bytes.{words, distinct, bytesOfWords}
 use Rattle.linkstate.specs.Kinds.{codes, applicationCodes, wrongAtTop}
 use Rattle.linkstate.specs.Masks.{others}
 use Rattle.linkstate.specs.Meaning.{Meaning}
 use Rattle.linkstate.specs.Export.{bytesOf, present, topValue}
 
--- The values of a set: each has a right length, SRLGs ascend without repeats, and together their TLVs have at most 4,000 bytes, so that every
+-- The values of a set: each has a right length, SRLGs ascend without repeats, and together their TLVs are within `mostInSet`, so that every
 -- length fits 16 bits and an export, of at most 129 such sets, is within the reader's 524,288.
 pub record Values (ks : List ℕ) (f : ℕ → List ℕ) : Type 0 where
   pub right : (k : ℕ) → member k ks ≡ true → empty (f k) ≡ false → wrongAtTop k (length (f k)) ≡ false
   pub canonical : bytesOfWords (distinct (words (f 1096))) ≡ f 1096
-  pub small : length (each bytesOf (present ks f)) ≤ 4000
+  pub small : length (each bytesOf (present ks f)) ≤ mostInSet
 
 -- Only applications other than RSVP-TE are named, and the bandwidths with the RSVP-TE set, the general set and each named set have such values.
 pub record WellFormed (m : Meaning) : Type 0 where

@@ -5,7 +5,7 @@ use Prim.Native.Nat.{ℕ}
 use lib.Dec.{eqb}
 use Rattle.linkstate.specs.Lists.{any, lookup, empty}
 use Rattle.linkstate.specs.Masks.{user}
-use Rattle.linkstate.specs.Replies.{Run, Place, place, Refusal, unless}
+use Rattle.linkstate.specs.Replies.{Run, Place, Refusal, unless}
 use Rattle.linkstate.specs.Elements.{Element, element, cut}
 use Rattle.linkstate.specs.Attributes.{Attribute, ofKind, srlgs}
 use Rattle.linkstate.specs.Sides.{Advertisement, Side, general, names, named, namedWithL, ofLive, rsvpTeAlone}
@@ -42,10 +42,10 @@ pub data Why : Type 0 where
   because : Rule → Holder → Why
   whyRefused : Refusal → Why
 
--- A side where it stands: the run of its advertisements, the elements of that run, the live advertisements of each, and the run of its legacy values.
+-- A side where it stands: the place of an offset among its advertisements, the elements there, the live advertisements of each, and the run of its legacy values.
 pub record Standing : Type 0 where
   pub side : Side
-  pub run : Run
+  pub spot : (offset : ℕ) → Place
   pub elements : List Element
   pub live : Element → List Advertisement
   pub legacyRun : Run
@@ -56,7 +56,7 @@ offsetOf (cut at) = at
 
 -- The first live advertisement that passes a test.
 unfoldable pub first : Standing → (Advertisement → Bool) → Holder
-first s p = lookup (λ e. any p (s .live e)) (λ e. heldAt (place (s .run) (offsetOf e))) nowhere (s .elements)
+first s p = lookup (λ e. any p (s .live e)) (λ e. heldAt (s .spot (offsetOf e))) nowhere (s .elements)
 
 infixr 20 _orElse_
 unfoldable pub _orElse_ : Holder → Holder → Holder

@@ -132,18 +132,7 @@ pub fn has(m: u64, n: u32) -> bool
     (m >> n) % 2 == 1
 }
 
-// Whether a mask's bit n is set. Bits not sent are 0.
-pub fn has_bit(s: &[u8], n: u32) -> bool
-    ensures { λ r. ⌜ r ≡ bit (now (s .entry)) n ⌝ }
-{
-    let i = (n / 8) as usize;
-    if s.len() <= i {
-        return false;
-    }
-    (s[i] >> (7 - n % 8)) % 2 == 1
-}
-
-// The same of the mask of `len` bytes at a place of a run.
+// Whether bit n of the mask of `len` bytes at a place of a run is set. Bits not sent are 0.
 pub fn bit_at(s: &[u8], at: usize, len: usize, n: u32) -> bool
     requires { ⌜ at + len ≤ length (now s) ⌝ }
     ensures { λ r. ⌜ r ≡ bit (take len (drop at (now (s .entry)))) n ⌝ }
@@ -153,6 +142,13 @@ pub fn bit_at(s: &[u8], at: usize, len: usize, n: u32) -> bool
         return false;
     }
     (s[at + i] >> (7 - n % 8)) % 2 == 1
+}
+
+// The same of a mask by itself.
+pub fn has_bit(s: &[u8], n: u32) -> bool
+    ensures { λ r. ⌜ r ≡ bit (now (s .entry)) n ⌝ }
+{
+    bit_at(s, 0, s.len(), n)
 }
 
 // Whether a standard and a user mask name application a.

@@ -43,3 +43,6 @@ named-by u w x y h p e = h ∙ p ∙ ap namedWords e
 
 pub exported-by : (u w after : List ℕ) (x : Length) (y : Exported) → u ≡ w → w ≡ lengthWords x → record { reply = x; buffer = after } ≡ y → (u ≡ lengthWords (y .reply)) × (after ≡ y .buffer)
 exported-by u w after x y h p e = (h ∙ p ∙ ap (λ (q : Exported). lengthWords (q .reply)) e, ap (λ (q : Exported). q .buffer) e)
+
+pub length-by : (u w : List ℕ) (x y : Length) → u ≡ w → w ≡ lengthWords x → x ≡ y → u ≡ lengthWords y
+length-by u w x y h p e = h ∙ p ∙ ap lengthWords e

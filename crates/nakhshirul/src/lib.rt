@@ -1,4 +1,4 @@
-// The C interface (include/nakhshirul.h): nine functions over the entries. A run is a pointer and a length, the reply four 64-bit numbers, the result a status.
+// The C interface (include/nakhshirul.h): ten functions over the entries. A run is a pointer and a length, the reply four 64-bit numbers, the result a status.
 // What each status and reply says is `askWords`, `valueWords`, `whyWords`, `namedWords` and `lengthWords` of the crate statuses. Every call is answered: no
 // function has a `requires`.
 ghost use mathlib.Core.Path.{_≡_};
@@ -8,6 +8,7 @@ ghost use Rattle.linkstate.specs.BgpLs.{runSource};
 ghost use Rattle.linkstate.specs.RunWhy.{runWhy};
 ghost use Rattle.isis.specs.Link.{linkSource, exportLink};
 ghost use Rattle.isis.specs.Why.{linkWhy};
+ghost use Rattle.isis_export.specs.Answers.{exportLength};
 ghost use Rattle.statuses.specs.Words.{whomOf, askWords, valueWords, namedWords, lengthWords, whyWords};
 
 // One kind of one subject of a link: status 0 to 5, or refused.
@@ -25,7 +26,7 @@ pub extern "C" fn nakhshirul_ask(
     ensures { λ r. ⌜ (r ∷ now (reply .exit) ≡ askWords (linkSource (now (a .entry)) (now (b .entry)) (now (c .entry))) (whomOf who number) code (now (list .entry))) × (now (list .exit) ≡ (ask (linkSource (now (a .entry)) (now (b .entry)) (now (c .entry))) (whomOf who number) code (now (list .entry))) .list) ⌝ }
 {
     let whom = statuses::subject(who, number);
-    let w = status_entries::ask_link(a, b, c, whom, code as usize, list);
+    let w = statuses::ask_link(a, b, c, whom, code as usize, list);
     statuses::hand_over(w, reply)
 }
 
@@ -43,7 +44,7 @@ pub extern "C" fn nakhshirul_value(
     ensures { λ r. ⌜ r ∷ now (reply .exit) ≡ valueWords (linkSource (now (a .entry)) (now (b .entry)) (now (c .entry))) (whomOf who number) code ⌝ }
 {
     let whom = statuses::subject(who, number);
-    let w = status_entries::value_link(a, b, c, whom, code as usize);
+    let w = statuses::value_link(a, b, c, whom, code as usize);
     statuses::hand_over(w, reply)
 }
 
@@ -92,6 +93,21 @@ pub extern "C" fn nakhshirul_export(
     statuses::hand_over(w, reply)
 }
 
+// How much room the export of a link needs: status 7 with nothing written, or refused.
+#[no_mangle]
+pub extern "C" fn nakhshirul_export_length(
+    a: &[u8],
+    b: &[u8],
+    c: &[u8],
+    reply: &mut [u64; 4],
+) -> u64
+    ensures { λ r. ⌜ r ∷ now (reply .exit) ≡ lengthWords (exportLength (now (a .entry)) (now (b .entry)) (now (c .entry))) ⌝ }
+{
+    let x = isis_export::export_length(a, b, c);
+    let w = statuses::length_words(x);
+    statuses::hand_over(w, reply)
+}
+
 // One kind of one subject of a BGP-LS run: status 0 to 5, or refused.
 #[no_mangle]
 pub extern "C" fn nakhshirul_run_ask(
@@ -105,7 +121,7 @@ pub extern "C" fn nakhshirul_run_ask(
     ensures { λ r. ⌜ (r ∷ now (reply .exit) ≡ askWords (runSource (now (run .entry))) (whomOf who number) code (now (list .entry))) × (now (list .exit) ≡ (ask (runSource (now (run .entry))) (whomOf who number) code (now (list .entry))) .list) ⌝ }
 {
     let whom = statuses::subject(who, number);
-    let w = status_entries::ask_run(run, whom, code as usize, list);
+    let w = statuses::ask_run(run, whom, code as usize, list);
     statuses::hand_over(w, reply)
 }
 
@@ -121,7 +137,7 @@ pub extern "C" fn nakhshirul_run_value(
     ensures { λ r. ⌜ r ∷ now (reply .exit) ≡ valueWords (runSource (now (run .entry))) (whomOf who number) code ⌝ }
 {
     let whom = statuses::subject(who, number);
-    let w = status_entries::value_run(run, whom, code as usize);
+    let w = statuses::value_run(run, whom, code as usize);
     statuses::hand_over(w, reply)
 }
 

@@ -33,6 +33,10 @@ toldRun B = R.runB
 toldRun C = R.runC
 toldRun BgpLs = R.runBgpLs
 
+-- The place of an offset in a run.
+abbrev pub toldSpot : Run → ℕ → R.Place
+toldSpot r = R.place (toldRun r)
+
 abbrev pub toldPlace : Place → R.Place
 toldPlace p = R.place (toldRun (p .run)) (p .offset)
 

@@ -9,9 +9,10 @@ use borrow.Author.Tests.{not-true}
 use lib.Dec.{eqb, ltb}
 use lib.ListN.{length}
 use Rattle.linkstate.specs.Lists.{all, empty, member, put}
+use Rattle.linkstate.specs.Limits.{mostInBgpLs}
 use Rattle.linkstate.specs.Kinds.{isCode, wrongAtTop, wrongInside}
 use Rattle.linkstate.specs.Attributes.{Attribute, ofKind, srlgs}
-use Rattle.linkstate.specs.Replies.{Run, runA, runBgpLs, refusalAt, Refusal, Verdict, accepted, refused, fault, faultOfCall, refusedIf, _then_, unless, count, absent, found, askRefused, Asked, bytes, exportRefused, Exported}
+use Rattle.linkstate.specs.Replies.{Run, Place, runA, runBgpLs, refusalAt, Refusal, Verdict, accepted, refused, fault, faultOfCall, refusedIf, _then_, unless, count, absent, found, askRefused, Asked, bytes, exportRefused, Exported}
 use Rattle.linkstate.specs.Elements.{Element, element, cut, elements, faults}
 use Rattle.linkstate.specs.Questions.{Subject, generally, Source, numberTooHigh, given, beforeAnswer, firstOf, unwritten, srlgAnswer, answer, ask, write}
 use Rattle.linkstate.specs.Meaning.{Accepted}
@@ -72,11 +73,11 @@ module _ {ns : List ℕ} where
 
 -- ---- questions
 
-answer-by : (run : Run) (k : ℕ) (ts : List Attribute) (list : List ℕ) (x : Refusal) → answer run k ts list .reply ≡ askRefused x → member (x .number) ofCalls ≡ true
+answer-by : (spot : ℕ → Place) (k : ℕ) (ts : List Attribute) (list : List ℕ) (x : Refusal) → answer spot k ts list .reply ≡ askRefused x → member (x .number) ofCalls ≡ true
 unfolding answer srlgAnswer unwritten firstOf member
-answer-by run k ts list x e = go (eqb k 1096) e
+answer-by spot k ts list x e = go (eqb k 1096) e
   where
-    first : (us : List Attribute) → firstOf run us ≡ askRefused x → member (x .number) ofCalls ≡ true
+    first : (us : List Attribute) → firstOf spot us ≡ askRefused x → member (x .number) ofCalls ≡ true
     first [] d = let z : _≡_ {A = ℕ} 0 1 = cc in absurd (omega arith)
     first (t ∷ us) d = let z : _≡_ {A = ℕ} 0 1 = cc in absurd (omega arith)
 
@@ -86,7 +87,7 @@ answer-by run k ts list x e = go (eqb k 1096) e
     several true d = first [] d
     several false d = by-unless list _ (by-if {ns = ofCalls} (ltb (length list) (length (srlgs ts))) 5 refl) (λ y c. let z : _≡_ {A = ℕ} 0 1 = cc in absurd (omega arith)) x d
 
-    go : (b : Bool) → cond b (srlgAnswer (srlgs ts) list) (unwritten list (firstOf run (ofKind k ts))) .reply ≡ askRefused x → member (x .number) ofCalls ≡ true
+    go : (b : Bool) → cond b (srlgAnswer (srlgs ts) list) (unwritten list (firstOf spot (ofKind k ts))) .reply ≡ askRefused x → member (x .number) ofCalls ≡ true
     go true d = several (empty (srlgs ts)) d
     go false d = first (ofKind k ts) d
 
@@ -94,9 +95,9 @@ answer-by run k ts list x e = go (eqb k 1096) e
 pub accepted-asked : (s : Source) → Accepted s → Only567Refuse s
 unfolding ask beforeAnswer member
 accepted-asked s h whom k list x e =
-    by-unless list (answer (s .run) k (given s whom k) list)
+    by-unless list (answer (s .spot) k (given s whom k) list)
     (by-then {ns = ofCalls} (by-if (numberTooHigh whom) 6 refl) (by-then (by-if (not (isCode k)) 7 refl) (subst (By ofCalls) (sym h) by-none)))
-    (answer-by (s .run) k (given s whom k) list) x e
+    (answer-by (s .spot) k (given s whom k) list) x e
 
 -- and a question that 6 and 7 let pass is refused by what the bytes are refused by.
 pub refused-asked : (s : Source) (x : Refusal) → s .verdict ≡ refused x → (whom : Subject) (k : ℕ) (list : List ℕ)
@@ -108,7 +109,7 @@ refused-asked s x h whom k list n c = rw (n, c, h)
 
 pub run-by : (r : List ℕ) → By ofRuns (runVerdict r)
 unfolding runVerdict checkTop checkAsla checkInner member
-run-by r = by-then (by-if (ltb 524288 (length r)) 1 refl) (by-faults refl runBgpLs checkTop top (elements 2 0 r))
+run-by r = by-then (by-if (ltb mostInBgpLs (length r)) 1 refl) (by-faults refl runBgpLs checkTop top (elements 2 0 r))
   where
     lengths : (b : Bool) (at : ℕ) → By ofRuns (cond b (fault 4 runBgpLs at) accepted)
     lengths b at = by-cond b (by-fault 4 runBgpLs at refl) by-none

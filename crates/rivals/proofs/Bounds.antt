@@ -9,6 +9,7 @@ use native.Mathlib.Omega.{arith}
 use lib.Dec.{eqb, ltb}
 use lib.ListN.{length}
 use Rattle.linkstate.specs.Lists.{keep, all, empty}
+use Rattle.linkstate.specs.Limits.{mostInSet, mostInBgpLs, otherApplications}
 use Rattle.linkstate.specs.Kinds.{codes, applicationCodes}
 use Rattle.linkstate.specs.Masks.{user, others, maskSize}
 use Rattle.linkstate.specs.Meaning.{Meaning, row}
@@ -29,9 +30,9 @@ pub record Within (top set : ℕ) (m : Meaning) : Type 0 where
   pub general : costs applicationCodes (m .general) ≤ set
   pub named : (a : ℕ) → m .named a ≡ true → costs applicationCodes (m .set a) ≤ set
 
-others-length : length others ≡ 127
+others-length : length others ≡ otherApplications
 unfolding others
-others-length = length-numbers 127 1
+others-length = length-numbers otherApplications 1
 
 -- A TLV of a set weighs what its value does.
 present-small : (n : ℕ) (ks : List ℕ) (f : ℕ → List ℕ) → ((k : ℕ) → List·Memᴰ k ks → cost (f k) ≤ n) → {t : ℕ} {v : List ℕ} → List·Memᴰ (tlv t v) (present ks f)
@@ -78,9 +79,9 @@ module _ {top set : ℕ} (m : Meaning) (within : Within top set m) where
       go true e = omega (arith, asla-size (inGroup m a) (m .set a), led-small a e)
       go false e = zero-le
 
-  pub export-bound : length (export m) ≤ top + (8 + set) + 127 * (24 + set)
+  pub export-bound : length (export m) ≤ top + (8 + set) + otherApplications * (24 + set)
   export-bound =
-      let groups : sumOf (groupCost m) others ≤ (24 + set) * 127 = rw others-length at (sumOf-most (groupCost m) (24 + set) others (λ a i. group-small a)) in
+      let groups : sumOf (groupCost m) others ≤ (24 + set) * otherApplications = rw others-length at (sumOf-most (groupCost m) (24 + set) others (λ a i. group-small a)) in
       omega (arith, length-export m, within .together, general-small)
 
   asla-bound : {v : List ℕ} → List·Memᴰ v (aslaValues m) → length v ≤ 20 + set
@@ -119,7 +120,7 @@ module _ {top set : ℕ} (m : Meaning) (within : Within top set m) where
 -- ---- well-formed meanings
 
 -- What a set's values weigh.
-set-small : (ks : List ℕ) (f : ℕ → List ℕ) → Values ks f → costs ks f ≤ 4000
+set-small : (ks : List ℕ) (f : ℕ → List ℕ) → Values ks f → costs ks f ≤ mostInSet
 set-small ks f ok = omega (arith, ok .small, length-bytes (present ks f), size-present ks f)
 
 -- Each length of a set's TLVs fits its two bytes: so do those inside a 1122.
@@ -127,7 +128,7 @@ pub set-lengths-within : (ks : List ℕ) (f : ℕ → List ℕ) → Values ks f 
 unfolding size
 set-lengths-within ks f ok i = omega (arith, sumOf-one size (present ks f) i, size-present ks f, set-small ks f ok)
 
-well-within : (m : Meaning) → WellFormed m → Within 4000 4000 m
+well-within : (m : Meaning) → WellFormed m → Within mostInSet mostInSet m
 unfolding costs
 well-within m ok =
     record {
@@ -138,7 +139,7 @@ well-within m ok =
     }
 
 -- The reader takes the export: it is not refused by 1.
-pub export-within : (m : Meaning) → WellFormed m → length (export m) ≤ 524288
+pub export-within : (m : Meaning) → WellFormed m → length (export m) ≤ mostInBgpLs
 export-within m ok = omega (arith, export-bound m (well-within m ok))
 
 -- Each length fits its two bytes.

@@ -13,4 +13,5 @@ pub mod SrlgLaws
 pub mod SourceReads
 pub mod Reader
 pub mod ExportRead
+pub mod Signed
 pub mod Example

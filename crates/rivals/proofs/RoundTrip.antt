@@ -10,6 +10,7 @@ use lib.Dec.{eqb, ltb}
 use lib.ListN.{length, take, drop, length-map}
 use lib.Seq.{take-at, drop-at, drop-drop}
 use Rattle.linkstate.specs.Lists.{keep, all, count, each, empty, member}
+use Rattle.linkstate.specs.Limits.{mostInBgpLs}
 use Rattle.linkstate.specs.Kinds.{codes, applicationCodes}
 use Rattle.linkstate.specs.Masks.{bit, user, inMasks, others, maskSize, mask}
 use Rattle.linkstate.specs.Replies.{runBgpLs, accepted, refusedIf, _then_}
@@ -393,7 +394,7 @@ module _ (m : Meaning) where
 
     passes : Accepted (runSource (export m))
     unfolding runSource runVerdict refusedIf _then_
-    passes = rw (le-ltb 524288 (length (export m)) (export-within m ok), elements-back) (sound-faults tlvs-sound runBgpLs 0)
+    passes = rw (le-ltb mostInBgpLs (length (export m)) (export-within m ok), elements-back) (sound-faults tlvs-sound runBgpLs 0)
 
 -- The export is a rival: accepted, with the same meaning, and each application named once.
 pub export-is-rival : (m : Meaning) → WellFormed m → IsRival m (export m)

@@ -11,6 +11,7 @@ use lib.Dec.{eqb, ltb}
 use lib.ListN.{length, drop, length-drop}
 use lib.Seq.{length-take-le}
 use Rattle.linkstate.specs.Lists.{each}
+use Rattle.linkstate.specs.Limits.{mostInBgpLs}
 use Rattle.linkstate.specs.Replies.{Run, runBgpLs, Verdict, accepted, fault, refusedIf, _then_}
 use Rattle.linkstate.specs.Elements.{Element, element, cut, elements, faults}
 use Rattle.linkstate.specs.Attributes.{Attribute, attribute}
@@ -27,7 +28,7 @@ use Rattle.rivals.proofs.Sizes.{not-refused, weight, whole}
 
 pub accepted-faults : (r : List ℕ) → Accepted (runSource r) → faults runBgpLs checkTop (elements 2 0 r) ≡ accepted
 unfolding runSource runVerdict
-accepted-faults r h = then-second (refusedIf (ltb 524288 (length r)) 1) (faults runBgpLs checkTop (elements 2 0 r)) h
+accepted-faults r h = then-second (refusedIf (ltb mostInBgpLs (length r)) 1) (faults runBgpLs checkTop (elements 2 0 r)) h
 
 pub faults-mem : (run : Run) (check : ℕ → ℕ → List ℕ → Verdict) (es : List Element) → faults run check es ≡ accepted
     → {at t : ℕ} {v : List ℕ} → List·Memᴰ (element at t v) es → check at t v ≡ accepted

@@ -63,7 +63,7 @@ pub record Held (s : Source) (sent : Sent) (k : ℕ) (t : Attribute) : Type 0 wh
 module _ (s : Source) (sent : Sent) (k : ℕ) (list : List ℕ) where
   -- The first attribute of a kind is told by its reading.
   first-tells : eqb k 1096 ≡ false → sent k [] ≡ [] → (ts : List Attribute) → ((t : Attribute) → List·Memᴰ t ts → Held s sent k t)
-      → Tells s sent k (firstValue ts) list (unwritten list (firstOf (s .run) ts)) × (bytesOfFirst (s .bytes) ts ≡ sent k (firstValue ts))
+      → Tells s sent k (firstValue ts) list (unwritten list (firstOf (s .spot) ts)) × (bytesOfFirst (s .bytes) ts ≡ sent k (firstValue ts))
   unfolding firstValue firstOf bytesOfFirst
   first-tells n none [] h = (tellsAbsent refl, sym none)
   first-tells n none (t ∷ ts) h =
@@ -71,7 +71,7 @@ module _ (s : Source) (sent : Sent) (k : ℕ) (list : List ℕ) where
       let same : record { code = k; at = t .at; len = length (sent k (t .value)); value = t .value } ≡ t =
       ap₂ (λ (c l : ℕ). record { code = c; at = t .at; len = l; value = t .value }) (sym (f .code)) (sym (f .len)) in
       let place : bytesAt (s .bytes) (t .at) (length (sent k (t .value))) ≡ sent k (t .value) = sym (ap (bytesAt (s .bytes) (t .at)) (f .len)) ∙ f .bytes in (
-        subst (λ (u : Attribute). Tells s sent k (t .value) list (unwritten list (found (reading (s .run) u)))) same (tellsReading (t .at) (f .some) n place),
+        subst (λ (u : Attribute). Tells s sent k (t .value) list (unwritten list (found (reading (s .spot) u)))) same (tellsReading (t .at) (f .some) n place),
         f .bytes,
       )
 
@@ -97,7 +97,7 @@ module _ (s : Source) (ok : Accepted s) (whom : Subject) (n : numberTooHigh whom
   attributes : List Attribute
   attributes = given s whom k
 
-  asked-is : (list : List ℕ) → ask s whom k list ≡ answer (s .run) k attributes list
+  asked-is : (list : List ℕ) → ask s whom k list ≡ answer (s .spot) k attributes list
   unfolding ask unless attributes
   asked-is list = rw let-pass
 
@@ -106,14 +106,14 @@ module _ (s : Source) (ok : Accepted s) (whom : Subject) (n : numberTooHigh whom
   value-is = rw let-pass
 
   module _ (sent : Sent) (none : sent k [] ≡ []) (held : eqb k 1096 ≡ false → (t : Attribute) → List·Memᴰ t (ofKind k (given s whom k)) → Held s sent k t) (list : List ℕ) where
-    tells : Tells s sent k (valueOf k attributes) list (answer (s .run) k attributes list)
+    tells : Tells s sent k (valueOf k attributes) list (answer (s .spot) k attributes list)
         × (cond (eqb k 1096) [] (bytesOfFirst (s .bytes) (ofKind k attributes)) ≡ cond (eqb k 1096) [] (sent k (valueOf k attributes)))
     unfolding valueOf answer srlgs attributes
     tells = go (eqb k 1096) refl
       where
         go : (b : Bool) → eqb k 1096 ≡ b
             → Tells s sent k (cond b (bytesOfWords (srlgs attributes)) (firstValue (ofKind k attributes))) list
-            (cond b (srlgAnswer (srlgs attributes) list) (unwritten list (firstOf (s .run) (ofKind k attributes))))
+            (cond b (srlgAnswer (srlgs attributes) list) (unwritten list (firstOf (s .spot) (ofKind k attributes))))
             × (cond b [] (bytesOfFirst (s .bytes) (ofKind k attributes)) ≡ cond b [] (sent k (cond b (bytesOfWords (srlgs attributes)) (firstValue (ofKind k attributes)))))
         go true e = (srlgs-tell s sent k list e (srlgs attributes) (distinct-twice (each (λ t. words (t .value)) (ofKind 1096 attributes))), refl)
         go false e = first-tells s sent k list e none (ofKind k attributes) (held e)

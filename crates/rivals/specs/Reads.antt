@@ -44,7 +44,7 @@ pub data Tells (s : Source) (sent : Sent) (k : ℕ) (v list : List ℕ) : Asked 
   tellsAbsent : v ≡ [] → Tells s sent k v list (unwritten list absent)
   -- else found, with the reading of v, which stands in the run at the offset o;
   tellsReading : (o : ℕ) → empty v ≡ false → eqb k 1096 ≡ false → bytesAt (s .bytes) o (length (sent k v)) ≡ sent k v
-      → Tells s sent k v list (unwritten list (found (reading (s .run) (record { code = k; at = o; len = length (sent k v); value = v }))))
+      → Tells s sent k v list (unwritten list (found (reading (s .spot) (record { code = k; at = o; len = length (sent k v); value = v }))))
   -- for SRLG, the count of the different numbers whose bytes are v, which then stand at the list's front;
   tellsSrlgs : (ns : List ℕ) → empty v ≡ false → eqb k 1096 ≡ true → distinct ns ≡ ns → bytesOfWords ns ≡ v → length ns ≤ length list
       → Tells s sent k v list (record { reply = found (count (length ns)); list = put list 0 ns })

@@ -10,7 +10,7 @@ use lib.ListN.{length, drop}
 use Rattle.linkstate.specs.Lists.{empty, put}
 use Rattle.linkstate.specs.Bytes.{bytesAt, words, bytesOfWords}
 use Rattle.linkstate.specs.Kinds.{Form, wholeNumber, twoNumbers, float, placeAndLength, srlgCount, formOf, isCode}
-use Rattle.linkstate.specs.Replies.{faultOfCall, fault, refusedIf, _then_, unless, runA, runBgpLs, count, found, Asked}
+use Rattle.linkstate.specs.Replies.{faultOfCall, fault, refusedIf, _then_, unless, runA, runBgpLs, count, found, Asked, place}
 use Rattle.linkstate.specs.Attributes.{Attribute, readingAs, reading}
 use Rattle.linkstate.specs.Questions.{Source, Subject, numberTooHigh, beforeAnswer, unwritten, ask}
 use Rattle.linkstate.specs.Meaning.{Accepted}
@@ -44,11 +44,11 @@ module _ (a r : List ℕ) (k : ℕ) (v : List ℕ) where
   abbrev inRun : ℕ → Attribute
   inRun o = record { code = k; at = o; len = length v; value = v }
 
-  reading-alike : (i j : ℕ) → bytesAt a i (length (inA k v)) ≡ inA k v → bytesAt r j (length v) ≡ v → AlikeReply a r (found (reading runA (inLink i))) (found (reading runBgpLs (inRun j)))
+  reading-alike : (i j : ℕ) → bytesAt a i (length (inA k v)) ≡ inA k v → bytesAt r j (length v) ≡ v → AlikeReply a r (found (reading (place runA) (inLink i))) (found (reading (place runBgpLs) (inRun j)))
   unfolding reading readingAs
   reading-alike i j e d = go (formOf k) refl
     where
-      go : (f : Form) → formOf k ≡ f → AlikeReply a r (found (readingAs f runA (inLink i))) (found (readingAs f runBgpLs (inRun j)))
+      go : (f : Form) → formOf k ≡ f → AlikeReply a r (found (readingAs f (place runA) (inLink i))) (found (readingAs f (place runBgpLs) (inRun j)))
       go wholeNumber h = same _
       go twoNumbers h = same _
       go float h = same _
@@ -108,4 +108,4 @@ export-answers a b c ok whom k list = go (numberTooHigh whom) refl (isCode k) re
     go false e false d = alike-same a (exportOf a b c) _ _ (refused-same (linkSource a b c) (runSource (exportOf a b c)) whom k list .1 e d)
     go false e true d =
         let l = demands .links a b c ok in
-        alike a (exportOf a b c) k _ b c list _ _ (l .answers .reads whom e k d list .asked) (l .readBack .reads whom e k d list .asked)
+        alike a (exportOf a b c) k _ b c list _ _ (l .answers .reads whom e k d list .asked) (l .exported .readBack .reads whom e k d list .asked)

@@ -37,7 +37,7 @@ module _ (a b c buffer after : List ℕ) (n : ℕ) (w : Writes a b c buffer afte
       let d = delivered a b c buffer n after w in
       let l = demands .links a b c (d .accepted) in
       let e : x ≡ listNamed (runSource run) = h ∙ ap (λ (r : List ℕ). listNamed (runSource r)) front-is in
-      namedBack n w e (l .answers .names ∙ sym (l .readBack .names) ∙ ap (λ (r : List ℕ). listNamed (runSource r)) (sym (d .bytes)) ∙ sym e)
+      namedBack n w e (l .answers .names ∙ sym (l .exported .readBack .names) ∙ ap (λ (r : List ℕ). listNamed (runSource r)) (sym (d .bytes)) ∙ sym e)
 
 pub refused-back : (a b c buffer after : List ℕ) (whom : Subject) (k : ℕ) (list : List ℕ) (r : Refusal) → Refuses a b c buffer after r
     → AskedBack a b c buffer after whom k list (record { reply = askRefused r; list = list })

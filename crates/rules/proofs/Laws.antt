@@ -16,9 +16,10 @@ use Rattle.linkstate.specs.Questions.{Subject, generally, standardNo, userNo, n
 use Rattle.replies.specs.declared.Subject.{Subject as Whom}
 use Rattle.replies.specs.declared.Subject.the-variants as W
 use Rattle.replies.specs.Told.{subjectOf}
-use Rattle.naming.specs.declared.Names.{Names}
-use Rattle.naming.specs.Names.{inBoth, Tells}
-use Rattle.naming.proofs.Laws.{side-named, side-flagged}
+use Rattle.rules.specs.declared.Names.{Names}
+use Rattle.rules.specs.Names.{Tells}
+use Rattle.masks.specs.Applications.{inBoth}
+use Rattle.rules.proofs.NameLaws.{side-named, side-flagged}
 use Rattle.rules.specs.declared.Rule.{Rule}
 use Rattle.rules.specs.declared.Rule.the-variants.{ByL, Naming, General, Legacy, NamingFirst, AloneFirst, LegacyFirst}
 use Rattle.rules.specs.Rules.{applicationRule, rsvpTeRule, bandwidthRule, subjectRule, ruleOn, takenBy, setOn, givenOn}
@@ -51,11 +52,11 @@ and-true true = refl
 and-true false = refl
 
 module _ (s : Side) (h : named 0 s ≡ false) where
-  none-naming : ofLive (names 0) s ≡ []
+  pub none-naming : ofLive (names 0) s ≡ []
   unfolding ofLive named each
   none-naming = ap (each (λ d. d .attributes)) (none-pass 0 (names 0) (λ d. true) (λ d. and-true (names 0 d)) (s .live) h)
 
-  none-alone : ofLive rsvpTeAlone s ≡ []
+  pub none-alone : ofLive rsvpTeAlone s ≡ []
   unfolding ofLive named each rsvpTeAlone
   none-alone = ap (each (λ d. d .attributes)) (none-pass 0 rsvpTeAlone (λ d. not (any (λ a. names a d) others)) (λ d. refl) (s .live) h)
 

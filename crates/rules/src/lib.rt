@@ -1,13 +1,95 @@
 // By which rule a subject gets a kind, from whom a side names and whom it names with L (document 01, "Who gets what"). No byte of any format is read here.
 ghost use mathlib.Core.Path.{_≡_};
+ghost use mathlib.Core.List.{List, []};
+ghost use Prim.Native.Nat.{_<_};
+ghost use Rattle.linkstate.specs.Replies.{fault};
+ghost use Rattle.linkstate.specs.Sides.{Advertisement, Side};
+ghost use Rattle.replies.specs.Told.{toldRun, subjectOf};
+ghost use Rattle.rules.specs.Names.{Tells, Joins, Checks, ChecksBehind};
+ghost use Rattle.masks.specs.Applications.{inBoth};
+ghost use Rattle.rules.specs.declared.Names.{Names};
 ghost use mathlib.Core.Bool.{false};
 ghost use Rattle.linkstate.specs.Questions.{numberTooHigh};
-ghost use Rattle.linkstate.specs.Sides.{Side};
-ghost use Rattle.naming.specs.Names.{Tells};
-ghost use Rattle.replies.specs.Told.{subjectOf};
 ghost use Rattle.rules.specs.Rules.{applicationRule, rsvpTeRule, bandwidthRule, subjectRule, ruleOn, takenBy, givenOn};
-use naming::Names;
+use replies::Refusal;
+use replies::Run;
 use replies::Subject;
+
+// The applications that are named, and those that are named with L, as masks have them: the number of a mask's bytes, the first the lowest.
+pub struct Names {
+    pub standard: u64,
+    pub user: u64,
+    pub lstandard: u64,
+    pub luser: u64,
+}
+
+// What the checks of a run found: the first refusal, or whom the run names.
+pub enum Checking {
+    Refused(Refusal),
+    Accepted(Names),
+}
+
+pub fn nobody() -> Names
+    ensures { λ r. ⌜ Tells [] r ⌝ }
+{
+    Names {
+        standard: 0,
+        user: 0,
+        lstandard: 0,
+        luser: 0,
+    }
+}
+
+// Whom either names.
+pub fn both(x: Names, y: Names) -> Names
+    ensures { λ r. ⌜ Joins x y r ⌝ }
+{
+    let s = masks::joined(x.standard, y.standard);
+    let u = masks::joined(x.user, y.user);
+    let ls = masks::joined(x.lstandard, y.lstandard);
+    let lu = masks::joined(x.luser, y.luser);
+    Names {
+        standard: s,
+        user: u,
+        lstandard: ls,
+        luser: lu,
+    }
+}
+
+// Whether application n is in two masks: 64 and more are the user's.
+fn in_both(standard: u64, user: u64, n: u32) -> bool
+    requires { ⌜ n < 128 ⌝ }
+    ensures { λ r. ⌜ r ≡ inBoth standard user n ⌝ }
+{
+    if n < 64 {
+        return masks::has(standard, n / 8 * 8 + (7 - n % 8));
+    }
+    let k = n - 64;
+    masks::has(user, k / 8 * 8 + (7 - k % 8))
+}
+
+// Whether application n is named, and whether it is so with L.
+pub fn is_named(m: Names, n: u32) -> bool
+    requires { ⌜ n < 128 ⌝ }
+    ensures { λ r. ⌜ r ≡ inBoth (m .standard) (m .user) n ⌝ }
+{
+    in_both(m.standard, m.user, n)
+}
+
+pub fn is_named_with_l(m: Names, n: u32) -> bool
+    requires { ⌜ n < 128 ⌝ }
+    ensures { λ r. ⌜ r ≡ inBoth (m .lstandard) (m .luser) n ⌝ }
+{
+    in_both(m.lstandard, m.luser, n)
+}
+
+// A refusal for an element of a run.
+pub fn refuse(number: u8, run: Run, at: usize) -> Checking
+    ensures { λ r. ⌜ ((ds : List Advertisement) → Checks (fault number (toldRun run) at) ds r) ⌝ }
+    ensures { λ r. ⌜ ((m : Names) (ds : List Advertisement) → ChecksBehind m (fault number (toldRun run) at) ds r) ⌝ }
+{
+    Checking::Refused(replies::refuse_at(number, run, at))
+}
 
 // Where a value is looked for.
 pub enum Rule {
@@ -77,8 +159,8 @@ fn subject_rule(whom: Subject, m: Names) -> Rule
     match whom {
         Subject::General => Rule::General,
         Subject::Standard(n) => {
-            let l = naming::is_named_with_l(m, n);
-            let named = naming::is_named(m, n);
+            let l = is_named_with_l(m, n);
+            let named = is_named(m, n);
             if n == 0 {
                 return rsvp_te_rule(l, named);
             }
@@ -86,8 +168,8 @@ fn subject_rule(whom: Subject, m: Names) -> Rule
         }
         Subject::User(n) => {
             let k = 64 + n;
-            let l = naming::is_named_with_l(m, k);
-            let named = naming::is_named(m, k);
+            let l = is_named_with_l(m, k);
+            let named = is_named(m, k);
             return application_rule(k, l, named);
         }
     }
@@ -100,8 +182,8 @@ pub fn decide(whom: Subject, code: usize, m: Names) -> Rule
     ensures { λ r. ⌜ ((s : Side) → Tells (s .live) m → r ≡ ruleOn (subjectOf whom) code s) ⌝ }
 {
     if answering::is_link_code(code) {
-        let l = naming::is_named_with_l(m, 0);
-        let named = naming::is_named(m, 0);
+        let l = is_named_with_l(m, 0);
+        let named = is_named(m, 0);
         return bandwidth_rule(code, l, named);
     }
     subject_rule(whom, m)

@@ -23,8 +23,8 @@ use Rattle.grids.specs.Grids.{rowValue, gridValue, setOf, bandwidthOf, topOf, R
 use Rattle.grids.specs.Slots.{linkRows, cell, cellRow}
 use Rattle.grids.specs.declared.Row.the-variants.{Present, Absent}
 use Rattle.grids.proofs.Laws.{row-is, row-present, row-absent, ten, grid-at, row-numbers}
-use Rattle.srlg_bytes.specs.Standing.{srlgTlv, Standing}
-use Rattle.srlg_bytes.proofs.Laws.{standing-on}
+use Rattle.set_bytes.specs.Standing.{srlgTlv, Standing}
+use Rattle.set_bytes.proofs.SrlgLaws.{standing-on}
 use Rattle.set_bytes.specs.Sets.{lowCodes, highCodes, extendedCodes, middleCodes, Among}
 
 -- ---- what the classifier tells of a code

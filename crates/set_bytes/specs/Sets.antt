@@ -7,7 +7,7 @@ use Rattle.linkstate.specs.Lists.{keep}
 use Rattle.linkstate.specs.Kinds.{codes}
 use lib.Dec.{ltb}
 use Rattle.grids.specs.Grids.{Fits}
-use Rattle.srlg_bytes.specs.Standing.{numbersIn, Classes, Standing}
+use Rattle.set_bytes.specs.Standing.{numbersIn, Classes, Standing}
 
 -- L2. The codes at the top of a run that come before the ASLA TLVs and after them.
 abbrev pub lowCodes : List ℕ

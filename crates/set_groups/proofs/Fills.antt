@@ -14,12 +14,11 @@ use Rattle.linkstate.specs.Masks.{inNumber}
 use Rattle.linkstate.specs.Meaning.{Meaning, row}
 use Rattle.masks.specs.Sets.{IsNext, turnedPlace, inSent}
 use Rattle.masks.proofs.Laws.{walk-next, walk-member}
-use Rattle.naming.specs.Names.{inBoth}
+use Rattle.masks.specs.Applications.{inBoth, inPair}
 use Rattle.srlg_sources.specs.Classes.{classOf}
 use Rattle.grids.specs.Grids.{setOf}
 use Rattle.grids.specs.Slots.{slotGrid, slotOf}
 use Rattle.set_groups.specs.Groups.{Group, join, groupsBelow}
-use Rattle.set_groups.specs.Members.{inTurned}
 use Rattle.set_groups.specs.Table.{word, slotIn, classIn, bucketIn, Latest, Chained, tableGroups, Differ, Joined, left, Named, Placed, Gives, Owned, Grouped, Filled}
 use Rattle.set_groups.proofs.Joined.{joins, skips}
 use Rattle.set_groups.proofs.Tlvs.{groups-start}
@@ -27,33 +26,33 @@ use Rattle.set_groups.proofs.Tlvs.{groups-start}
 -- ---- the next named application
 
 module _ (s u : ℕ) where
-  standard-in : (j : ℕ) → j < 64 → inTurned s u j ≡ inNumber s j
-  unfolding inTurned
+  standard-in : (j : ℕ) → j < 64 → inPair s u j ≡ inNumber s j
+  unfolding inPair
   standard-in j h = rw (lt-ltb j 64 h)
 
-  user-in : (j : ℕ) → 64 ≤ j → inTurned s u j ≡ inNumber u (j - 64)
-  unfolding inTurned
+  user-in : (j : ℕ) → 64 ≤ j → inPair s u j ≡ inNumber u (j - 64)
+  unfolding inPair
   user-in j h = rw (le-ltb j 64 h)
 
-  pub next-standard : (from n : ℕ) → IsNext 64 (inNumber s) from n → n < 64 → IsNext 128 (inTurned s u) from n
+  pub next-standard : (from n : ℕ) → IsNext 64 (inNumber s) from n → n < 64 → IsNext 128 (inPair s u) from n
   next-standard from n r l =
       record { low = r .low; high = omega arith; skips = λ j a b. standard-in j (omega arith) ∙ r .skips j a b; there = λ h. standard-in n l ∙ r .there l }
 
-  last : (k : ℕ) → (k < 64 → inNumber u k ≡ true) → 64 + k < 128 → inTurned s u (64 + k) ≡ true
+  last : (k : ℕ) → (k < 64 → inNumber u k ≡ true) → 64 + k < 128 → inPair s u (64 + k) ≡ true
   last k there h = let e : 64 + k - 64 ≡ k = omega arith in user-in (64 + k) (omega arith) ∙ ap (inNumber u) e ∙ there (omega arith)
 
-  pub next-later : (from n k : ℕ) → IsNext 64 (inNumber s) from n → 64 ≤ n → IsNext 64 (inNumber u) 0 k → IsNext 128 (inTurned s u) from (64 + k)
+  pub next-later : (from n k : ℕ) → IsNext 64 (inNumber s) from n → 64 ≤ n → IsNext 64 (inNumber u) 0 k → IsNext 128 (inPair s u) from (64 + k)
   next-later from n k r l q =
       let low = r .low in
       let high = r .high in
       let most = q .high in
       record { low = omega arith; high = omega arith; skips = λ j a b. go j a b (ltb j 64) refl; there = last k (q .there) }
     where
-      go : (j : ℕ) → from ≤ j → j < 64 + k → (b : Bool) → ltb j 64 ≡ b → inTurned s u j ≡ false
+      go : (j : ℕ) → from ≤ j → j < 64 + k → (b : Bool) → ltb j 64 ≡ b → inPair s u j ≡ false
       go j a b true e = let h = ltb-true j 64 e in standard-in j h ∙ r .skips j a (omega arith)
       go j a b false e = let h = ltb-false j 64 e in user-in j h ∙ q .skips (j - 64) (omega arith) (omega arith)
 
-  pub next-user : (from k : ℕ) → 64 ≤ from → IsNext 64 (inNumber u) (from - 64) k → IsNext 128 (inTurned s u) from (64 + k)
+  pub next-user : (from k : ℕ) → 64 ≤ from → IsNext 64 (inNumber u) (from - 64) k → IsNext 128 (inPair s u) from (64 + k)
   next-user from k l q =
       let low = q .low in
       let most = q .high in
@@ -183,11 +182,11 @@ module _ (standard users s u : ℕ) (fs : standard < 2 ^ 64) (fu : users < 2 ^ 6
       go true q = e n (ltb-true n 64 q)
       go false q = let h = ltb-false n 64 q in beyond t n ft h ∙ sym (beyond m (turnedPlace n) fm (high-place n h))
 
-  turned-same : (n : ℕ) → inTurned s u n ≡ inBoth standard users n
-  unfolding inTurned inBoth
+  turned-same : (n : ℕ) → inPair s u n ≡ inBoth standard users n
+  unfolding inPair inBoth
   turned-same n = rw (at-one standard s n fs ft ts, at-one users u (n - 64) fu fv tu)
 
-  pub turned-are : inTurned s u ≡ inBoth standard users
+  pub turned-are : inPair s u ≡ inBoth standard users
   turned-are = fun-ext turned-same
 
 -- ---- the slot and the class of an application

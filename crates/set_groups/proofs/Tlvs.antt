@@ -15,7 +15,7 @@ use Rattle.masks.proofs.Laws.{in-number, size-same, mask-same}
 use Rattle.kinds.proofs.Computing.{computing}
 use Rattle.masks.specs.Sets.{turnedPlace}
 use Rattle.masks.proofs.Steps.{turned-back, turned-below}
-use Rattle.naming.specs.Names.{inBoth}
+use Rattle.masks.specs.Applications.{inBoth}
 use Rattle.set_groups.specs.Groups.{group, valueIn, groupTlv, groupBelow, groupsBelow}
 
 -- ---- an ASLA depends on the 128 applications and the eleven kinds only

@@ -11,7 +11,7 @@ use Rattle.linkstate.specs.Meaning.{Meaning, row}
 use Rattle.linkstate.specs.Export.{tlv, bytesOf, aslaValue, inGroup}
 use Rattle.kinds.specs.Rules.{rowIn}
 use Rattle.masks.specs.Sets.{turnedPlace}
-use Rattle.naming.specs.Names.{inBoth}
+use Rattle.masks.specs.Applications.{inBoth}
 
 -- The values of the set that its members share, kinds ascending, and its members as two masks that are sent, of standard and of user applications.
 pub record Group : Type 0 where

@@ -10,7 +10,3 @@ use Rattle.masks.specs.Sets.{turnedPlace}
 -- An entry with application n as a member more.
 unfoldable pub withMember : List ℕ → ℕ → List ℕ
 withMember h n = asNumber (λ k. inNumber (getD h 0 0) k || eqb (turnedPlace k) n) ∷ asNumber (λ k. inNumber (getD h 1 0) k || eqb (user (turnedPlace k)) n) ∷ getD h 2 0 ∷ []
-
--- The applications of a standard and a user number, application n as 2 to the n: what masks turned hold.
-unfoldable pub inTurned : ℕ → ℕ → ℕ → Bool
-inTurned standard users n = cond (ltb n 64) (inNumber standard n) (inNumber users (n - 64))

@@ -6,10 +6,10 @@ ghost use lib.Dec.{eqb};
 ghost use lib.ListN.{length, replicate};
 ghost use Rattle.linkstate.specs.Masks.{user, asNumber, inNumber};
 ghost use Rattle.masks.specs.Sets.{IsNext, turnedPlace};
-ghost use Rattle.naming.specs.Names.{inBoth};
+ghost use Rattle.masks.specs.Applications.{inBoth, inPair};
 ghost use Rattle.grids.specs.Slots.{slotMark, IsSet, Slots};
 ghost use Rattle.set_groups.specs.Table.{word, slotIn, classIn, nextIn, bucketOf, bucketIn, Same, Tells, Latest, Entries, Chained, Finds, Joined, left, Placed, Filled};
-ghost use Rattle.set_groups.specs.Members.{withMember, inTurned};
+ghost use Rattle.set_groups.specs.Members.{withMember};
 
 // The slot, the class and the next entry that the third number of an entry says.
 pub fn slot_in(x: u64) -> usize
@@ -156,7 +156,7 @@ fn join(
 // The first application of two sets, standard and user, from `from` on, or 128.
 fn next_named(standard: u64, user: u64, from: usize) -> usize
     requires { ⌜ from ≤ 128 ⌝ }
-    ensures { λ r. ⌜ IsNext 128 (inTurned standard user) from r ⌝ }
+    ensures { λ r. ⌜ IsNext 128 (inPair standard user) from r ⌝ }
 {
     if from < 64 {
         let n = masks::next_bit(standard, from as u32);
@@ -178,8 +178,8 @@ fn join_all(
     groups: &mut [[u64; 3]],
     buckets: &mut [u8; 128],
 ) -> usize
-    requires { ⌜ Slots (now run) (now sets) × Placed (now sets) (now own) (inTurned standard user) × (1 + left (inTurned standard user) 1 ≤ length (now groups)) × (now buckets ≡ replicate 128 0) ⌝ }
-    ensures { λ r. ⌜ Filled (now (run .entry)) (now (sets .entry)) (now (own .entry)) (inTurned standard user) (now (groups .exit)) r ⌝ }
+    requires { ⌜ Slots (now run) (now sets) × Placed (now sets) (now own) (inPair standard user) × (1 + left (inPair standard user) 1 ≤ length (now groups)) × (now buckets ≡ replicate 128 0) ⌝ }
+    ensures { λ r. ⌜ Filled (now (run .entry)) (now (sets .entry)) (now (own .entry)) (inPair standard user) (now (groups .exit)) r ⌝ }
 {
     let mut count = 1;
     let mut n = next_named(standard, user, 1);

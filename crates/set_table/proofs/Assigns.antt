@@ -15,11 +15,12 @@ use Rattle.masks.proofs.Steps.{zero-none}
 use Rattle.srlg_ranks.proofs.Bits.{lowest}
 use Rattle.grids.specs.Slots.{cell, IsSet}
 use Rattle.set_table.specs.Marks.{valueMark, valueSize, total, setMark, setSize}
-use Rattle.set_table.specs.Tables.{CellFits, rowValues, Fitting, Summed, Table, slotAt, inPair, Owned, howMany, emptyRow, Assigned, Begun}
+use Rattle.set_table.specs.Tables.{CellFits, rowValues, Fitting, Summed, Table, slotAt, Owned, howMany, emptyRow, Assigned, Begun}
+use Rattle.masks.specs.Applications.{inPair}
 use Rattle.set_table.proofs.Marks.{none-mark, none-size, total-none}
 use Rattle.set_table.proofs.Tables.{value-at, ten-values, no-value}
 use Rattle.set_table.proofs.Bits.{lowestBit, others, bit-low, bit-there, others-less, other-was}
-use Rattle.set_table.proofs.Owns.{placed-here, placed-other, placed-owned}
+use Rattle.set_table.proofs.Owns.{placed-here, placed-other, placed-owned, placed-class}
 use Rattle.set_table.proofs.Named.{pair-low, pair-high}
 
 -- ---- how many there are
@@ -29,7 +30,7 @@ unfolding howMany one
 many-none zero = refl
 many-none (suc k) = ap₂ (λ (x : ℕ) (b : Bool). x + one b) (many-none k) (zero-none k)
 
-many-same : (p q : ℕ → Bool) (k : ℕ) → ((j : ℕ) → j < k → p j ≡ q j) → howMany p k ≡ howMany q k
+pub many-same : (p q : ℕ → Bool) (k : ℕ) → ((j : ℕ) → j < k → p j ≡ q j) → howMany p k ≡ howMany q k
 unfolding howMany
 many-same p q zero h = refl
 many-same p q (suc k) h = ap₂ (λ (x : ℕ) (b : Bool). x + one b) (many-same p q k (λ j l. h j (omega arith))) (h k (omega arith))
@@ -101,6 +102,8 @@ assigning-begin own table base m from o h = record {
     others = λ p e. refl;
     emptied = λ s a b. absurd (omega arith);
     kept = λ s a. refl;
+    classes = λ p. refl;
+    taken = λ s a b. absurd (omega arith);
   };
 }
 
@@ -119,6 +122,8 @@ assigning-end {own} {table} {after} {filled} {base} {m} {x} {from} {k} a e =
         others = λ p h. s .others p (λ n l d. h n l (and-l (inNumber m n) (not (inNumber x n)) d));
         emptied = s .emptied;
         kept = s .kept;
+        classes = s .classes;
+        taken = λ i g h. let t = s .taken i g h in (t .0, t .1, and-l (inNumber m (t .0)) (not (inNumber x (t .0))) (t .2), t .3);
       },
     )
   where
@@ -201,6 +206,15 @@ module _ {own table after filled : List (List ℕ)} {base m x from k : ℕ} (a :
     emptied-next s g h true e = ap (λ (i : ℕ). getD sets′ i []) (eqb-true s k e) ∙ getD-set-same filled k emptyRow [] (room-left room)
     emptied-next s g h false e = let d = eqb-false s k e in getD-set-other filled k s emptyRow [] d ∙ a .is .emptied s g (omega arith)
 
+    taken-next : (s : ℕ) → from ≤ s → s < k + 1 → (b : Bool) → eqb s k ≡ b → (n : ℕ) × (n < 64) × (done m rest n ≡ true) × (slotAt own′ (base + turnedPlace n) ≡ s)
+    taken-next s g h true e = (low, bit-low x some (a .small), low-done, here-slot ∙ sym (eqb-true s k e))
+    taken-next s g h false e =
+        let d = eqb-false s k e in
+        let t = a .is .taken s g (omega arith) in
+        let n = t .0 in
+        let other : n ≡ low → ⊥ = λ i. false≢true (sym (ap not (ap (inNumber x) i ∙ bit-there x some (a .small))) ∙ and-r (inNumber m n) (not (inNumber x n)) (t .2)) in
+        (n, t .1, still-done n (t .2), there-slot n other ∙ t .3)
+
     pub assigning-next : Assigning own table own′ sets′ base m rest from (k + 1)
     assigning-next = record {
       small = omega (arith, others-less x some (a .small), a .small);
@@ -217,6 +231,8 @@ module _ {own table after filled : List (List ℕ)} {base m x from k : ℕ} (a :
             ∙ a .is .others q (λ n l d. h n l (still-done n d));
         emptied = λ s g h. emptied-next s g h (eqb s k) refl;
         kept = λ s h. getD-set-other filled k s emptyRow [] (λ e. let o = a .is .order in omega arith) ∙ a .is .kept s h;
+        classes = λ q. placed-class after (a .is .owned) place place-low k q ∙ a .is .classes q;
+        taken = λ s g h. taken-next s g h (eqb s k) refl;
       };
     }
 
@@ -226,7 +242,7 @@ module _ {own table after filled : List (List ℕ)} {base m x from k : ℕ} (a :
 
 -- ---- both masks
 
-many-split : (p : ℕ → Bool) (n k : ℕ) → howMany p (n + k) ≡ howMany p n + howMany (λ j. p (n + j)) k
+pub many-split : (p : ℕ → Bool) (n k : ℕ) → howMany p (n + k) ≡ howMany p n + howMany (λ j. p (n + j)) k
 unfolding howMany
 many-split p n zero = let e : n + 0 ≡ n = omega arith in ap (howMany p) e ∙ omega arith
 many-split p n (suc k) = let e : n + suc k ≡ suc (n + k) = omega arith in ap (howMany p) e ∙ omega (arith, many-split p n k)
@@ -283,8 +299,15 @@ module _ (standard user : ℕ) {own table mid middle after filled : List (List �
     apart = λ x y g h d e f. apart x y d e f (side x g) (side y h);
     others = λ n h e. keeps n e (side n h);
     emptied = λ s h. empties s h (ltb s j) refl;
+    classes = λ p. b .classes p ∙ a .classes p;
+    taken = λ s g h. takes s g h (ltb s j) refl;
   }
     where
+      takes : (s : ℕ) → 3 ≤ s → s < k → (x : Bool) → ltb s j ≡ x → (n : ℕ) × (n < 128) × (inPair standard user n ≡ true) × (slotAt after (turnedPlace n) ≡ s)
+      takes s g h true e = let t = a .taken s g (ltb-true s j e) in let i = t .1 in (t .0, omega arith, pair-low standard user (t .0) i ∙ t .2, low-slot (t .0) i ∙ t .3)
+      takes s g h false e =
+          let t = b .taken s (ltb-false s j e) h in let i = t .1 in (64 + t .0, omega arith, pair-high standard user (t .0) ∙ t .2, high-slot (64 + t .0) (t .0) refl ∙ t .3)
+
       slots : (n : ℕ) → inPair standard user n ≡ true → Side n → (3 ≤ slotAt after (turnedPlace n)) × (slotAt after (turnedPlace n) < k)
       slots n e (low-side h) =
           let s = a .slots n h (in-low n h e) in

@@ -14,7 +14,8 @@ use Rattle.linkstate.specs.Masks.{inNumber}
 use Rattle.linkstate.proofs.ListLaws.{and-l, and-r}
 use Rattle.srlg_sources.proofs.Joins.{any-split, any-same, any-none, any-some}
 use Rattle.grids.specs.Slots.{cell, IsSet}
-use Rattle.set_table.specs.Tables.{cellOf, first, Table, Given, Value, slotAt, reached, toReached, Free, inPair, reaches, toNamed, Fresh, Slotted, Having, Within}
+use Rattle.set_table.specs.Tables.{cellOf, first, Table, Given, Value, slotAt, reached, toReached, Free, reaches, toNamed, Fresh, Slotted, Having, Within}
+use Rattle.masks.specs.Applications.{inPair}
 use Rattle.set_table.proofs.Tables.{first-none, first-taken, given-none, given-then, given-as}
 use Rattle.set_table.proofs.Bits.{reached-none}
 

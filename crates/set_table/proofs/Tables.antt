@@ -8,13 +8,14 @@ use lib.ListN.{length, getD, set, length-set, List·getD-eq-default}
 use lib.Seq.{getD-set-same, getD-set-other}
 use native.Mathlib.Omega.{arith}
 use borrow.Author.Tests.{eqb-true, eqb-false, eq-eqb, ne-eqb, ltb-true, ltb-false}
+use Rattle.linkstate.specs.Limits.{mostBytes}
 use Rattle.linkstate.specs.Lists.{numbers}
 use Rattle.linkstate.proofs.ListLaws.{and-l, and-r}
 use Rattle.kinds.specs.Rules.{gridCodes, rowIn}
 use Rattle.kinds.proofs.Computing.{computing}
 use Rattle.tlv_bytes.specs.Tlvs.{inTlvs, front, valueAt}
 use Rattle.tlv_bytes.proofs.Laws.{length-value, value-none, front-most}
-use Rattle.grids.specs.Grids.{rowValue, gridValue, RowFits, Fits, Alike, mostBytes}
+use Rattle.grids.specs.Grids.{rowValue, gridValue, RowFits, Fits, Alike}
 use Rattle.grids.specs.Slots.{cell, cellRow, slotGrid, slotValues, slotMark, slotSize, IsSet, Slots}
 use Rattle.grids.proofs.Laws.{row-numbers, slot-row, length-slot}
 use Rattle.srlg_sources.proofs.Marks.{At, here, there, at-row}
@@ -74,28 +75,31 @@ module _ (row : List ℕ) (twelve : length row ≡ 12) (k : ℕ) (low : k < 10) 
   After = enteredRow row k c m z
 
   abbrev one : List ℕ
-  one = set row k c
+  one = set row 10 ((getD row 10 0 + m) % 4294967296)
 
   abbrev two : List ℕ
-  two = set one 10 ((getD row 10 0 + m) % 4294967296)
+  two = set one 11 (getD row 11 0 + z)
+
+  one-length : length one ≡ 12
+  one-length = length-set row 10 _ ∙ twelve
+
+  two-length : length two ≡ 12
+  two-length = length-set one 11 _ ∙ one-length
 
   pub entered-length : length After ≡ 12
-  entered-length = length-set two 11 _ ∙ length-set one 10 _ ∙ length-set row k c ∙ twelve
+  entered-length = length-set two k c ∙ two-length
 
   pub entered-size : getD After 11 0 ≡ getD row 11 0 + z
-  entered-size = getD-set-same two 11 _ 0 (omega (arith, length-set one 10 ((getD row 10 0 + m) % 4294967296), length-set row k c))
+  entered-size = getD-set-other two k 11 c 0 (λ e. omega arith) ∙ getD-set-same one 11 _ 0 (omega (arith, one-length))
 
   pub entered-mark : getD After 10 0 ≡ (getD row 10 0 + m) % 4294967296
-  entered-mark = getD-set-other two 11 10 _ 0 (λ e. omega arith) ∙ getD-set-same one 10 _ 0 (omega (arith, length-set row k c))
-
-  low-cell : (j : ℕ) → j < 10 → getD After j 0 ≡ getD one j 0
-  low-cell j h = getD-set-other two 11 j _ 0 (λ e. omega arith) ∙ getD-set-other one 10 j _ 0 (λ e. omega arith)
+  entered-mark = getD-set-other two k 10 c 0 (λ e. omega arith) ∙ getD-set-other one 11 10 _ 0 (λ e. omega arith) ∙ getD-set-same row 10 _ 0 (omega arith)
 
   pub entered-cell : getD After k 0 ≡ c
-  entered-cell = low-cell k low ∙ getD-set-same row k c 0 (omega arith)
+  entered-cell = getD-set-same two k c 0 (omega (arith, two-length))
 
   pub entered-other : (j : ℕ) → j < 10 → (j ≡ k → ⊥) → getD After j 0 ≡ getD row j 0
-  entered-other j h n = low-cell j h ∙ getD-set-other row k j c 0 n
+  entered-other j h n = getD-set-other two k j c 0 n ∙ getD-set-other one 11 j _ 0 (λ e. omega arith) ∙ getD-set-other row 10 j _ 0 (λ e. omega arith)
 
 module _ (run : List ℕ) where
   pub value-at : (row : List ℕ) (j : ℕ) → j < 10 → getD (rowValues run row) j [] ≡ rowValue run (cellRow (getD row j 0))

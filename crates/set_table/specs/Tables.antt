@@ -5,13 +5,15 @@ use mathlib.Core.List.{List, [], map}
 use Prim.Native.Nat.{ℕ, zero, suc, _+_, _-_, _*_, _/_, _%_, _≤_, _<_}
 use lib.Dec.{eqb, leb, ltb}
 use lib.ListN.{length, getD, set, replicate}
+use Rattle.linkstate.specs.Limits.{mostBytes}
 use Rattle.linkstate.specs.Lists.{any, numbers}
 use Rattle.linkstate.specs.Masks.{one, inNumber}
 use Rattle.masks.specs.Sets.{turnedPlace}
-use Rattle.grids.specs.Grids.{rowValue, mostBytes}
+use Rattle.grids.specs.Grids.{rowValue}
 use Rattle.grids.specs.Slots.{cell, cellRow, IsSet}
 use Rattle.tlv_bytes.specs.Tlvs.{front, valueAt}
 use Rattle.set_table.specs.Marks.{valueMark, setMark, setSize}
+use Rattle.masks.specs.Applications.{inPair}
 
 -- A cell of place and length.
 abbrev pub cellOf : ℕ → ℕ → ℕ
@@ -62,7 +64,7 @@ pub record Value (run : List ℕ) (place n : ℕ) : Type 0 where
 
 -- A row with a value in a cell, and its mark and size; and a table with such a row.
 abbrev pub enteredRow : List ℕ → ℕ → ℕ → ℕ → ℕ → List ℕ
-enteredRow row k c mark size = set (set (set row k c) 10 ((getD row 10 0 + mark) % 4294967296)) 11 (getD row 11 0 + size)
+enteredRow row k c mark size = set (set (set row 10 ((getD row 10 0 + mark) % 4294967296)) 11 (getD row 11 0 + size)) k c
 
 abbrev pub entered : List (List ℕ) → ℕ → ℕ → ℕ → ℕ → ℕ → List (List ℕ)
 entered sets s k c mark size = set sets s (enteredRow (getD sets s []) k c mark size)
@@ -92,9 +94,6 @@ pub record Free (sets own : List (List ℕ)) (base bits k : ℕ) : Type 0 where
   pub apart : (i j : ℕ) → i < 64 → j < 64 → inNumber bits i ≡ true → inNumber bits j ≡ true → slotAt own (base + i) ≡ slotAt own (base + j) → i ≡ j
 
 -- Whether two masks have a place; whether a slot is that of such a place, and what comes to the cells of kind k of such slots.
-unfoldable pub inPair : ℕ → ℕ → ℕ → Bool
-inPair standard user p = cond (ltb p 64) (inNumber standard p) (inNumber user (p - 64))
-
 unfoldable pub reaches : List (List ℕ) → ℕ → ℕ → ℕ → Bool
 reaches own standard user s = any (λ p. inPair standard user p && eqb (slotAt own p) s) (numbers 0 128)
 
@@ -155,11 +154,16 @@ pub record Assigned (own table after filled : List (List ℕ)) (base : ℕ) (d :
   pub others : (p : ℕ) → ((n : ℕ) → n < 64 → d n ≡ true → p ≡ base + turnedPlace n → ⊥) → getD after p [] ≡ getD own p []
   pub emptied : (s : ℕ) → from ≤ s → s < k → getD filled s [] ≡ emptyRow
   pub kept : (s : ℕ) → s < from → getD filled s [] ≡ getD table s []
+  pub classes : (p : ℕ) → getD (getD after p []) 1 0 ≡ getD (getD own p []) 1 0
+  pub taken : (s : ℕ) → from ≤ s → s < k → (n : ℕ) × (n < 64) × (d n ≡ true) × (slotAt after (base + turnedPlace n) ≡ s)
 
--- The applications of two sets have slots from 3 on and below k, one each; those rows and the first three are empty. The other places keep what they have.
+-- The applications of two sets have slots from 3 on and below k, one each, and every such slot is one of theirs; those rows and the first three are empty. The other places keep what
+-- they have, and all keep their classes.
 pub record Begun (own after filled : List (List ℕ)) (standard user k : ℕ) : Type 0 where
   pub owned : Owned after
   pub slots : (n : ℕ) → n < 128 → inPair standard user n ≡ true → (3 ≤ slotAt after (turnedPlace n)) × (slotAt after (turnedPlace n) < k)
   pub apart : (i j : ℕ) → i < 128 → j < 128 → inPair standard user i ≡ true → inPair standard user j ≡ true → slotAt after (turnedPlace i) ≡ slotAt after (turnedPlace j) → i ≡ j
   pub others : (n : ℕ) → n < 128 → inPair standard user n ≡ false → getD after (turnedPlace n) [] ≡ getD own (turnedPlace n) []
   pub emptied : (s : ℕ) → s < k → getD filled s [] ≡ emptyRow
+  pub classes : (p : ℕ) → getD (getD after p []) 1 0 ≡ getD (getD own p []) 1 0
+  pub taken : (s : ℕ) → 3 ≤ s → s < k → (n : ℕ) × (n < 128) × (inPair standard user n ≡ true) × (slotAt after (turnedPlace n) ≡ s)

@@ -9,7 +9,8 @@ ghost use Rattle.linkstate.specs.Masks.{inNumber};
 ghost use Rattle.tlv_bytes.specs.Tlvs.{front, valueAt};
 ghost use Rattle.grids.specs.Slots.{slotSize, IsSet};
 ghost use Rattle.set_table.specs.Marks.{mixed, valueMark};
-ghost use Rattle.set_table.specs.Tables.{cellOf, Table, Given, onlyAt, Value, enteredRow, entered, Entry, toReached, Free, toNamed, Fresh, Slotted, Having, Within, Owned, hasPlace, Gave, howMany, emptyRow, Assigned, inPair, Begun};
+ghost use Rattle.set_table.specs.Tables.{cellOf, Table, Given, onlyAt, Value, enteredRow, entered, Entry, toReached, Free, toNamed, Fresh, Slotted, Having, Within, Owned, hasPlace, Gave, howMany, emptyRow, Assigned, Begun};
+ghost use Rattle.masks.specs.Applications.{inPair};
 
 // The numbers of a part of a run, mixed. A rest of under four bytes is no number.
 fn mix(run: &[u8], place: usize, n: usize) -> u64
@@ -78,9 +79,9 @@ fn enter_row(row: &mut [u32; 12], k: usize, cell: u32, mark: u32, size: u32)
 {
     let m = row[10];
     let z = row[11];
-    row[k] = cell;
     row[10] = join_marks(m, mark);
     row[11] = z + size;
+    row[k] = cell;
 }
 
 // The same for a slot.

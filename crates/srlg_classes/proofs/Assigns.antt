@@ -12,13 +12,13 @@ use Rattle.linkstate.specs.Masks.{inNumber}
 use Rattle.linkstate.proofs.ListLaws.{and-l, and-r, keep-mem, numbers-mem}
 use Rattle.srlg.proofs.Laws.{Order, less, more, same, order}
 use Rattle.masks.proofs.Steps.{zero-none}
-use Rattle.naming.specs.declared.Names.{Names}
+use Rattle.rules.specs.declared.Names.{Names}
 use Rattle.srlg_ranks.specs.Ranks.{inWords}
 use Rattle.srlg_ranks.proofs.Bits.{half-in, even-in, odd-in}
 use Rattle.srlg_sources.specs.Classes.{hasSource, inClass}
 use Rattle.srlg_sources.proofs.Joins.{any-same, any-none, any-out, low-source, high-source, two-words}
-use Rattle.srlg_blocks.specs.Blocks.{sizeOf, naming, inBlock, blockSource, Blocks}
-use Rattle.srlg_blocks.proofs.Sizes.{pair-bits, low-bit, high-bit, size-split, size-same, total-least}
+use Rattle.srlg_table.specs.Blocks.{sizeOf, naming, inBlock, blockSource, Blocks}
+use Rattle.srlg_table.proofs.Sizes.{pair-bits, low-bit, high-bit, size-split, size-same, total-least}
 use Rattle.srlg_table.specs.Tables.{Equal, Rowed, Table, withClass, Given}
 use Rattle.srlg_classes.specs.declared.First.{First}
 use Rattle.srlg_classes.specs.Owned.{classAt, Slots, Gave, without, plain, inNamed, HasBits, Firsts, Assigned, NamedOwn, FirstOwn}

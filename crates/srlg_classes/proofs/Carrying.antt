@@ -24,7 +24,7 @@ use Rattle.key_sort.specs.Keys.{number}
 use Rattle.srlg_sources.specs.Sources.{Small, numbersOf, Ordered}
 use Rattle.srlg_sources.proofs.Joins.{any-same}
 use Rattle.srlg_sources.proofs.Keying.{of-keys}
-use Rattle.srlg_blocks.specs.Blocks.{namedBy, naming}
+use Rattle.srlg_table.specs.Blocks.{namedBy, naming}
 use Rattle.srlg_classes.specs.Owned.{inNamed}
 use Rattle.srlg_classes.specs.Sided.{Sourced, carried, Carried}
 

@@ -17,7 +17,7 @@ use Rattle.masks.proofs.Steps.{zero-none}
 use Rattle.srlg_ranks.specs.Ranks.{inWords}
 use Rattle.srlg_ranks.proofs.Bits.{lowest}
 use Rattle.srlg_sources.proofs.Marks.{At, here, there, at-row}
-use Rattle.srlg_blocks.proofs.Sizes.{low-bit, high-bit}
+use Rattle.srlg_table.proofs.Sizes.{low-bit, high-bit}
 use Rattle.srlg_classes.specs.Owned.{classAt, slotAt, Slots, Gave, inHalf}
 
 pub slots-then : (own mid after : List (List ℕ)) → Slots own mid → Slots mid after → Slots own after

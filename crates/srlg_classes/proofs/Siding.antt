@@ -15,13 +15,14 @@ use Rattle.linkstate.specs.Attributes.{Attribute, ofKind, srlgs, valueOf}
 use Rattle.linkstate.specs.Sides.{Side, names, named, namedWithL, ofLive, generalSet, applicationSet, rsvpTeKind}
 use Rattle.linkstate.proofs.ListLaws.{any-keep, empty-nil}
 use Rattle.masks.specs.Sets.{turnedPlace}
-use Rattle.naming.specs.declared.Names.{Names}
-use Rattle.naming.specs.Names as naming
-use Rattle.naming.specs.Names.{inBoth, Tells}
-use Rattle.naming.proofs.Laws.{side-named, side-flagged}
+use Rattle.rules.specs.declared.Names.{Names}
+use Rattle.rules.specs.Names as naming
+use Rattle.rules.specs.Names.{Tells}
+use Rattle.masks.specs.Applications.{inBoth}
+use Rattle.rules.proofs.NameLaws.{side-named, side-flagged}
 use Rattle.srlg_ranks.specs.Ranks.{keepFrom, inWords, picked}
 use Rattle.srlg_sources.specs.Classes.{classNumbers, Classed, classOf}
-use Rattle.srlg_blocks.proofs.Sizes.{low-bit, high-bit}
+use Rattle.srlg_table.proofs.Sizes.{low-bit, high-bit}
 use Rattle.srlg_table.specs.Tables.{Table}
 use Rattle.srlg_table.proofs.Tabling.{none-row}
 use Rattle.srlg_classes.specs.declared.First.{First}
@@ -184,7 +185,7 @@ module _ (rows : List (List ℕ)) (n words standard user : ℕ) (names-of : Name
   legacy-bits = stays (first .legacy) (inWords (getD rows 0 [])) (firsts .legacy)
 
   module _ (values : List ℕ) (side : Side) (so : Sourced values rows n side) (tells : Tells (side .live) names-of) (short : length values ≤ 64 * words) (few : words ≤ 16) (in-rows : n ≤ length rows)
-      (r : Classes) (is-general : r .general ≡ first .general) (is-rsvp : r .rsvp ≡ rsvpClass names-of own₂ (first .legacy)) where
+      (r : Classes) (is-general : r .general ≡ first .general) (is-rsvp : r .rsvp ≡ rsvpClass names-of own₂ (first .legacy)) (is-count : r .count ≡ count) where
     abbrev LL : ℕ → Bool
     LL a = inWords (names-of .lstandard ∷ names-of .luser ∷ []) (turnedPlace a)
 
@@ -252,8 +253,8 @@ module _ (rows : List (List ℕ)) (n words standard user : ℕ) (names-of : Name
     pub settled : Classified values rows c₂ own₂ (inBoth standard user) side r
     unfolding rsvpClass
     settled =
+        rw is-count
         record {
-          count = count;
           table = table;
           application = λ a p h asked. application a h asked;
           general = rw is-general (general-class values rows n words side names-of so tells short c₂ count (first .general) (stays (first .general) (inWords (getD rows 1 [])) (firsts .general)));
@@ -263,11 +264,11 @@ module _ (rows : List (List ℕ)) (n words standard user : ℕ) (names-of : Name
 -- ---- without numbers
 
 pub settled-none : (rows classes own : List (List ℕ)) (n standard user : ℕ) (names-of : Names) (r : Classes) (values : List ℕ) (side : Side) → length values ≤ 64 * 0 → 0 < length classes → ((a : ℕ) → a < 128 → classAt own a ≡ 0)
-    → r .general ≡ 0 → r .rsvp ≡ 0 → Sourced values rows n side → Tells (side .live) names-of → Classified values rows (set classes 0 none-row) own (inBoth standard user) side r
+    → r .general ≡ 0 → r .rsvp ≡ 0 → r .count ≡ 1 → Sourced values rows n side → Tells (side .live) names-of → Classified values rows (set classes 0 none-row) own (inBoth standard user) side r
 unfolding picked keepFrom
-settled-none rows classes own n standard user names-of r values side short room none eg er so tells =
+settled-none rows classes own n standard user names-of r values side short room none eg er ec so tells =
+    rw ec
     record {
-      count = 1;
       table = classed-none values rows classes (omega arith) room;
       application = λ a p h asked. has-none values rows classes (classOf own a) (srlgs (applicationSet a side)) (class-of-at own a ∙ none (turnedPlace a) (turned-low a h)) room (applied a h);
       general = has-none values rows classes (r .general) (srlgs (generalSet side)) eg room (sym (nothing (inWords (getD rows 1 []))) ∙ so .general);

@@ -5,12 +5,13 @@ use mathlib.Core.List.{List, [], _∷_}
 use Prim.Native.Nat.{ℕ, _+_, _-_, _*_, _≤_, _<_}
 use lib.Dec.{eqb, ltb, leb}
 use lib.ListN.{length, getD}
+use Rattle.linkstate.specs.Limits.{mostSources}
 use Rattle.linkstate.specs.Lists.{numbers, any}
 use Rattle.linkstate.specs.Masks.{inNumber}
-use Rattle.naming.specs.declared.Names.{Names}
+use Rattle.rules.specs.declared.Names.{Names}
 use Rattle.srlg_ranks.specs.Ranks.{inWords}
-use Rattle.srlg_sources.specs.Classes.{mostSources, inClass}
-use Rattle.srlg_blocks.specs.Blocks.{sizeOf, naming, inBlock}
+use Rattle.srlg_sources.specs.Classes.{inClass}
+use Rattle.srlg_table.specs.Blocks.{sizeOf, naming, inBlock}
 use Rattle.srlg_table.specs.declared.Used.{Used}
 use Rattle.srlg_table.specs.Tables.{Equal, Table}
 use Rattle.srlg_classes.specs.declared.First.{First}

@@ -4,6 +4,7 @@ use mathlib.Core.Bool.{Bool, true, false, _&&_}
 use mathlib.Core.List.{List, []}
 use Prim.Native.Nat.{ℕ, _≤_, _<_}
 use lib.ListN.{length, getD}
+use Rattle.linkstate.specs.Limits.{mostSources, mostNumbers}
 use Rattle.linkstate.specs.Lists.{numbers, any, all, member}
 use Rattle.linkstate.specs.Attributes.{srlgs}
 use Rattle.linkstate.specs.Sides.{Side, names, namedWithL, ofLive, generalSet, applicationSet, rsvpTeKind}
@@ -11,8 +12,8 @@ use Rattle.masks.specs.Sets.{turnedPlace}
 use Rattle.srlg.specs.Ascending.{ascending}
 use Rattle.srlg_ranks.specs.Ranks.{keepFrom, inWords, picked}
 use Rattle.srlg_sources.specs.Sources.{inRows, numbersOf}
-use Rattle.srlg_blocks.specs.Blocks.{naming}
-use Rattle.srlg_sources.specs.Classes.{mostSources, mostNumbers, classNumbers, Classed, classOf}
+use Rattle.srlg_table.specs.Blocks.{naming}
+use Rattle.srlg_sources.specs.Classes.{classNumbers, Classed, classOf}
 use Rattle.srlg_classes.specs.declared.Classes.{Classes}
 use Rattle.srlg_classes.specs.Owned.{inNamed}
 
@@ -48,8 +49,7 @@ pub record Has (values : List ℕ) (rows classes : List (List ℕ)) (n c : ℕ) 
 
 -- W2, W3, W4, W8 to W10. The classes of a side's subjects: of the applications that pass a test, RSVP-TE aside, of the general set, and of RSVP-TE.
 pub record Classified (values : List ℕ) (rows classes own : List (List ℕ)) (asked : ℕ → Bool) (side : Side) (r : Classes) : Type 0 where
-  pub count : ℕ
-  pub table : Classed values rows classes count
-  pub application : (a : ℕ) → 0 < a → a < 128 → asked a ≡ true → Has values rows classes count (classOf own a) (srlgs (applicationSet a side))
-  pub general : Has values rows classes count (r .general) (srlgs (generalSet side))
-  pub rsvp : Has values rows classes count (r .rsvp) (srlgs (rsvpTeKind 1096 side))
+  pub table : Classed values rows classes (r .count)
+  pub application : (a : ℕ) → 0 < a → a < 128 → asked a ≡ true → Has values rows classes (r .count) (classOf own a) (srlgs (applicationSet a side))
+  pub general : Has values rows classes (r .count) (r .general) (srlgs (generalSet side))
+  pub rsvp : Has values rows classes (r .count) (r .rsvp) (srlgs (rsvpTeKind 1096 side))

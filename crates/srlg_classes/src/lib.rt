@@ -6,19 +6,21 @@ ghost use mathlib.Core.List.{List, [], _∷_};
 ghost use Prim.Native.Nat.{ℕ, _+_, _*_, _≤_, _<_};
 ghost use lib.ListN.{length, getD};
 ghost use Rattle.linkstate.specs.Sides.{Side};
-ghost use Rattle.naming.specs.Names.{inBoth, Tells};
+ghost use Rattle.rules.specs.Names.{Tells};
+ghost use Rattle.masks.specs.Applications.{inBoth};
 ghost use Rattle.srlg_ranks.specs.Ranks.{inWords};
-ghost use Rattle.srlg_blocks.specs.Blocks.{sizeOf};
+ghost use Rattle.srlg_table.specs.Blocks.{sizeOf};
 ghost use Rattle.srlg_table.specs.Tables.{Rowed, Table};
 ghost use Rattle.srlg_classes.specs.Owned.{classAt, Slots, inHalf, Gave, Firsts, Assigned, NamedOwn, rsvpClass, FirstOwn, Roomy};
 ghost use Rattle.srlg_classes.specs.Sided.{Sourced, Classified};
-use naming::Names;
+use rules::Names;
 use srlg_table::Used;
 
-// The classes of the general set and of RSVP-TE.
+// The classes of the general set and of RSVP-TE, and how many classes there are.
 pub struct Classes {
     pub general: usize,
     pub rsvp: usize,
+    pub count: usize,
 }
 
 // The applications of a mask of 64 bits from `base` on get a class.
@@ -120,10 +122,10 @@ fn give_named(
 {
     let s = masks::without(named.standard, named.lstandard);
     let u = masks::without(named.user, named.luser);
-    if !srlg_blocks::meets(s, u) {
+    if !srlg_table::meets(s, u) {
         return count;
     }
-    let m = srlg_blocks::blocks_of(rows, used.sources, s, u, blocks);
+    let m = srlg_table::blocks_of(rows, used.sources, s, u, blocks);
     assign(rows, used, blocks, m, classes, heads, buckets, own, count)
 }
 
@@ -186,7 +188,7 @@ fn classify_in(
     let mut buckets = [0u8; 128];
     let first = first_classes(rows, used, classes, heads, &mut buckets);
     give_firsts(standard, user, named, first, own);
-    give_named(
+    let count = give_named(
         rows,
         used,
         named,
@@ -200,6 +202,7 @@ fn classify_in(
     Classes {
         general: first.general,
         rsvp: rsvp_class(named, own, first.legacy),
+        count,
     }
 }
 
@@ -278,6 +281,7 @@ pub fn classify(
         return Classes {
             general: 0,
             rsvp: 0,
+            count: 1,
         };
     }
     if classes.len() <= 16 {

@@ -6,16 +6,10 @@ use mathlib.Core.Bool.{Bool, true, false, _&&_}
 use mathlib.Core.List.{List, []}
 use Prim.Native.Nat.{ℕ, _≤_, _<_}
 use lib.ListN.{length, getD}
+use Rattle.linkstate.specs.Limits.{mostSources, mostNumbers}
 use Rattle.linkstate.specs.Lists.{numbers, any}
 use Rattle.masks.specs.Sets.{turnedPlace}
 use Rattle.srlg_ranks.specs.Ranks.{keepFrom, inWords}
-
--- How many sources there can be, and how many numbers a source's words can tell.
-abbrev pub mostSources : ℕ
-mostSources = 128
-
-abbrev pub mostNumbers : ℕ
-mostNumbers = 1024
 
 -- Whether source j is one of a class's.
 unfoldable pub hasSource : List ℕ → ℕ → Bool

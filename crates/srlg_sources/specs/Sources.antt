@@ -5,12 +5,12 @@ use mathlib.Core.List.{List, [], map}
 use Prim.Native.Nat.{ℕ, _+_, _*_, _/_, _≤_, _<_}
 use lib.Dec.{ltb, eqb}
 use lib.ListN.{length, getD, set, take, replicate}
+use Rattle.linkstate.specs.Limits.{mostNumbers}
 use Rattle.linkstate.specs.Lists.{numbers, any, member}
 use Rattle.linkstate.specs.Bytes.{distinct}
 use Rattle.linkstate.specs.Masks.{inNumber}
 use Rattle.srlg_ranks.specs.Ranks.{inWords}
 use Rattle.key_sort.specs.Keys.{number, group}
-use Rattle.srlg_sources.specs.Classes.{mostNumbers}
 
 -- A number of a source as a key: the number in its low 32 bits, the source above them.
 unfoldable pub keyOf : ℕ → ℕ → ℕ

@@ -1,2 +1,6 @@
+pub mod Sizes
+mod Splits
+mod Refines
+pub mod ChainLaws
 mod Words
 pub mod Tabling

@@ -16,8 +16,8 @@ use Rattle.srlg_ranks.proofs.Laws.{keep-same, keep-none}
 use Rattle.srlg_sources.specs.Classes.{hasSource, inClass}
 use Rattle.masks.proofs.Steps.{zero-none}
 use Rattle.srlg_sources.proofs.Joins.{any-none, low-source, high-source, class-words, source-words}
-use Rattle.chains.specs.Chains.{Chain, Search}
-use Rattle.chains.proofs.Laws.{search-start, search-next, search-end, chain-more, chain-none}
+use Rattle.srlg_table.specs.Chains.{Chain, Search}
+use Rattle.srlg_table.proofs.ChainLaws.{search-start, search-next, search-end, chain-more, chain-none}
 use Rattle.srlg_table.specs.Marks.{markOf}
 use Rattle.srlg_table.specs.Tables.{Equal, Counts, Rowed, bucketOf, nextOf, firstOf, Table, Finds, Adds, nothing, another, withClass, Given}
 use Rattle.srlg_table.proofs.Words.{mark-same}

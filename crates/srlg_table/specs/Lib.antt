@@ -1,2 +1,4 @@
+pub mod Blocks
+pub mod Chains
 pub mod Marks
 pub mod Tables

@@ -5,9 +5,10 @@ use mathlib.Core.List.{List, [], _∷_}
 use Prim.Native.Nat.{ℕ, suc, _*_, _%_, _≤_, _<_}
 use lib.Dec.{eqb}
 use lib.ListN.{length, getD, set}
+use Rattle.linkstate.specs.Limits.{mostSources}
 use Rattle.srlg_ranks.specs.Ranks.{keepFrom, inWords}
-use Rattle.srlg_sources.specs.Classes.{mostSources, hasSource, inClass}
-use Rattle.chains.specs.Chains.{Chain}
+use Rattle.srlg_sources.specs.Classes.{hasSource, inClass}
+use Rattle.srlg_table.specs.Chains.{Chain}
 use Rattle.srlg_table.specs.Marks.{markOf}
 
 -- The same bits below n.

@@ -10,7 +10,7 @@ use lib.ListN.{length, getD, take}
 use borrow.Author.Tests.{ne-eqb}
 use lib.Seq.{take-length}
 use Rattle.linkstate.specs.Bytes.{bytesAt}
-use Rattle.linkstate.specs.Replies.{Verdict, accepted, refused, refusedIf, _then_, unless, faultOfCall, fault, whole, pair, bandwidth, part, count, Reply, absent, found, askRefused}
+use Rattle.linkstate.specs.Replies.{Verdict, accepted, refused, refusedIf, _then_, unless, faultOfCall, fault, whole, pair, bandwidth, part, count, Reply, absent, found, askRefused, Run, place}
 use Rattle.linkstate.specs.Attributes.{Attribute, ofKind}
 use Rattle.linkstate.specs.Why.{Why, unlessAskRefused}
 use Rattle.linkstate.specs.Questions.{Source, Subject, generally, standardNo, userNo, numberTooHigh, beforeAnswer, given, answer, ask, value, bytesOfFirst}
@@ -115,23 +115,25 @@ status-3 (askRefused r) m h = absurd (omega arith)
 -- ---- the place of a value
 
 -- The bytes at the place that the value functions tell are those that `value` hands back; where they tell none, it hands back none.
-module _ (s : Source) (whom : Subject) (k : ℕ) where
-  of-first : (p n : ℕ) (ts : List Attribute) → placeWords (s .run) ts ≡ placed 4 p n (s .run) → bytesAt (s .bytes) p n ≡ bytesOfFirst (s .bytes) ts
-  unfolding placeWords bytesOfFirst
+module _ (s : Source) (run : Run) (own : s .spot ≡ place run) (whom : Subject) (k : ℕ) where
+  of-first : (p n : ℕ) (ts : List Attribute) → placeWords (s .spot) ts ≡ placed 4 p n run → bytesAt (s .bytes) p n ≡ bytesOfFirst (s .bytes) ts
+  unfolding placeWords bytesOfFirst place
   of-first p n [] e = absurd (let z : _≡_ {A = ℕ} 0 4 = cc in omega arith)
-  of-first p n (t ∷ ts) e = let x : t .at ≡ p = cc in let y : t .len ≡ n = cc in rw (x, y)
+  of-first p n (t ∷ ts) e =
+      let f = rw own at e in
+      let x : t .at ≡ p = cc in let y : t .len ≡ n = cc in rw (x, y)
 
-  pub value-stands : (p n : ℕ) → valueWords s whom k ≡ placed 4 p n (s .run) → bytesAt (s .bytes) p n ≡ value s whom k
+  pub value-stands : (p n : ℕ) → valueWords s whom k ≡ placed 4 p n run → bytesAt (s .bytes) p n ≡ value s whom k
   unfolding valueWords value unless
   value-stands p n = go (beforeAnswer s whom k) (eqb k 1096)
     where
-      go : (v : Verdict) (b : Bool) → unless v (λ r. nothing) (cond b nothing (placeWords (s .run) (ofKind k (given s whom k)))) ≡ placed 4 p n (s .run)
+      go : (v : Verdict) (b : Bool) → unless v (λ r. nothing) (cond b nothing (placeWords (s .spot) (ofKind k (given s whom k)))) ≡ placed 4 p n run
           → bytesAt (s .bytes) p n ≡ unless v (λ r. []) (cond b [] (bytesOfFirst (s .bytes) (ofKind k (given s whom k))))
       go (refused r) b e = absurd (let z : _≡_ {A = ℕ} 0 4 = cc in omega arith)
       go accepted true e = absurd (let z : _≡_ {A = ℕ} 0 4 = cc in omega arith)
       go accepted false e = of-first p n (ofKind k (given s whom k)) e
 
-  of-none : (ts : List Attribute) → placeWords (s .run) ts ≡ nothing → [] ≡ bytesOfFirst (s .bytes) ts
+  of-none : (ts : List Attribute) → placeWords (s .spot) ts ≡ nothing → [] ≡ bytesOfFirst (s .bytes) ts
   unfolding placeWords bytesOfFirst
   of-none [] e = refl
   of-none (t ∷ ts) e = absurd (let z : _≡_ {A = ℕ} 0 4 = cc in omega arith)
@@ -140,7 +142,7 @@ module _ (s : Source) (whom : Subject) (k : ℕ) where
   unfolding valueWords value unless
   value-none = go (beforeAnswer s whom k) (eqb k 1096)
     where
-      go : (v : Verdict) (b : Bool) → unless v (λ r. nothing) (cond b nothing (placeWords (s .run) (ofKind k (given s whom k)))) ≡ nothing
+      go : (v : Verdict) (b : Bool) → unless v (λ r. nothing) (cond b nothing (placeWords (s .spot) (ofKind k (given s whom k)))) ≡ nothing
           → [] ≡ unless v (λ r. []) (cond b [] (bytesOfFirst (s .bytes) (ofKind k (given s whom k))))
       go (refused r) b e = refl
       go accepted true e = refl

@@ -4,7 +4,7 @@ use mathlib.Core.List.{List, [], _∷_}
 use Prim.Native.Nat.{ℕ, _+_}
 use lib.Dec.{eqb, ltb}
 use Rattle.linkstate.specs.Bytes.{number}
-use Rattle.linkstate.specs.Replies.{Run, runA, runB, runC, runBgpLs, Refusal, unless, Reading, whole, pair, bandwidth, part, count, Reply, absent, found, askRefused, Named, listed, namedRefused, Length, bytes, exportRefused}
+use Rattle.linkstate.specs.Replies.{Run, Place, runA, runB, runC, runBgpLs, Refusal, unless, Reading, whole, pair, bandwidth, part, count, Reply, absent, found, askRefused, Named, listed, namedRefused, Length, bytes, exportRefused}
 use Rattle.linkstate.specs.Attributes.{Attribute, ofKind}
 use Rattle.linkstate.specs.Why.{ruleNumber, Holder, heldAt, legacyIn, nowhere, Why, because, whyRefused}
 use Rattle.linkstate.specs.Questions.{Source, Subject, generally, standardNo, userNo, given, beforeAnswer, ask, value}
@@ -61,12 +61,12 @@ unfoldable pub askWords : Source → Subject → ℕ → List ℕ → List ℕ
 askWords s whom k list = replyWords (number (value s whom k)) ((ask s whom k list) .reply)
 
 -- K6. Where the value stands that a question asks for, and its length; nothing where it is absent, refused, or SRLG.
-unfoldable pub placeWords : Run → List Attribute → List ℕ
-placeWords run [] = nothing
-placeWords run (t ∷ ts) = placed 4 (t .at) (t .len) run
+unfoldable pub placeWords : (ℕ → Place) → List Attribute → List ℕ
+placeWords spot [] = nothing
+placeWords spot (t ∷ ts) = readingWords 0 (part (spot (t .at)) (t .len))
 
 unfoldable pub valueWords : Source → Subject → ℕ → List ℕ
-valueWords s whom k = unless (beforeAnswer s whom k) (λ r. nothing) (cond (eqb k 1096) nothing (placeWords (s .run) (ofKind k (given s whom k))))
+valueWords s whom k = unless (beforeAnswer s whom k) (λ r. nothing) (cond (eqb k 1096) nothing (placeWords (s .spot) (ofKind k (given s whom k))))
 
 -- I5. The named applications; the length of what was written.
 abbrev pub namedWords : Named → List ℕ

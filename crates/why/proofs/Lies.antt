@@ -5,11 +5,11 @@ use mathlib.Core.Bool.{Bool, true, false, cond, _&&_, _||_, not, false≢true}
 use mathlib.Core.List.{List, [], _∷_, _++_, List·Memᴰ, List·Memᴰ·head, List·Memᴰ·tail}
 use Prim.Native.Nat.{ℕ}
 use native.Mathlib.Omega.{arith}
-use borrow.Author.Tests.{eqb-true, eqb-false, ne-eqb}
+use borrow.Author.Tests.{eqb-true, ne-eqb}
 use lib.Dec.{eqb}
 use lib.ListN.{getD}
 use Rattle.linkstate.specs.Lists.{keep, any, each, empty, lookup}
-use Rattle.linkstate.specs.Replies.{Place, place, accepted}
+use Rattle.linkstate.specs.Replies.{Place, accepted}
 use Rattle.linkstate.specs.Bytes.{bytesOfWords, four}
 use Rattle.linkstate.specs.Kinds.{isCode}
 use Rattle.linkstate.specs.Elements.{Element, elements}
@@ -19,16 +19,16 @@ use Rattle.linkstate.specs.Why.{Holder, heldAt, nowhere, Standing, offsetOf, fi
 use Rattle.linkstate.proofs.ListLaws.{keep-mem, each-mem, keep-append, each-append, empty-nil}
 use Rattle.isis.specs.RunA.{sideA}
 use Rattle.isis.specs.Link.{linkVerdict, sideOf}
+use Rattle.isis.proofs.TypeLaws.{none-wrong}
 use Rattle.isis_grids.specs.declared.Which.the-variants.{Naming}
 use Rattle.isis_grids.specs.Grid.{rowOf, firstRow}
 use Rattle.isis_grids.specs.Selected.{selects}
 use Rattle.isis_grids.proofs.Grids.{All}
 use Rattle.isis_grids.proofs.Places.{Stands, First, absent, present, first-of, value-none, live-stands}
-use Rattle.isis_values.proofs.Laws.{none-wrong}
+use Rattle.isis_link.proofs.Checks.{a-passed}
 use Rattle.replies.specs.declared.Run.the-variants.{A}
 use Rattle.why.proofs.Has.{has-live}
 use Rattle.why.proofs.First.{Tied, holder-other}
-use Rattle.why.proofs.Rules.{link-ready-a}
 
 -- ---- the value
 
@@ -36,7 +36,7 @@ use Rattle.why.proofs.Rules.{link-ready-a}
 pub record Lies (s : Standing) (p : Advertisement → Bool) (t : Attribute) (told : Place) (es : List Element) : Type 0 where
   pub holds : Element
   pub there : List·Memᴰ holds es
-  pub offset : told ≡ place (s .run) (offsetOf holds)
+  pub offset : told ≡ s .spot (offsetOf holds)
   pub advertised : Advertisement
   pub live : List·Memᴰ advertised (s .live holds)
   pub passes : p advertised ≡ true
@@ -81,14 +81,14 @@ module _ (s : Standing) (k : ℕ) (other : k ≡ 1096 → ⊥) (p : Advertisemen
           (q .0, r .1, r .0, q .2)
 
   abbrev found : List Element → Holder
-  found es = lookup (λ e. any both (s .live e)) (λ e. heldAt (place (s .run) (offsetOf e))) nowhere es
+  found es = lookup (λ e. any both (s .live e)) (λ e. heldAt (s .spot (offsetOf e))) nowhere es
 
   lies-in : (es : List Element) (ts : List Attribute) → found es ≡ heldAt told → ofAll (each (s .live) es) ≡ t ∷ ts → Lies s p t told es
   unfolding lookup each
   lies-in [] ts h e = absurd (let z : _≡_ {A = ℕ} 0 1 = cc in omega arith)
   lies-in (x ∷ es) ts h e = go (any both (s .live x)) refl h (λ i j. lies-in es ts i j)
     where
-      go : (b : Bool) → any both (s .live x) ≡ b → cond b (heldAt (place (s .run) (offsetOf x))) (found es) ≡ heldAt told
+      go : (b : Bool) → any both (s .live x) ≡ b → cond b (heldAt (s .spot (offsetOf x))) (found es) ≡ heldAt told
           → (found es ≡ heldAt told → ofAll (each (s .live) es) ≡ t ∷ ts → Lies s p t told es) → Lies s p t told (x ∷ es)
       go true i f r =
           let q = head-in (s .live x) (ofAll (each (s .live) es)) ts i (sym (append (s .live x) (each (s .live) es)) ∙ e) in
@@ -130,4 +130,4 @@ rsvp-te-agrees a b c k ok known s e = ap (λ (x : Bool). cond (namedWithL 0 s ||
     go true i = subst (λ (n : ℕ). empty (valueOf n (ofLive (names 0) s)) ≡ not (has n (ofLive (names 0) s))) (sym (eqb-true k 1096 i)) (same-b (ofLive (names 0) s))
     go false i =
         let q : sideA a ≡ s = sym (e ∙ rw i) in
-        same-a a k (ofLive (names 0) s) (subst (λ (r : Side). All (Stands a) (ofLive (names 0) r)) q (live-stands a (link-ready-a a b k known c ok (eqb-false k 1096 i) .0) (Naming 0))) known i
+        same-a a k (ofLive (names 0) s) (subst (λ (r : Side). All (Stands a) (ofLive (names 0) r)) q (live-stands a (a-passed a b c ok) (Naming 0))) known i

@@ -10,23 +10,24 @@ use lib.ListN.{length, drop}
 use Rattle.linkstate.specs.Lists.{any, each, lookup}
 use Rattle.linkstate.specs.Replies as R
 use Rattle.linkstate.specs.Replies.{Verdict, accepted, runA, runB, runBgpLs, place, refusedIf}
-use Rattle.linkstate.specs.Kinds.{isCode, codeOfType}
+use Rattle.linkstate.specs.Kinds.{isCode}
 use Rattle.linkstate.specs.Elements.{Element, element, cut, elements, faults}
 use Rattle.linkstate.specs.Attributes.{Attribute, attribute}
 use Rattle.linkstate.specs.Sides.{Advertisement}
 use Rattle.linkstate.specs.BgpLs as L
 use Rattle.linkstate.specs.Why.{Holder, heldAt, nowhere, offsetOf, first, has}
 use Rattle.linkstate.specs.RunWhy.{standRun}
-use Rattle.linkstate.proofs.Computing.{computing}
+use Rattle.isis_kinds.proofs.Computing.{computing}
 use Rattle.linkstate.proofs.ListLaws.{and-l, and-r, absorb, eqb-sym}
 use Rattle.linkstate.proofs.WalkLaws.{then-first, then-second, not-accepted}
+use Rattle.isis.specs.Types.{codeOfType}
 use Rattle.isis.specs.MaskHeader.{lFlag, headerLength, maskTooLong, lForNobody, advertisement}
 use Rattle.isis.specs.RunA as I
 use Rattle.isis.specs.RunA.{checkA, liveAsla, listElements, aslaAdvertisements, sideA}
 use Rattle.isis.specs.RunB.{afterNeighbour, srlgValues, checkB, liveSrlg, srlgAttribute, srlgAdvertisement, srlgAdvertisements, sideB}
 use Rattle.isis.specs.Why.{standA, standB}
+use Rattle.isis.proofs.TypeLaws.{type-code}
 use Rattle.isis_check_a.proofs.Laws.{sub-tlv-asla}
-use Rattle.isis_grids.proofs.Types.{type-code}
 use Rattle.isis_grids.proofs.Aslas.{headed}
 use Rattle.isis_tlvs_238.proofs.Tlvs.{whole, live-within}
 use Rattle.bgpls_find.proofs.Laws.{sound}

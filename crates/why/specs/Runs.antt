@@ -6,12 +6,14 @@ use Prim.Native.Nat.{ℕ}
 use lib.Dec.{eqb}
 use Rattle.linkstate.specs.Replies.{accepted, runA, runB}
 use Rattle.linkstate.specs.Elements.{elements, faults}
-use Rattle.linkstate.specs.Kinds.{isCode, isLinkCode, codeOfType}
+use Rattle.linkstate.specs.Kinds.{isCode, isLinkCode}
+use Rattle.linkstate.specs.Masks.{user}
 use Rattle.linkstate.specs.Sides.{Advertisement}
 use Rattle.linkstate.specs.BgpLs.{runVerdict}
 use Rattle.linkstate.specs.Questions.{Subject, generally, standardNo, userNo}
 use Rattle.linkstate.specs.Why.{Why, Holder, heldAt, legacyIn, nowhere, Standing, has, subjectWhy, bandwidthWhy}
 use Rattle.linkstate.specs.RunWhy.{standRun, topWhy}
+use Rattle.isis.specs.Types.{codeOfType}
 use Rattle.isis.specs.RunA.{checkA}
 use Rattle.isis.specs.RunB.{checkB}
 use Rattle.isis.specs.Why.{standA, standB, standOf, sideWhy}
@@ -49,6 +51,12 @@ IsType BgpLs t k = t ≡ k
 -- A test, and that there is a value of a kind.
 unfoldable pub withKind : Test → ℕ → Advertisement → Bool
 withKind test k d = passing test d && has k (d .attributes)
+
+-- The number of an application among both kinds; the general set has none.
+unfoldable pub numberOf : Subject → ℕ
+numberOf generally = 0
+numberOf (standardNo n) = n
+numberOf (userNo n) = user n
 
 unfoldable pub isRsvpTe : Subject → Bool
 isRsvpTe generally = false

@@ -2,29 +2,35 @@
 // Any bytes, any subject and any code are taken; every refusal is a question's own.
 ghost use mathlib.Core.Path.{_≡_};
 ghost use mathlib.Core.Bool.{true, false};
-ghost use mathlib.Core.List.{List};
+ghost use mathlib.Core.List.{List, []};
 ghost use Prim.Native.Nat.{ℕ};
-ghost use lib.Dec.{eqb};
-ghost use Rattle.linkstate.specs.Replies.{accepted};
-ghost use Rattle.linkstate.specs.Kinds.{isCode, codeOfType};
+ghost use Rattle.linkstate.specs.Replies.{accepted, runB};
+ghost use Rattle.linkstate.specs.Elements.{elements, faults};
+ghost use Rattle.linkstate.specs.Kinds.{isCode};
 ghost use Rattle.linkstate.specs.Questions.{numberTooHigh};
-ghost use Rattle.linkstate.specs.BgpLs.{runVerdict};
-ghost use Rattle.linkstate.specs.Why.{_orElse_, first, holder, legacyWhy, applicationWhy, rsvpTeWhy, subjectWhy, carriedWhy, bandwidthWhy};
+ghost use Rattle.linkstate.specs.BgpLs.{runVerdict, runSide};
+ghost use Rattle.linkstate.specs.Why.{first, holder, legacyWhy, carriedWhy};
 ghost use Rattle.linkstate.specs.RunWhy.{topWhy, runWhy};
-ghost use Rattle.isis.specs.Link.{linkVerdict};
-ghost use Rattle.isis.specs.Why.{sideWhy, linkWhy};
-ghost use Rattle.replies.specs.Told.{toldHolder, toldWhy, subjectOf};
+ghost use Rattle.isis.specs.RunB.{checkB, sideB};
+ghost use Rattle.isis.specs.Why.{linkWhy};
+ghost use Rattle.replies.specs.Told.{toldHolder, toldRule, toldWhy, subjectOf};
+ghost use Rattle.rules.specs.Names.{Tells};
+ghost use Rattle.linkstate.specs.Sides.{named, namedWithL};
+ghost use Rattle.rules.specs.Rules.{applicationRule, subjectRule};
+ghost use Rattle.isis_link.specs.Asked.{AskedInA};
 ghost use Rattle.advertisements.specs.Tests.{passing};
-ghost use Rattle.why.specs.Runs.{isHeld, standing, Ready, IsType, withKind, isRsvpTe, linkAnswer, runAnswer};
+ghost use Rattle.why.specs.Runs.{isHeld, standing, Ready, IsType, withKind, numberOf, isRsvpTe, linkAnswer, runAnswer};
+ghost use Rattle.why.specs.Rules.{generalRule, namingWhy, namingFirstWhy, legacyFirstWhy, whyBy, bandwidthBy};
 use advertisements::Test;
 use advertisements::first_such;
-use kinds::Kind;
+use isis_check::LinkChecked;
 use replies::Checked;
 use replies::Holder;
 use replies::Rule;
 use replies::Run;
 use replies::Subject;
 use replies::Why;
+use rules::Names;
 
 // ---- the advertisement
 
@@ -38,38 +44,13 @@ fn is_found(h: Holder) -> bool
     }
 }
 
-fn or_else(h: Holder, other: Holder) -> Holder
-    ensures { λ r. ⌜ toldHolder r ≡ (toldHolder h orElse toldHolder other) ⌝ }
-{
-    match h {
-        Holder::At(_) => h,
-        Holder::Legacy(_) => h,
-        Holder::Nowhere => other,
-    }
-}
-
-// The type of a code in run A.
-fn type_of_code(code: usize) -> u8
-    requires { ⌜ (isCode code ≡ true) × (eqb code 1096 ≡ false) ⌝ }
-    ensures { λ r. ⌜ codeOfType r ≡ code ⌝ }
-{
-    let kind = kinds::classify_code(code).kind;
-    match kind {
-        Kind::Link(_) => (code - 1080) as u8,
-        Kind::Application(k) => isis_grids::type_of(k),
-        Kind::Srlg => 0,
-        Kind::Asla => 0,
-        Kind::Unknown => 0,
-    }
-}
-
 // The type of a code in the lists of a run.
 fn type_in(s: &[u8], run: Run, code: usize) -> usize
     requires { ⌜ Ready run (now s) code ⌝ }
     ensures { λ r. ⌜ IsType run r code ⌝ }
 {
     match run {
-        Run::A => type_of_code(code) as usize,
+        Run::A => isis_grids::type_of(code) as usize,
         Run::B => code,
         Run::C => code,
         Run::BgpLs => code,
@@ -117,43 +98,52 @@ fn legacy_why(run: Run) -> Why
     }
 }
 
-// An application other than RSVP-TE: named with L, named, or neither, so that the general set counts.
-fn application_why(s: &[u8], run: Run, n: u32, code: usize) -> Why
-    requires { ⌜ Ready run (now s) code ⌝ }
-    ensures { λ r. ⌜ toldWhy r ≡ applicationWhy n code (standing run (now (s .entry))) ⌝ }
+// The number of an application among both kinds; the general set has none.
+fn number_of(whom: Subject) -> u32
+    requires { ⌜ numberTooHigh (subjectOf whom) ≡ false ⌝ }
+    ensures { λ r. ⌜ r ≡ numberOf (subjectOf whom) ⌝ }
 {
-    let l = first_such(s, run, Test::WithL(n), 0);
-    if is_found(l) {
-        return Why::Because {
-            rule: Rule::ByL,
-            holder: l,
-        };
+    match whom {
+        Subject::General => 0,
+        Subject::Standard(n) => n,
+        Subject::User(n) => 64 + n,
     }
-    let f = first_such(s, run, Test::Names(n), 0);
-    if !is_found(f) {
+}
+
+// The rule that is told where the general ones count.
+fn general_rule(whom: Subject) -> Rule
+    ensures { λ r. ⌜ toldRule r ≡ generalRule (subjectOf whom) ⌝ }
+{
+    match whom {
+        Subject::General => Rule::General,
+        Subject::Standard(_) => Rule::Unnamed,
+        Subject::User(_) => Rule::Unnamed,
+    }
+}
+
+// Those that name an application: the one that holds the value, else the first.
+fn naming_why(s: &[u8], run: Run, n: u32, code: usize) -> Why
+    requires { ⌜ Ready run (now s) code ⌝ }
+    ensures { λ r. ⌜ toldWhy r ≡ namingWhy n code (standing run (now (s .entry))) ⌝ }
+{
+    let h = holder_of(s, run, Test::Names(n), code);
+    if is_found(h) {
         return Why::Because {
-            rule: Rule::Unnamed,
-            holder: holder_of(s, run, Test::General, code),
+            rule: Rule::Named,
+            holder: h,
         };
     }
     Why::Because {
         rule: Rule::Named,
-        holder: or_else(holder_of(s, run, Test::Names(n), code), f),
+        holder: first_such(s, run, Test::Names(n), 0),
     }
 }
 
-// RSVP-TE: named with L; else those that name it, where they have the kind; otherwise legacy.
-fn rsvp_te_why(s: &[u8], run: Run, code: usize) -> Why
+// Those that name RSVP-TE, where they have the kind, else legacy.
+fn naming_first_why(s: &[u8], run: Run, code: usize) -> Why
     requires { ⌜ Ready run (now s) code ⌝ }
-    ensures { λ r. ⌜ toldWhy r ≡ rsvpTeWhy code (standing run (now (s .entry))) ⌝ }
+    ensures { λ r. ⌜ toldWhy r ≡ namingFirstWhy code (standing run (now (s .entry))) ⌝ }
 {
-    let l = first_such(s, run, Test::WithL(0), 0);
-    if is_found(l) {
-        return Why::Because {
-            rule: Rule::ByL,
-            holder: l,
-        };
-    }
     let h = holder_of(s, run, Test::Names(0), code);
     if !is_found(h) {
         return legacy_why(run);
@@ -164,33 +154,23 @@ fn rsvp_te_why(s: &[u8], run: Run, code: usize) -> Why
     }
 }
 
-fn is_rsvp_te(whom: Subject) -> bool
-    ensures { λ r. ⌜ r ≡ isRsvpTe (subjectOf whom) ⌝ }
-{
-    match whom {
-        Subject::General => false,
-        Subject::Standard(n) => n == 0,
-        Subject::User(_) => false,
-    }
-}
-
-// A subject, where RSVP-TE's answer is known.
-fn subject_why(s: &[u8], run: Run, whom: Subject, code: usize, rsvp: Why) -> Why
+// By the rule of a subject: for an L-flag the first that names it so, else the one that holds the value.
+fn why_by(s: &[u8], run: Run, rule: rules::Rule, whom: Subject, code: usize) -> Why
     requires { ⌜ Ready run (now s) code × (numberTooHigh (subjectOf whom) ≡ false) ⌝ }
-    ensures { λ r. ⌜ toldWhy r ≡ subjectWhy (toldWhy rsvp) (subjectOf whom) code (standing run (now (s .entry))) ⌝ }
+    ensures { λ r. ⌜ toldWhy r ≡ whyBy rule (subjectOf whom) code (standing run (now (s .entry))) ⌝ }
 {
-    match whom {
-        Subject::General => Why::Because {
-            rule: Rule::General,
+    match rule {
+        rules::Rule::ByL => Why::Because {
+            rule: Rule::ByL,
+            holder: first_such(s, run, Test::WithL(number_of(whom)), 0),
+        },
+        rules::Rule::Naming(n) => naming_why(s, run, n, code),
+        rules::Rule::General => Why::Because {
+            rule: general_rule(whom),
             holder: holder_of(s, run, Test::General, code),
         },
-        Subject::Standard(n) => {
-            if n == 0 {
-                return rsvp;
-            }
-            application_why(s, run, n, code)
-        }
-        Subject::User(n) => application_why(s, run, 64 + n, code),
+        rules::Rule::NamingFirst => naming_first_why(s, run, code),
+        _ => legacy_why(run),
     }
 }
 
@@ -202,17 +182,6 @@ fn top_why() -> Why
         rule: Rule::Top,
         holder: Holder::Nowhere,
     }
-}
-
-// A subject's kind on a side of a link.
-fn side_why(s: &[u8], run: Run, whom: Subject, code: usize) -> Why
-    requires { ⌜ Ready run (now s) code × (numberTooHigh (subjectOf whom) ≡ false) ⌝ }
-    ensures { λ r. ⌜ toldWhy r ≡ sideWhy (subjectOf whom) code (standing run (now (s .entry))) ⌝ }
-{
-    if is_rsvp_te(whom) {
-        return rsvp_te_why(s, run, code);
-    }
-    subject_why(s, run, whom, code, top_why())
 }
 
 // A bandwidth that an ASLA which passes gives, else legacy.
@@ -230,48 +199,97 @@ fn carried_why(a: &[u8], test: Test, code: usize) -> Why
     }
 }
 
-fn bandwidth_why(a: &[u8], code: usize) -> Why
+// Legacy, if it has the kind, else an ASLA without L that has it.
+fn legacy_first_why(a: &[u8], code: usize) -> Why
     requires { ⌜ Ready Run.A (now a) code ⌝ }
-    ensures { λ r. ⌜ toldWhy r ≡ bandwidthWhy code (standing Run.A (now (a .entry))) ⌝ }
+    ensures { λ r. ⌜ toldWhy r ≡ legacyFirstWhy code (standing Run.A (now (a .entry))) ⌝ }
 {
-    if code == 1089 {
-        if advertisements::has_kind(a, Run::A, 9) {
-            return legacy_why(Run::A);
-        }
-        return carried_why(a, Test::WithoutL, code);
-    }
-    if is_found(first_such(a, Run::A, Test::WithL(0), 0)) {
+    if advertisements::has_kind(a, Run::A, type_in(a, Run::A, code)) {
         return legacy_why(Run::A);
     }
-    carried_why(a, Test::RsvpTeAlone, code)
+    carried_why(a, Test::WithoutL, code)
+}
+
+// By the rule of a bandwidth of the link; an L-flag is not told.
+fn bandwidth_why(a: &[u8], rule: rules::Rule, code: usize) -> Why
+    requires { ⌜ Ready Run.A (now a) code ⌝ }
+    ensures { λ r. ⌜ toldWhy r ≡ bandwidthBy rule code (standing Run.A (now (a .entry))) ⌝ }
+{
+    match rule {
+        rules::Rule::LegacyFirst => legacy_first_why(a, code),
+        rules::Rule::AloneFirst => carried_why(a, Test::RsvpTeAlone, code),
+        _ => legacy_why(Run::A),
+    }
 }
 
 // ---- the entries
 
-fn why_of_link(a: &[u8], b: &[u8], whom: Subject, code: usize) -> Why
-    requires { ⌜ ((c : List ℕ) × (linkVerdict (now a) (now b) c ≡ accepted)) × (numberTooHigh (subjectOf whom) ≡ false) × (isCode code ≡ true) ⌝ }
-    ensures { λ r. ⌜ ((c : List ℕ) → toldWhy r ≡ linkAnswer (now (a .entry)) (now (b .entry)) c (subjectOf whom) code) ⌝ }
+// A subject's kind on side A, by whom it names.
+fn why_in_a(a: &[u8], whom: Subject, code: usize, m: Names) -> Why
+    requires { ⌜ AskedInA (now a) (subjectOf whom) code m ⌝ }
+    ensures { λ r. ⌜ ((b c : List ℕ) → toldWhy r ≡ linkAnswer (now (a .entry)) b c (subjectOf whom) code) ⌝ }
 {
+    let rule = rules::decide(whom, code, m);
     if answering::is_link_code(code) {
-        return bandwidth_why(a, code);
+        return bandwidth_why(a, rule, code);
     }
-    if code == 1096 {
-        return side_why(b, Run::B, whom, code);
-    }
-    side_why(a, Run::A, whom, code)
+    why_by(a, Run::A, rule, whom, code)
+}
+
+// SRLG, by whom side B names.
+fn why_in_b(b: &[u8], whom: Subject, m: Names) -> Why
+    requires { ⌜ (faults runB checkB (elements 1 0 (now b)) ≡ accepted) × (numberTooHigh (subjectOf whom) ≡ false) × Tells ((sideB (now b) []) .live) m ⌝ }
+    ensures { λ r. ⌜ ((a c : List ℕ) → toldWhy r ≡ linkAnswer a (now (b .entry)) c (subjectOf whom) 1096) ⌝ }
+{
+    why_by(b, Run::B, rules::decide(whom, 1096, m), whom, 1096)
 }
 
 // Why a link gives a subject what it gives of a kind.
 pub fn link_why(a: &[u8], b: &[u8], c: &[u8], whom: Subject, code: usize) -> Why
     ensures { λ r. ⌜ toldWhy r ≡ linkWhy (now (a .entry)) (now (b .entry)) (now (c .entry)) (subjectOf whom) code ⌝ }
 {
-    match answering::check_question(whom, code) {
-        Checked::Refused(x) => return Why::Refused(x),
-        Checked::Accepted => {}
+    match isis_link::check_asked(a, b, c, whom, code) {
+        LinkChecked::Refused(x) => Why::Refused(x),
+        LinkChecked::Accepted(names) => {
+            if code == 1096 {
+                let m = names.b;
+                return why_in_b(b, whom, m);
+            }
+            let m = names.a;
+            return why_in_a(a, whom, code, m);
+        }
     }
-    match isis_check::check_link(a, b, c) {
-        Checked::Refused(x) => Why::Refused(x),
-        Checked::Accepted => why_of_link(a, b, whom, code),
+}
+
+// The rule of an application, and of a subject other than RSVP-TE, in a BGP-LS run, where nothing has L.
+fn named_rule(r: &[u8], n: u32) -> rules::Rule
+    requires { ⌜ runVerdict (now r) ≡ accepted ⌝ }
+    ensures { λ x. ⌜ x ≡ applicationRule n (namedWithL n (runSide (now (r .entry)))) (named n (runSide (now (r .entry)))) ⌝ }
+{
+    if is_found(first_such(r, Run::BgpLs, Test::Names(n), 0)) {
+        return rules::Rule::Naming(n);
+    }
+    rules::Rule::General
+}
+
+fn run_rule(r: &[u8], whom: Subject) -> rules::Rule
+    requires { ⌜ (runVerdict (now r) ≡ accepted) × (numberTooHigh (subjectOf whom) ≡ false) × (isRsvpTe (subjectOf whom) ≡ false) ⌝ }
+    ensures { λ x. ⌜ x ≡ subjectRule (subjectOf whom) (runSide (now (r .entry))) ⌝ }
+{
+    match whom {
+        Subject::General => rules::Rule::General,
+        Subject::Standard(n) => named_rule(r, n),
+        Subject::User(n) => named_rule(r, 64 + n),
+    }
+}
+
+fn is_rsvp_te(whom: Subject) -> bool
+    ensures { λ r. ⌜ r ≡ isRsvpTe (subjectOf whom) ⌝ }
+{
+    match whom {
+        Subject::General => false,
+        Subject::Standard(n) => n == 0,
+        Subject::User(_) => false,
     }
 }
 
@@ -282,7 +300,10 @@ fn why_of_run(r: &[u8], whom: Subject, code: usize) -> Why
     if answering::is_link_code(code) {
         return top_why();
     }
-    subject_why(r, Run::BgpLs, whom, code, top_why())
+    if is_rsvp_te(whom) {
+        return top_why();
+    }
+    why_by(r, Run::BgpLs, run_rule(r, whom), whom, code)
 }
 
 // Why a BGP-LS run gives a subject what it gives of a kind.

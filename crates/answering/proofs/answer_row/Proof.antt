@@ -1,6 +1,6 @@
 -- A row is absent, or read by its code's form.
 use Rattle.answering.proofs.Laws.{row-absent, row-found}
-use Rattle.readings.specs.Standing.{Readable}
+use Rattle.answering.specs.Standing.{Readable}
 use Rattle.linkstate.specs.Kinds.{Form}
 use mathlib.Core.Path.{sym, subst}
 use borrow.Author.Needs.{needs}

@@ -2,7 +2,7 @@
 use Rattle.bgpls_find.proofs.Laws.{head-fits, whole-here, others-pass, first-end, first-here, first-later}
 use Rattle.bgpls_find.specs.Sets.{foundIn}
 use Rattle.bgpls_find.specs.Walks.{anyElement}
-use Rattle.bgpls_check.proofs.Laws.{IsWhole, from-start}
+use Rattle.frames.proofs.Laws.{IsWhole, from-start}
 use Rattle.linkstate.proofs.WalkLaws.{left}
 use Rattle.linkstate.specs.BgpLs.{attributesOf}
 use Rattle.linkstate.specs.Attributes.{ofKind}
@@ -48,13 +48,13 @@ type k = k .before .read16 .result
 abbrev size : Known → ℕ
 size k = k .read162 .result
 
-whole : (k : Known) → IsWhole (list k) (place k) (type k) (size k)
+whole : (k : Known) → IsWhole 2 (list k) (place k) (type k) (size k)
 whole k = whole-here anyElement (start k) (list k) (place k) (k .before .before .loop-test .taken) (k .before .before .before .loop .inv .1) (type k) (size k) (k .before .read16 .ensures .0) (k .read162 .ensures .0)
 
 loop-holds : tie.Need-loop-holds Inv-loop μ-loop
 loop-holds c =
     let a = c .before .args in
-    let e = from-start (a .base) (a .s .now) in
+    let e = from-start 2 (a .base) (a .s .now) in
     (omega arith, ap (faults runBgpLs anyElement) e ∙ c .before .pre .1, ap (λ (es : List Element). foundIn (ofKind (a .code) (each attributesOf es))) e)
 
 read16-requires : tie.Need-read16-requires Inv-loop μ-loop

@@ -3,7 +3,8 @@ use Rattle.bgpls_find.proofs.Laws.{head-fits, whole-here, left-passes, 
 use Rattle.bgpls_find.proofs.SetLaws.{no-part, asla-part}
 use Rattle.bgpls_find.specs.Walks.{Passes, IsAsla, aslasFrom}
 use Rattle.bgpls_find.specs.declared.Set.{Set}
-use Rattle.bgpls_check.proofs.Laws.{IsWhole, header-size, part-length}
+use Rattle.frames.proofs.Laws.{IsWhole, part-length}
+use Rattle.bgpls_check.proofs.Laws.{header-size}
 use Rattle.bgpls_check.specs.declared.AslaHeader.{AslaHeader}
 use Rattle.octets.proofs.Laws.{part-is}
 use Rattle.linkstate.specs.BgpLs.{sabmLength, udabmLength, aslaHeader, checkTop}
@@ -53,7 +54,7 @@ size k = k .read162 .result
 passes : (k : Known) → Passes (run k) (place k)
 passes k = k .before .before .before .loop .inv .2
 
-whole : (k : Known) → IsWhole (run k) (place k) (type k) (size k)
+whole : (k : Known) → IsWhole 2 (run k) (place k) (type k) (size k)
 whole k = whole-here checkTop 0 (run k) (place k) (k .before .before .loop-test .taken) (left-passes (run k) (place k) (passes k)) (type k) (size k) (k .before .read16 .ensures .0) (k .read162 .ensures .0)
 
 -- What is_chosen answered.

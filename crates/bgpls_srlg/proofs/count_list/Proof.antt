@@ -3,7 +3,7 @@ use Rattle.bgpls_srlg.proofs.Laws.{wordsLeft, words-start, words-turn, 
 use Rattle.bgpls_srlg.specs.Words.{listWords, elementWords}
 use Rattle.bgpls_find.proofs.Laws.{head-fits, whole-here, others-pass}
 use Rattle.bgpls_find.specs.Walks.{anyElement}
-use Rattle.bgpls_check.proofs.Laws.{IsWhole, part-length, from-start}
+use Rattle.frames.proofs.Laws.{IsWhole, part-length, from-start}
 use Rattle.linkstate.proofs.WalkLaws.{left}
 use Rattle.linkstate.specs.Elements.{faults}
 use Rattle.linkstate.specs.Replies.{accepted, runBgpLs}
@@ -42,7 +42,7 @@ type k = k .before .read16 .result
 abbrev size : Known → ℕ
 size k = k .read162 .result
 
-whole : (k : Known) → IsWhole (list k) (place k) (type k) (size k)
+whole : (k : Known) → IsWhole 2 (list k) (place k) (type k) (size k)
 whole k =
     let l = k .before .before .before .loop in
     whole-here anyElement _ (list k) (place k) (k .before .before .loop-test .taken) (l .inv .3 .1) (type k) (size k) (k .before .read16 .ensures .0) (k .read162 .ensures .0)
@@ -58,7 +58,7 @@ turn : (k : Known) → wordsLeft (list k) (place k) ≡ here k ++ others k
 turn k = words-turn (list k) (place k) (type k) (size k) (whole k)
 
 loop-holds : tie.Need-loop-holds Inv-loop μ-loop
-loop-holds c = let s = c .before .args .s .now in (omega arith, omega arith, count-start (listWords s) (wordsLeft s 0) (words-start s), (c .before .pre .0, ap (faults runBgpLs anyElement) (from-start (c .before .pre .0) s) ∙ c .before .pre .1))
+loop-holds c = let s = c .before .args .s .now in (omega arith, omega arith, count-start (listWords s) (wordsLeft s 0) (words-start s), (c .before .pre .0, ap (faults runBgpLs anyElement) (from-start 2 (c .before .pre .0) s) ∙ c .before .pre .1))
 
 read16-requires : tie.Need-read16-requires Inv-loop μ-loop
 read16-requires c κs = omega (arith, head-fits anyElement _ _ _ (c .loop-test .taken) (c .before .loop .inv .3 .1))

@@ -3,7 +3,7 @@ use Rattle.bgpls_srlg.proofs.Laws.{wordsLeft, words-start, words-turn, 
 use Rattle.bgpls_srlg.specs.Words.{listWords, elementWords}
 use Rattle.bgpls_find.proofs.Laws.{head-fits, whole-here, others-pass}
 use Rattle.bgpls_find.specs.Walks.{anyElement}
-use Rattle.bgpls_check.proofs.Laws.{IsWhole, from-start}
+use Rattle.frames.proofs.Laws.{IsWhole, from-start}
 use Rattle.linkstate.proofs.WalkLaws.{left}
 use Rattle.linkstate.specs.Elements.{faults}
 use Rattle.linkstate.specs.Replies.{accepted, runBgpLs}
@@ -42,7 +42,7 @@ type k = k .before .read16 .result
 abbrev size : Known → ℕ
 size k = k .read162 .result
 
-whole : (k : Known) → IsWhole (list k) (place k) (type k) (size k)
+whole : (k : Known) → IsWhole 2 (list k) (place k) (type k) (size k)
 whole k =
     let l = k .before .before .before .loop in
     whole-here anyElement _ (list k) (place k) (k .before .before .loop-test .taken) (l .inv .2 .1) (type k) (size k) (k .before .read16 .ensures .0) (k .read162 .ensures .0)
@@ -61,7 +61,7 @@ loop-holds : tie.Need-loop-holds Inv-loop μ-loop
 loop-holds c =
     let a = c .before .before .args in
     let p = c .before .before .pre in
-    (omega arith, written-start (a .out .now) (a .start) (listWords (a .s .now)) (wordsLeft (a .s .now) 0) (words-start (a .s .now)) (p .0), (p .1 .0, ap (faults runBgpLs anyElement) (from-start (p .1 .0) (a .s .now)) ∙ p .1 .1))
+    (omega arith, written-start (a .out .now) (a .start) (listWords (a .s .now)) (wordsLeft (a .s .now) 0) (words-start (a .s .now)) (p .0), (p .1 .0, ap (faults runBgpLs anyElement) (from-start 2 (p .1 .0) (a .s .now)) ∙ p .1 .1))
 
 read16-requires : tie.Need-read16-requires Inv-loop μ-loop
 read16-requires c κs = omega (arith, head-fits anyElement _ _ _ (c .loop-test .taken) (c .before .loop .inv .2 .1))

@@ -2,10 +2,12 @@
 use mathlib.Core.Path.{_≡_, sym, _∙_}
 use Prim.Native.Nat.{_≤_, _+_, _-_}
 use native.Mathlib.Omega.{arith}
-use lib.ListN.{length}
+use lib.ListN.{length, getD}
+use denote.Ref.{now}
 use borrow.Author.Needs.{needs}
 use Rattle.linkstate.specs.Replies.{runA}
-use Rattle.naming.proofs.Laws.{checks-as}
+use Rattle.rules.proofs.NameLaws.{checks-as}
+use Rattle.frames.proofs.Laws.{IsWhole, is-whole-one}
 use Rattle.isis.specs.RunA.{checkA, aslaAdvertisements, sideA}
 use Rattle.isis_check_a.proofs.Naming.{Walked, walked-start, walked-cut, walked-end, walked-on, walked-refused, asla-checks, legacy-wrong, legacy-over}
 use Rattle.isis_check_a.proofs.check_a.Statement.{statement}
@@ -23,50 +25,64 @@ nobody-requires c κs = search needs
 loop-holds : tie.Need-loop-holds Inv-loop μ-loop
 loop-holds c = (omega arith, walked-start runA checkA aslaAdvertisements _ _ (c .nobody .ensures))
 
-add-loop : tie.Need-add-loop Inv-loop μ-loop
-add-loop c = search needs
+frame-one-requires : tie.Need-frame-one-requires Inv-loop μ-loop
+frame-one-requires c κs = search needs
 
-add-n : tie.Need-add-n Inv-loop μ-loop
-add-n c = search needs
+enum-told : tie.Need-enum-told Inv-loop μ-loop
+enum-told c = search needs
 
-shared-slice-read-n : tie.Need-shared-slice-read-n Inv-loop μ-loop
-shared-slice-read-n c = omega arith
+returns : tie.Need-returns Inv-loop μ-loop
+unfolding sideA
+returns c = let l = c .before .before .before in
+    walked-end runA checkA aslaAdvertisements _ _ _ (l .loop .inv .1) (sym (c .before .before .frame-one .ensures) ∙ c .enum-told .given .1)
 
-cast-n : tie.Need-cast-n Inv-loop μ-loop
-cast-n c = omega (arith, c .shared-slice-known2 .given (c .before .before .loop .at + 1))
-
-add-next : tie.Need-add-next Inv-loop μ-loop
-add-next c = search needs
-
-add-next-2 : tie.Need-add-next-2 Inv-loop μ-loop
-add-next-2 c = omega (arith, c .shared-slice-known2 .given (c .before .before .loop .at + 1))
+enum-told-2 : tie.Need-enum-told-2 Inv-loop μ-loop
+enum-told-2 c = search needs
 
 refuse-requires : tie.Need-refuse-requires Inv-loop μ-loop
 refuse-requires c κs = search needs
 
-returns : tie.Need-returns Inv-loop μ-loop
+returns-2 : tie.Need-returns-2 Inv-loop μ-loop
 unfolding sideA
-returns c = let l = c .before .before .before .before in checks-as (walked-cut runA checkA aslaAdvertisements _ (l .loop .at) _ (l .loop .inv .1) (omega arith) (omega arith)) (c .refuse .ensures .0 _)
+returns-2 c = let l = c .before .before .before .before in
+    let e = sym (c .before .before .before .frame-one .ensures) ∙ c .before .enum-told2 .given .1 in
+    checks-as (walked-cut runA checkA aslaAdvertisements _ _ _ (l .loop .inv .1) e) (c .refuse .ensures .0 _)
 
-shared-slice-read-if2 : tie.Need-shared-slice-read-if2 Inv-loop μ-loop
-shared-slice-read-if2 c = omega arith
+enum-known-len : tie.Need-enum-known-len Inv-loop μ-loop
+enum-known-len c = search needs
+
+-- the element is whole
+whole : (k : tie.After-known-told Inv-loop μ-loop) → let l = k .before .before .before .before in
+    let a = now (l .before .before .before .args .a) in IsWhole 1 a (l .loop .at) (getD a (l .loop .at) 0) (k .before .len .given .0 .1 .0)
+whole k = is-whole-one _ _ _ _ (sym (k .before .before .before .frame-one .ensures) ∙ k .before .len .given .1)
+
+add-next : tie.Need-add-next Inv-loop μ-loop
+add-next c = let f = whole c in omega arith
+
+add-next-2 : tie.Need-add-next-2 Inv-loop μ-loop
+add-next-2 c = let f = whole c in omega arith
+
+shared-slice-read-if1 : tie.Need-shared-slice-read-if1 Inv-loop μ-loop
+shared-slice-read-if1 c = let f = whole (c .before) in omega arith
 
 check-asla-requires : tie.Need-check-asla-requires Inv-loop μ-loop
-check-asla-requires c κs = (omega arith, omega arith, c .before .before .before .before .before .before .before .before .pre)
+check-asla-requires c κs = let k = c .before .before in
+    let f = whole k in (omega arith, omega arith, k .before .before .before .before .before .before .before .pre)
 
 enum-known-r : tie.Need-enum-known-r Inv-loop μ-loop
 enum-known-r c = search needs
 
-returns-2 : tie.Need-returns-2 Inv-loop μ-loop
+returns-3 : tie.Need-returns-3 Inv-loop μ-loop
 unfolding sideA
-returns-2 c = let l = c .before .before .before .before .before .before .before .before .before in
-    walked-refused runA checkA aslaAdvertisements _ (l .loop .at) _ (l .loop .inv .1) (omega arith) _ (asla-checks _ _ _ _ _ (omega arith) (c .before .before .before .check-asla .ensures)) _ (c .before .r .given .1)
+returns-3 c = let k = c .before .before .before .before .before .before in
+    walked-refused runA checkA aslaAdvertisements _ _ _ (k .before .before .before .before .loop .inv .1) _ (whole k) _
+    (asla-checks _ _ _ _ _ (omega arith) (c .before .before .before .check-asla .ensures)) _ (c .before .r .given .1)
 
 enum-known-all : tie.Need-enum-known-all Inv-loop μ-loop
 enum-known-all c = search needs
 
 shared-slice-read-wrong-length : tie.Need-shared-slice-read-wrong-length Inv-loop μ-loop
-shared-slice-read-wrong-length c = omega arith
+shared-slice-read-wrong-length c = let f = whole (c .before .before .before) in omega arith
 
 wrong-length-requires : tie.Need-wrong-length-requires Inv-loop μ-loop
 wrong-length-requires c κs = search needs
@@ -74,35 +90,31 @@ wrong-length-requires c κs = search needs
 refuse-requires-2 : tie.Need-refuse-requires-2 Inv-loop μ-loop
 refuse-requires-2 c κs = search needs
 
-returns-3 : tie.Need-returns-3 Inv-loop μ-loop
-unfolding sideA
-returns-3 c = let l = c .before .before .before .before .before .before .before .before .before in
-    checks-as (legacy-wrong _ (l .loop .at) _ (l .loop .inv .1) (omega arith) (λ e. omega (arith, e)) (sym (c .before .before .wrong-length .ensures) ∙ c .before .if3 .taken)) (c .refuse2 .ensures .0 _)
-
-loop-less : tie.Need-loop-less Inv-loop μ-loop
-loop-less c = omega arith
-
-loop-again : tie.Need-loop-again Inv-loop μ-loop
-loop-again c = let l = c .before .before .before .before .before .before .before .before .before in
-    (omega arith, walked-on runA checkA aslaAdvertisements _ (l .loop .at) _ (l .loop .inv .1) (omega arith) _ (asla-checks _ _ _ _ _ (omega arith) (c .before .before .before .check-asla .ensures)) _ (c .before .all .given .1))
-
-loop-less-2 : tie.Need-loop-less-2 Inv-loop μ-loop
-loop-less-2 c = omega arith
-
-loop-again-2 : tie.Need-loop-again-2 Inv-loop μ-loop
-loop-again-2 c = let l = c .before .before .before .before .before .before .before .before in
-    (omega arith, legacy-over _ (l .loop .at) _ (l .loop .inv .1) (omega arith) (λ e. omega (arith, e)) (sym (c .before .wrong-length .ensures) ∙ c .if3 .left))
-
-refuse-requires-3 : tie.Need-refuse-requires-3 Inv-loop μ-loop
-refuse-requires-3 c κs = search needs
-
 returns-4 : tie.Need-returns-4 Inv-loop μ-loop
 unfolding sideA
-returns-4 c = let l = c .before .before .before in checks-as (walked-cut runA checkA aslaAdvertisements _ (l .loop .at) _ (l .loop .inv .1) (omega arith) (omega arith)) (c .refuse3 .ensures .0 _)
+returns-4 c = let k = c .before .before .before .before .before .before in
+    let e = sym (c .before .before .wrong-length .ensures) ∙ c .before .if2 .taken in
+    checks-as (legacy-wrong _ _ _ (k .before .before .before .before .loop .inv .1) _ (whole k) (λ i. omega (arith, i)) e) (c .refuse2 .ensures .0 _)
 
-returns-5 : tie.Need-returns-5 Inv-loop μ-loop
-unfolding sideA
-returns-5 c = let l = c .before .before in walked-end runA checkA aslaAdvertisements _ (l .loop .at) _ (l .loop .inv .1) (omega arith)
+loop-less : tie.Need-loop-less Inv-loop μ-loop
+loop-less c = let f = whole (c .before .before .before .before .before .before) in omega arith
+
+loop-again : tie.Need-loop-again Inv-loop μ-loop
+loop-again c = let k = c .before .before .before .before .before .before in (
+  whole k .within,
+  walked-on runA checkA aslaAdvertisements _ _ _ (k .before .before .before .before .loop .inv .1) _ (whole k) _
+      (asla-checks _ _ _ _ _ (omega arith) (c .before .before .before .check-asla .ensures)) _ (c .before .all .given .1),
+)
+
+loop-less-2 : tie.Need-loop-less-2 Inv-loop μ-loop
+loop-less-2 c = let f = whole (c .before .before .before .before .before) in omega arith
+
+loop-again-2 : tie.Need-loop-again-2 Inv-loop μ-loop
+loop-again-2 c = let k = c .before .before .before .before .before in (
+  whole k .within,
+  legacy-over _ _ _ (k .before .before .before .before .loop .inv .1) _ (whole k) (λ e. omega (arith, e))
+      (sym (c .before .wrong-length .ensures) ∙ c .if2 .left),
+)
 
 pub check-a-spec : {M : Type 1} → statement M
 check-a-spec =
@@ -112,27 +124,25 @@ check-a-spec =
     μ-loop
     nobody-requires
     loop-holds
-    add-loop
-    add-n
-    shared-slice-read-n
-    cast-n
+    frame-one-requires
+    enum-told
+    returns
+    enum-told-2
+    refuse-requires
+    returns-2
+    enum-known-len
     add-next
     add-next-2
-    refuse-requires
-    returns
-    shared-slice-read-if2
+    shared-slice-read-if1
     check-asla-requires
     enum-known-r
-    returns-2
+    returns-3
     enum-known-all
     shared-slice-read-wrong-length
     wrong-length-requires
     refuse-requires-2
-    returns-3
+    returns-4
     loop-less
     loop-again
     loop-less-2
-    loop-again-2
-    refuse-requires-3
-    returns-4
-    returns-5)
+    loop-again-2)

@@ -1,6 +1,6 @@
 -- Mask by mask; with L twice.
 use mathlib.Core.Path.{refl}
-use Rattle.naming.proofs.Laws.{adds-l, adds-plain}
+use Rattle.rules.proofs.NameLaws.{adds-l, adds-plain}
 use borrow.Author.Needs.{needs}
 use Rattle.isis_check_a.proofs.names_with.Statement.{statement}
 use Rattle.isis_check_a.proofs.names_with.Tie as tie

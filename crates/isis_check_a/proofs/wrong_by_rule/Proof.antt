@@ -4,7 +4,7 @@ use mathlib.Core.Path.{ap, sym, _∙_}
 use borrow.Author.Needs.{needs}
 use Rattle.kinds.specs.Rules.{fitsIn}
 use Rattle.kinds.specs.declared.Rule.{Rule}
-use Rattle.kinds.proofs.Laws.{wrong-in-a}
+use Rattle.isis_kinds.proofs.Laws.{wrong-in-a}
 use Rattle.isis_check_a.proofs.wrong_by_rule.Statement.{statement}
 use Rattle.isis_check_a.proofs.wrong_by_rule.Tie as tie
 

@@ -4,7 +4,7 @@ use mathlib.Core.Path.{sym}
 use lib.Dec.{eqb}
 use borrow.Author.Tests.{eqb-true}
 use Rattle.linkstate.proofs.ListLaws.{and-l, and-r}
-use Rattle.kinds.proofs.Laws.{four-in-a, three-in-a, eight-in-a}
+use Rattle.isis_kinds.proofs.Laws.{four-in-a, three-in-a, eight-in-a}
 use borrow.Author.Needs.{needs}
 use Rattle.isis_check_a.proofs.wrong_length.Statement.{statement}
 use Rattle.isis_check_a.proofs.wrong_length.Tie as tie

@@ -1,6 +1,6 @@
--- `isis_export::export_few` meets its contract.
-use Rattle.isis_export.proofs.Laws.{holds-of}
+-- `isis_export::export_few` meets its contract: its tables have room. Assumes nothing.
 use mathlib.Core.Path.{refl}
+use Rattle.isis_export.proofs.Tables.{few-room}
 use borrow.Author.Needs.{needs}
 use Rattle.isis_export.proofs.export_few.Statement.{statement}
 use Rattle.isis_export.proofs.export_few.Tie as tie
@@ -14,8 +14,11 @@ slice-aggregate-export-with-2 c = search needs
 slice-aggregate-export-with-3 : tie.Need-slice-aggregate-export-with-3
 slice-aggregate-export-with-3 c = search needs
 
+slice-aggregate-export-with-4 : tie.Need-slice-aggregate-export-with-4
+slice-aggregate-export-with-4 c = search needs
+
 export-with-requires : tie.Need-export-with-requires
-export-with-requires c κs = let p = c .before .before .before .before .before .before .before .before .before .before .before .before .before .pre in (p .0, p .1, holds-of 12 _ _ _ _ (p .2) refl refl refl)
+export-with-requires c κs = let p = c .before .before .before .before .before .before .before .before .pre in (p .0, few-room (p .0 .2) (p .1) _ _ _ _ refl refl refl refl refl)
 
 same-length : tie.Need-same-length
 same-length c = search needs
@@ -30,6 +33,7 @@ export-few-spec =
     slice-aggregate-export-with
     slice-aggregate-export-with-2
     slice-aggregate-export-with-3
+    slice-aggregate-export-with-4
     export-with-requires
     same-length
     returns)

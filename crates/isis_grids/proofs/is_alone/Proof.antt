@@ -1,5 +1,4 @@
 -- RSVP-TE's bit first, then the numbers of the two masks.
-use mathlib.Core.Path.{_∙_}
 use native.Mathlib.Omega.{arith}
 use borrow.Author.Tests.{not-true}
 use Rattle.isis_grids.proofs.Taken.{two-bytes, masks-fit, lent-short, not-first, not-alone, alone-if}

@@ -4,10 +4,10 @@ use Rattle.isis_grids.proofs.Aslas.{asla-headed, list-other, list-part-
 use Rattle.isis_grids.proofs.Walks.{left-all, inside, rest-ok}
 use Rattle.isis_grids.specs.Selected.{selects, selected}
 use Rattle.isis_grids.specs.Grid.{rowOf}
+use Rattle.isis.specs.Types.{codeOfType}
 use Rattle.isis.specs.RunA.{checkA, sideA}
 use Rattle.linkstate.proofs.WalkLaws.{left}
 use Rattle.linkstate.specs.Sides.{ofLive}
-use Rattle.linkstate.specs.Kinds.{codeOfType}
 use Rattle.linkstate.specs.Elements.{Element, faults}
 use Rattle.linkstate.specs.Replies.{accepted, runA}
 use Rattle.linkstate.specs.Lists.{each}

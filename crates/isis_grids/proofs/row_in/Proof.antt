@@ -2,7 +2,7 @@
 use Rattle.isis_grids.proofs.Rows.{row-end, row-found, row-next}
 use Rattle.isis_grids.proofs.Walks.{left-all, inside, rest-ok}
 use Rattle.isis_grids.specs.Grid.{rowOf, unchecked}
-use Rattle.linkstate.specs.Kinds.{codeOfType}
+use Rattle.isis.specs.Types.{codeOfType}
 use Rattle.isis.specs.RunA.{attributesOf}
 use Rattle.linkstate.proofs.WalkLaws.{left}
 use Rattle.linkstate.specs.Elements.{Element, elements, faults}

@@ -4,10 +4,12 @@ use mathlib.Core.Path.{_∙_, ap}
 use denote.Ref.{now}
 use lib.ListN.{getD}
 use Prim.Native.Nat.{ℕ}
-use Rattle.linkstate.specs.Kinds.{codeOfType, linkCodes}
+use Rattle.linkstate.specs.Kinds.{linkCodes}
+use Rattle.isis.specs.Types.{codeOfType}
+use Rattle.isis_kinds.proofs.Laws.{kind-read}
 use Rattle.set_table.specs.Tables.{cellOf}
 use Rattle.isis_index.specs.Index.{owning, heard}
-use Rattle.isis_index.proofs.Codes.{kind-read, value-grid, value-link}
+use Rattle.isis_index.proofs.Codes.{value-grid, value-link}
 use Rattle.isis_index.proofs.Cells.{maximum-only, unheard-link, nothing}
 use Rattle.isis_index.proofs.Heard.{heard-legacy, heard-without, heard-alone, alone-link, for-only, for-named, for-none}
 use borrow.Author.Needs.{needs}
@@ -86,14 +88,17 @@ returns-4 c = let s = c .before .before .before .before .before .before .before 
     λ v. for-named (now (a .a)) (now (a .own)) (now (a .sets)) (now (a .have)) _ (s .pre .0) (a .standard) (a .user) (a .t) (a .place) (a .n) v (s .pre .2) _ (k .0) (k .1) _ (r .0) (r .1) (r .2 (owning (now (a .own))) (s .pre .0 .ground .slotted) (s .pre .0 .having) (s .pre .2))
 
 returns-5 : tie.Need-returns-5
-returns-5 c = let a = c .before .before .before .before .args in absurd (kind-read (a .t) _ _ (c .before .before .classify-type .ensures) (c .enum-told .given .1))
+returns-5 c = let a = c .before .before .before .before .args in
+    absurd (kind-read (a .t) _ _ (c .before .before .classify-type .ensures) (c .enum-told .given .1))
 
 returns-6 : tie.Need-returns-6
-returns-6 c = let s = c .before .before .before .before in let a = s .args in let k = kind-read (a .t) _ _ (c .before .before .classify-type .ensures) (c .enum-told2 .given .1) in
+returns-6 c = let s = c .before .before .before .before in let a = s .args in
+    let k = kind-read (a .t) _ _ (c .before .before .classify-type .ensures) (c .enum-told2 .given .1) in
     λ v. for-none (now (a .a)) (now (a .own)) (now (a .sets)) (now (a .have)) (s .pre .0) (a .standard) (a .user) (a .t) (a .place) (a .n) v (λ x w. nothing (now (a .own)) (codeOfType (a .t)) (cellOf (a .place) (a .n)) (heard (a .standard) (a .user)) k x w)
 
 returns-7 : tie.Need-returns-7
-returns-7 c = let s = c .before .before .before .before in let a = s .args in let k = kind-read (a .t) _ _ (c .before .before .classify-type .ensures) (c .enum-told3 .given .1) in
+returns-7 c = let s = c .before .before .before .before in let a = s .args in
+    let k = kind-read (a .t) _ _ (c .before .before .classify-type .ensures) (c .enum-told3 .given .1) in
     λ v. for-none (now (a .a)) (now (a .own)) (now (a .sets)) (now (a .have)) (s .pre .0) (a .standard) (a .user) (a .t) (a .place) (a .n) v (λ x w. nothing (now (a .own)) (codeOfType (a .t)) (cellOf (a .place) (a .n)) (heard (a .standard) (a .user)) k x w)
 
 pub enter-for-spec : {M : Type 1} → statement M

@@ -4,10 +4,12 @@ use mathlib.Core.Path.{_∙_, ap}
 use denote.Ref.{now}
 use lib.ListN.{getD}
 use Prim.Native.Nat.{ℕ}
-use Rattle.linkstate.specs.Kinds.{codeOfType, linkCodes}
+use Rattle.linkstate.specs.Kinds.{linkCodes}
+use Rattle.isis.specs.Types.{codeOfType}
+use Rattle.isis_kinds.proofs.Laws.{kind-read}
 use Rattle.set_table.specs.Tables.{cellOf}
 use Rattle.isis_index.specs.Index.{heardByAll}
-use Rattle.isis_index.proofs.Codes.{kind-read, value-grid, value-link}
+use Rattle.isis_index.proofs.Codes.{value-grid, value-link}
 use Rattle.isis_index.proofs.Cells.{general-grid, maximum-only, unheard-link, nothing, took-only, took-none, a-set, all-without, all-legacy, all-alone}
 use borrow.Author.Needs.{needs}
 use Rattle.isis_index.proofs.enter_general.Statement.{statement}
@@ -29,7 +31,7 @@ enum-known-kind-2 c = search needs
 enter-one-requires : tie.Need-enter-one-requires
 enter-one-requires c κs = let s = c .before .before .before .before .before .before in
     let k = kind-read (s .args .t) _ _ (c .before .before .before .before .classify-type .ensures) (c .before .before .kind2 .given .1) in
-    (s .pre .0, a-set 0 (s .pre .1) (omega arith), k .0, value-grid (s .pre .2) _ (k .0) (k .1))
+    (s .pre .0, a-set _ (s .pre .1) (omega arith), k .0, value-grid (s .pre .2) _ (k .0) (k .1))
 
 enum-told : tie.Need-enum-told
 enum-told c = search needs
@@ -65,14 +67,17 @@ returns-3 c = let s = c .before .before .before .before .before .before .before 
     λ v. took-only (now (a .a)) (now (a .sets)) _ heardByAll (a .t) (a .place) (a .n) v 0 _ (omega arith) (r .0) (r .1) (λ owns x w. general-grid owns (codeOfType (a .t)) (cellOf (a .place) (a .n)) _ (k .0) (k .1) x w)
 
 returns-4 : tie.Need-returns-4
-returns-4 c = let a = c .before .before .before .before .args in absurd (kind-read (a .t) _ _ (c .before .before .classify-type .ensures) (c .enum-told .given .1))
+returns-4 c = let a = c .before .before .before .before .args in
+    absurd (kind-read (a .t) _ _ (c .before .before .classify-type .ensures) (c .enum-told .given .1))
 
 returns-5 : tie.Need-returns-5
-returns-5 c = let s = c .before .before .before .before in let a = s .args in let k = kind-read (a .t) _ _ (c .before .before .classify-type .ensures) (c .enum-told2 .given .1) in
+returns-5 c = let s = c .before .before .before .before in let a = s .args in
+    let k = kind-read (a .t) _ _ (c .before .before .classify-type .ensures) (c .enum-told2 .given .1) in
     λ v. took-none (now (a .a)) (now (a .sets)) heardByAll (a .t) (a .place) (a .n) v (s .pre .0) (λ owns x w. nothing owns (codeOfType (a .t)) (cellOf (a .place) (a .n)) heardByAll k x w)
 
 returns-6 : tie.Need-returns-6
-returns-6 c = let s = c .before .before .before .before in let a = s .args in let k = kind-read (a .t) _ _ (c .before .before .classify-type .ensures) (c .enum-told3 .given .1) in
+returns-6 c = let s = c .before .before .before .before in let a = s .args in
+    let k = kind-read (a .t) _ _ (c .before .before .classify-type .ensures) (c .enum-told3 .given .1) in
     λ v. took-none (now (a .a)) (now (a .sets)) heardByAll (a .t) (a .place) (a .n) v (s .pre .0) (λ owns x w. nothing owns (codeOfType (a .t)) (cellOf (a .place) (a .n)) heardByAll k x w)
 
 pub enter-general-spec : {M : Type 1} → statement M

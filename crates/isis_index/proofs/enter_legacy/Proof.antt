@@ -1,11 +1,11 @@
 -- `isis_index::enter_legacy` meets its contract, kind by kind. Assumes nothing.
-use Prim.Native.Nat.{_+_}
 use native.Mathlib.Omega.{arith}
 use denote.Ref.{now}
-use Rattle.linkstate.specs.Kinds.{codeOfType}
+use Rattle.isis.specs.Types.{codeOfType}
+use Rattle.isis_kinds.proofs.Laws.{kind-read}
 use Rattle.set_table.specs.Tables.{cellOf}
 use Rattle.isis_index.specs.Index.{fromLegacy}
-use Rattle.isis_index.proofs.Codes.{kind-read, value-grid, value-link}
+use Rattle.isis_index.proofs.Codes.{value-grid, value-link}
 use Rattle.isis_index.proofs.Cells.{legacy-grid, legacy-link, nothing, took-only, took-none, a-set}
 use borrow.Author.Needs.{needs}
 use Rattle.isis_index.proofs.enter_legacy.Statement.{statement}
@@ -58,14 +58,17 @@ returns-2 c = let s = c .before .before .before .before .before .before .before 
     λ v. took-only (now (a .a)) (now (a .sets)) _ fromLegacy (a .t) (a .place) (a .n) v 1 _ (omega arith) (r .0) (r .1) (λ owns x w. legacy-grid owns (codeOfType (a .t)) (cellOf (a .place) (a .n)) _ (k .0) (k .1) x w)
 
 returns-3 : tie.Need-returns-3
-returns-3 c = let a = c .before .before .before .before .args in absurd (kind-read (a .t) _ _ (c .before .before .classify-type .ensures) (c .enum-told .given .1))
+returns-3 c = let a = c .before .before .before .before .args in
+    absurd (kind-read (a .t) _ _ (c .before .before .classify-type .ensures) (c .enum-told .given .1))
 
 returns-4 : tie.Need-returns-4
-returns-4 c = let s = c .before .before .before .before in let a = s .args in let k = kind-read (a .t) _ _ (c .before .before .classify-type .ensures) (c .enum-told2 .given .1) in
+returns-4 c = let s = c .before .before .before .before in let a = s .args in
+    let k = kind-read (a .t) _ _ (c .before .before .classify-type .ensures) (c .enum-told2 .given .1) in
     λ v. took-none (now (a .a)) (now (a .sets)) fromLegacy (a .t) (a .place) (a .n) v (s .pre .0) (λ owns x w. nothing owns (codeOfType (a .t)) (cellOf (a .place) (a .n)) fromLegacy k x w)
 
 returns-5 : tie.Need-returns-5
-returns-5 c = let s = c .before .before .before .before in let a = s .args in let k = kind-read (a .t) _ _ (c .before .before .classify-type .ensures) (c .enum-told3 .given .1) in
+returns-5 c = let s = c .before .before .before .before in let a = s .args in
+    let k = kind-read (a .t) _ _ (c .before .before .classify-type .ensures) (c .enum-told3 .given .1) in
     λ v. took-none (now (a .a)) (now (a .sets)) fromLegacy (a .t) (a .place) (a .n) v (s .pre .0) (λ owns x w. nothing owns (codeOfType (a .t)) (cellOf (a .place) (a .n)) fromLegacy k x w)
 
 pub enter-legacy-spec : {M : Type 1} → statement M

@@ -1,10 +1,10 @@
 -- SRLGs of side B, every other kind of side A.
 use Rattle.isis_link.proofs.Laws.{passed, srlg-of-link}
-use Rattle.isis_values.proofs.Checks.{asked-in-a}
+use Rattle.isis_link.proofs.Checks.{asked-in-a}
 use Rattle.answering.proofs.Entries.{answer-srlg, answer-other}
 use Rattle.isis.specs.Link.{linkSource}
 use Rattle.replies.specs.Told.{subjectOf}
-use Rattle.linkstate.specs.Replies.{runA}
+use Rattle.linkstate.specs.Replies.{runA, place}
 use borrow.Author.Tests.{ne-eqb}
 use borrow.Author.Needs.{needs}
 use Rattle.isis_link.proofs.answer_accepted.Statement.{statement}
@@ -18,7 +18,7 @@ same-length c = search needs
 
 returns : tie.Need-returns
 returns c = let a = c .before .before .before .before .before .before .before .before .before .before .args in
-    answer-srlg (linkSource (a .a .now) (a .b .now) (a .c .now)) (subjectOf (a .whom)) _ runA _ _ (c .before .before .before .before .before .if1 .taken)
+    answer-srlg (linkSource (a .a .now) (a .b .now) (a .c .now)) (subjectOf (a .whom)) _ (place runA) _ _ (c .before .before .before .before .before .if1 .taken)
     (srlg-of-link (a .a .now) (a .b .now) (a .c .now) (subjectOf (a .whom)) _ _ (c .before .before .answer-srlg .ensures))
 
 answer-value-requires : tie.Need-answer-value-requires
@@ -26,7 +26,7 @@ answer-value-requires c κs = asked-in-a _ _ _ _ _ _ (c .before .before .before 
 
 returns-2 : tie.Need-returns-2
 returns-2 c = let a = c .before .before .before .before .before .before .before .args in
-    answer-other (linkSource (a .a .now) (a .b .now) (a .c .now)) (subjectOf (a .whom)) _ runA _ _ (c .before .before .if1 .left) (c .answer-value .ensures (a .b .now) (a .c .now))
+    answer-other (linkSource (a .a .now) (a .b .now) (a .c .now)) (subjectOf (a .whom)) _ (place runA) _ _ (c .before .before .if1 .left) (c .answer-value .ensures (a .b .now) (a .c .now))
 
 pub answer-accepted-spec : {M : Type 1} → statement M
 answer-accepted-spec =

@@ -1,5 +1,5 @@
 -- Refused before the answer, or answered.
-use Rattle.isis_values.proofs.Checks.{asked-refused, asked-passed, asked-with}
+use Rattle.isis_link.proofs.Checks.{asked-refused, asked-passed, asked-with}
 use Rattle.isis_link.proofs.Laws.{answered}
 use Rattle.answering.proofs.Entries.{ask-refused}
 use Rattle.isis.specs.Link.{linkSource}

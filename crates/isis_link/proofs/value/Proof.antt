@@ -1,6 +1,6 @@
 -- Nothing where it is refused or SRLG, else the part that was found.
 use Rattle.isis_link.proofs.Laws.{source-bytes}
-use Rattle.isis_values.proofs.Checks.{asked-refused, asked-passed, asked-with, asked-in-a}
+use Rattle.isis_link.proofs.Checks.{asked-refused, asked-passed, asked-with, asked-in-a}
 use Rattle.answering.proofs.Entries.{value-refused, value-srlg, value-part}
 use Rattle.isis.specs.Link.{linkSource}
 use Rattle.replies.specs.Told.{subjectOf}

@@ -5,7 +5,7 @@ use denote.Ref.{now}
 use native.Mathlib.Omega.{arith}
 use Rattle.isis.specs.MaskHeader.{headerLength}
 use Rattle.isis_check_a.specs.declared.Header.{Header}
-use Rattle.isis_check_b.proofs.SrlgLaws.{length-byte}
+use Rattle.isis_check.proofs.SrlgLaws.{length-byte}
 use Rattle.isis_srlg_index.proofs.Said.{header-sizes, general-header, sent-names}
 use Rattle.isis_srlg_index.proofs.live_tlv.Statement.{statement}
 use Rattle.isis_srlg_index.proofs.live_tlv.Tie as tie

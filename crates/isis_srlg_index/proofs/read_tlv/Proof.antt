@@ -9,7 +9,7 @@ use borrow.Author.Tests.{not-true, not-false}
 use Rattle.isis.specs.RunB.{afterNeighbour}
 use Rattle.isis.specs.MaskHeader.{lFlag}
 use Rattle.isis_check_a.proofs.Laws.{header-l, header-too-long}
-use Rattle.isis_check_b.proofs.SrlgLaws.{behind}
+use Rattle.isis_check.proofs.SrlgLaws.{behind}
 use Rattle.isis_tlvs_238.specs.Selected.{Listed}
 use Rattle.isis_tlvs_238.proofs.Tlvs.{whole as tlv-whole, other-words, after-is, behind-listed}
 use Rattle.isis_srlg_index.proofs.Identified.{behind-long, behind-few, too-long}

@@ -6,7 +6,7 @@ use native.Mathlib.Omega.{arith}
 use lib.ListN.{length-take}
 use Rattle.isis.specs.MaskHeader.{headerLength}
 use Rattle.isis_check_a.proofs.Laws.{header-bytes}
-use Rattle.isis_check_b.proofs.SrlgLaws.{length-byte}
+use Rattle.isis_check.proofs.SrlgLaws.{length-byte}
 use Rattle.isis_srlg_index.proofs.Said.{header-sizes}
 use Rattle.isis_srlg_index.proofs.Identified.{live-told}
 use borrow.Author.Needs.{needs}

@@ -1,7 +1,7 @@
 -- `set_bytes::write_middle` meets its contract: the TE metric, the SRLGs, and the kinds after them. Assumes nothing.
 use denote.Ref.{now}
 use Rattle.tlv_bytes.proofs.Laws.{first-room, second-room, third-room, three-write}
-use Rattle.srlg_bytes.specs.Standing.{numbersIn}
+use Rattle.set_bytes.specs.Standing.{numbersIn}
 use Rattle.set_bytes.proofs.Laws.{metric-code, middle-is, second-stands, third-stands}
 use borrow.Author.Needs.{needs}
 use Rattle.set_bytes.proofs.write_middle.Statement.{statement}

@@ -1,7 +1,7 @@
 -- `set_bytes::write_set` meets its contract: the first kind, those in the middle, and the last. Assumes nothing.
 use denote.Ref.{now}
 use Rattle.tlv_bytes.proofs.Laws.{first-room, second-room, third-room, three-write}
-use Rattle.srlg_bytes.specs.Standing.{numbersIn}
+use Rattle.set_bytes.specs.Standing.{numbersIn}
 use Rattle.set_bytes.proofs.Laws.{first-code, last-code, set-is, second-stands, third-stands}
 use borrow.Author.Needs.{needs}
 use Rattle.set_bytes.proofs.write_set.Statement.{statement}

@@ -7,8 +7,8 @@ use Rattle.why.proofs.type_in.Tie as tie
 enum-told : tie.Need-enum-told
 enum-told c = search needs
 
-type-of-code-requires : tie.Need-type-of-code-requires
-type-of-code-requires c κs = ready-a _ _ _ (c .enum-told .given .1) (c .before .before .before .pre)
+type-of-requires : tie.Need-type-of-requires
+type-of-requires c κs = ready-a _ _ _ (c .enum-told .given .1) (c .before .before .before .pre)
 
 cast-result : tie.Need-cast-result
 cast-result c = search needs
@@ -23,7 +23,7 @@ enum-told-4 : tie.Need-enum-told-4
 enum-told-4 c = search needs
 
 returns : tie.Need-returns
-returns c = type-a _ _ _ (c .before .enum-told .given .1) (c .type-of-code .ensures)
+returns c = type-a _ _ _ (c .before .enum-told .given .1) (c .type-of .ensures)
 
 returns-2 : tie.Need-returns-2
 returns-2 c = type-b _ _ (c .enum-told2 .given .1)
@@ -39,7 +39,7 @@ type-in-spec =
     tie.close
     (tie.spec
     enum-told
-    type-of-code-requires
+    type-of-requires
     cast-result
     enum-told-2
     enum-told-3

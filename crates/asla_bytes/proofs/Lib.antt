@@ -1,2 +1,0 @@
--- Laws that the crates above share.
-pub mod Laws

@@ -1,0 +1,151 @@
+-- How many applications two masks name, counted by bits, by numbers and in a list: what has room for the one has room for the others. Assumes nothing.
+use mathlib.Core.Path.{_≡_, refl, sym, ap, ap₂, _∙_}
+use mathlib.Core.Bool.{Bool, true, false, cond}
+use mathlib.Core.List.{List, [], _∷_, _++_}
+use Prim.Native.Nat.{ℕ, zero, suc, _+_, _-_, _*_, _/_, _%_, _≤_, _<_}
+use native.Mathlib.Omega.{arith}
+use borrow.Author.Tests.{lt-ltb, le-ltb, ltb-true, ltb-false}
+use lib.Dec.{ltb}
+use lib.ListN.{length, getD, length-append}
+use Rattle.linkstate.specs.Lists.{numbers, keep}
+use Rattle.linkstate.specs.Masks.{one, inNumber}
+use Rattle.linkstate.proofs.ListLaws.{keep-append}
+use Rattle.linkstate.proofs.MaskLaws.{one-le}
+use Rattle.masks.specs.Sets.{turnedPlace, inSent}
+use Rattle.masks.specs.Applications.{inBoth, inPair}
+use Rattle.srlg_ranks.specs.Ranks.{inWords}
+use Rattle.srlg_table.specs.Blocks.{sizeOf}
+use Rattle.srlg_table.proofs.Sizes.{size-same}
+use Rattle.set_table.specs.Tables.{howMany}
+use Rattle.set_table.proofs.Assigns.{many-same, many-split, many-pair}
+use Rattle.set_groups.specs.Table.{left}
+use Rattle.set_groups.proofs.Joined.{numbers-last}
+
+-- ---- tests
+
+one-more : (a b : Bool) → (a ≡ true → b ≡ true) → one a ≤ one b
+unfolding one
+one-more true true h = omega arith
+one-more true false h = let z : _≡_ {A = ℕ} 0 1 = cc (h refl) in omega arith
+one-more false b h = omega arith
+
+pub many-more : (p q : ℕ → Bool) (k : ℕ) → ((n : ℕ) → n < k → p n ≡ true → q n ≡ true) → howMany p k ≤ howMany q k
+unfolding howMany
+many-more p q zero h = omega arith
+many-more p q (suc k) h = omega (arith, many-more p q k (λ n l. h n (omega arith)), one-more (p k) (q k) (h k (omega arith)))
+
+many-most : (p : ℕ → Bool) (k : ℕ) → howMany p k ≤ k
+unfolding howMany one
+many-most p zero = omega arith
+many-most p (suc k) = omega (arith, many-most p k, one-le (p k))
+
+-- ---- in lists
+
+keep-one : (p : ℕ → Bool) (n : ℕ) → length (keep p (n ∷ [])) ≡ one (p n)
+unfolding keep one
+keep-one p n = go (p n)
+  where
+    go : (b : Bool) → length (cond b (n ∷ []) []) ≡ one b
+    go true = refl
+    go false = refl
+
+many-kept : (p : ℕ → Bool) (from k : ℕ) → length (keep p (numbers from k)) ≡ howMany (λ j. p (from + j)) k
+unfolding howMany keep numbers
+many-kept p from zero = refl
+many-kept p from (suc k) =
+    ap (λ (xs : List ℕ). length (keep p xs)) (numbers-last k from)
+    ∙ ap length (keep-append p (numbers from k) ((from + k) ∷ []))
+    ∙ length-append (keep p (numbers from k)) (keep p ((from + k) ∷ []))
+    ∙ ap₂ (λ (x y : ℕ). x + y) (many-kept p from k) (keep-one p (from + k))
+
+from-none : (p : ℕ → Bool) (k : ℕ) → howMany (λ j. p (0 + j)) k ≡ howMany p k
+from-none p k = many-same (λ j. p (0 + j)) p k (λ j h. let e : 0 + j ≡ j = omega arith in ap p e)
+
+-- From 1 on there are no more.
+left-less : (p : ℕ → Bool) → left p 1 ≤ howMany p 128
+left-less p = omega (arith, many-kept p 1 127, many-split p 1 127)
+
+pub left-most : (p : ℕ → Bool) → left p 1 ≤ 127
+left-most p = omega (arith, many-kept p 1 127, many-most (λ j. p (1 + j)) 127)
+
+size-many : (p : ℕ → Bool) → sizeOf p ≡ howMany p 128
+unfolding sizeOf
+size-many p = many-kept p 0 128 ∙ from-none p 128
+
+-- ---- masks as sent
+
+words-pair : (s u a : ℕ) → a < 128 → inWords (s ∷ u ∷ []) a ≡ inPair s u a
+unfolding inWords inPair
+words-pair s u a h = go (ltb a 64) refl
+  where
+    go : (b : Bool) → ltb a 64 ≡ b → inNumber (getD (s ∷ u ∷ []) (a / 64) 0) (a % 64) ≡ cond b (inNumber s a) (inNumber u (a - 64))
+    go true e =
+        let l = ltb-true a 64 e in
+        let x : a / 64 ≡ 0 = omega arith in
+        let y : a % 64 ≡ a = omega arith in
+        rw (x, y)
+    go false e =
+        let l = ltb-false a 64 e in
+        let x : a / 64 ≡ 1 = omega arith in
+        let y : a % 64 ≡ a - 64 = omega arith in
+        rw (x, y)
+
+-- Eight bits in the other order are as many.
+eight : (p : ℕ → Bool) → howMany (λ j. p (7 - j)) 8 ≡ howMany p 8
+unfolding howMany
+eight p = omega arith
+
+turned-in : (k j : ℕ) → j < 8 → turnedPlace (8 * k + j) ≡ 8 * k + (7 - j)
+unfolding turnedPlace
+turned-in k j h = omega arith
+
+many-turned : (p : ℕ → Bool) (k : ℕ) → howMany (λ n. p (turnedPlace n)) (8 * k) ≡ howMany p (8 * k)
+unfolding howMany
+many-turned p zero = refl
+many-turned p (suc k) =
+    let e : 8 * suc k ≡ 8 * k + 8 = omega arith in
+    ap (howMany (λ n. p (turnedPlace n))) e
+    ∙ many-split (λ n. p (turnedPlace n)) (8 * k) 8
+    ∙ ap₂ (λ (x y : ℕ). x + y) (many-turned p k)
+    (many-same (λ j. p (turnedPlace (8 * k + j))) (λ j. p (8 * k + (7 - j))) 8 (λ j h. ap p (turned-in k j h)) ∙ eight (λ j. p (8 * k + j)))
+    ∙ sym (many-split p (8 * k) 8)
+    ∙ ap (howMany p) (sym e)
+
+both-low : (s u j : ℕ) → j < 64 → inBoth s u j ≡ inSent s j
+unfolding inBoth
+both-low s u j h = rw (lt-ltb j 64 h)
+
+both-high : (s u j : ℕ) → inBoth s u (64 + j) ≡ inSent u j
+unfolding inBoth
+both-high s u j = let e : 64 + j - 64 ≡ j = omega arith in rw (le-ltb (64 + j) 64 (omega arith), e)
+
+both-pair : (s u : ℕ) → howMany (inBoth s u) 128 ≡ howMany (inPair s u) 128
+both-pair s u =
+    many-split (inBoth s u) 64 64
+    ∙ ap₂ (λ (x y : ℕ). x + y) (many-same (inBoth s u) (inSent s) 64 (λ j h. both-low s u j h) ∙ many-turned (inNumber s) 8)
+    (many-same (λ j. inBoth s u (64 + j)) (inSent u) 64 (λ j h. both-high s u j) ∙ many-turned (inNumber u) 8)
+    ∙ sym (many-pair s u)
+
+-- ---- room for all whom two masks name, and for those among them whom two others do
+
+pub record Few (s u k : ℕ) : Type 0 where
+  pub numbers : howMany (inBoth s u) 128 ≤ k
+  pub bits : sizeOf (inWords (s ∷ u ∷ [])) ≤ k
+  pub others : left (inBoth s u) 1 ≤ k
+
+few-of : (s u k : ℕ) → howMany (inBoth s u) 128 ≤ k → Few s u k
+few-of s u k h =
+    record {
+      numbers = h;
+      bits = omega (arith, h, both-pair s u, size-same (inWords (s ∷ u ∷ [])) (inPair s u) (words-pair s u), size-many (inPair s u));
+      others = omega (arith, h, left-less (inBoth s u));
+    }
+
+pub few-named : (s u k : ℕ) → howMany (inPair s u) 128 ≤ k → Few s u k
+few-named s u k h = few-of s u k (omega (arith, h, both-pair s u))
+
+pub few-among : (s u standard user k : ℕ) → ((n : ℕ) → inBoth s u n ≡ true → inBoth standard user n ≡ true) → Few standard user k → Few s u k
+few-among s u standard user k e f = few-of s u k (omega (arith, f .numbers, many-more (inBoth s u) (inBoth standard user) 128 (λ n h. e n)))
+
+pub few-all : (s u : ℕ) → Few s u 128
+few-all s u = few-of s u 128 (many-most (inBoth s u) 128)

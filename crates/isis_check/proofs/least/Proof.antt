@@ -1,0 +1,15 @@
+-- The smaller one.
+use mathlib.Core.Logic.{inl, inr}
+use mathlib.Core.Path.{refl}
+use native.Mathlib.Omega.{arith}
+use Rattle.isis_check.proofs.least.Statement.{statement}
+use Rattle.isis_check.proofs.least.Tie as tie
+
+returns : tie.Need-returns
+returns c = (omega arith, omega arith, inr refl)
+
+returns-2 : tie.Need-returns-2
+returns-2 c = (omega arith, omega arith, inl refl)
+
+pub least-spec : {M : Type 1} → statement M
+least-spec = tie.close (tie.spec returns returns-2)

@@ -1,0 +1,57 @@
+-- What four masks tell of advertisements: who is named, and who with L (rules W2, W3), for every number.
+use mathlib.Core.Path.{_≡_}
+use mathlib.Core.Bool.{Bool, cond, _&&_, _||_}
+use mathlib.Core.List.{List, []}
+use Prim.Native.Nat.{ℕ, _-_}
+use lib.Dec.{ltb}
+use Rattle.linkstate.specs.Lists.{any}
+use Rattle.linkstate.specs.Replies.{Verdict, accepted, refused}
+use Rattle.linkstate.specs.Sides.{Advertisement, names}
+use Rattle.masks.specs.Sets.{inSent}
+use Rattle.replies.specs.Told.{toldRefusal}
+use Rattle.rules.specs.declared.Names.{Names}
+use Rattle.rules.specs.declared.Checking.{Checking}
+use Rattle.rules.specs.declared.Checking.the-variants.{Refused, Accepted}
+use Rattle.masks.specs.Applications.{inBoth}
+
+-- The advertisement of an L-flag and two masks; whom it names does not depend on its attributes.
+abbrev pub advertised : Bool → List ℕ → List ℕ → Advertisement
+advertised l standard user = record { L = l; standardMask = standard; userMask = user; attributes = [] }
+
+-- Four masks hold whom some of these advertisements name, and whom some with L. Of the live ones of a side these are `named` and `namedWithL` (`proofs/Laws`).
+pub record Tells (ds : List Advertisement) (m : Names) : Type 0 where
+  pub named : (n : ℕ) → inBoth (m .standard) (m .user) n ≡ any (names n) ds
+  pub flagged : (n : ℕ) → inBoth (m .lstandard) (m .luser) n ≡ any (λ d. d .L && names n d) ds
+
+-- The masks r hold whom m holds, and whom these advertisements name.
+pub record Adds (m : Names) (ds : List Advertisement) (r : Names) : Type 0 where
+  pub named : (n : ℕ) → inBoth (r .standard) (r .user) n ≡ inBoth (m .standard) (m .user) n || any (names n) ds
+  pub flagged : (n : ℕ) → inBoth (r .lstandard) (r .luser) n ≡ inBoth (m .lstandard) (m .luser) n || any (λ d. d .L && names n d) ds
+
+-- Those of two.
+pub record Joins (x y r : Names) : Type 0 where
+  pub named : (n : ℕ) → inBoth (r .standard) (r .user) n ≡ inBoth (x .standard) (x .user) n || inBoth (y .standard) (y .user) n
+  pub flagged : (n : ℕ) → inBoth (r .lstandard) (r .luser) n ≡ inBoth (x .lstandard) (x .luser) n || inBoth (y .lstandard) (y .luser) n
+
+-- What an answer of checks says, and what its names tell.
+abbrev pub toldChecking : Checking → Verdict
+toldChecking (Refused r) = refused (toldRefusal r)
+toldChecking (Accepted m) = accepted
+
+abbrev pub Named : Checking → List Advertisement → Type 0
+Named (Refused r) ds = Unit {0}
+Named (Accepted m) ds = Tells ds m
+
+-- R9, W2, W3. The answer of the checks of bytes: their refusal, or whom their advertisements name.
+pub record Checks (v : Verdict) (ds : List Advertisement) (r : Checking) : Type 0 where
+  pub told : toldChecking r ≡ v
+  pub names : Named r ds
+
+-- The same of a part, behind bytes that name m: the refusal, or m with those that the part names.
+abbrev pub Added : Names → Checking → List Advertisement → Type 0
+Added m (Refused r) ds = Unit {0}
+Added m (Accepted r) ds = Adds m ds r
+
+pub record ChecksBehind (m : Names) (v : Verdict) (ds : List Advertisement) (r : Checking) : Type 0 where
+  pub told : toldChecking r ≡ v
+  pub names : Added m r ds

@@ -1,3 +1,0 @@
-pub mod Sizes
-mod Splits
-mod Refines
