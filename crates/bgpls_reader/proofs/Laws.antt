@@ -1,9 +1,9 @@
 -- SRLGs of a run from their counted numbers, and the run's source.
 use mathlib.Core.Path.{_≡_, refl, ap, _∙_}
 use mathlib.Core.List.{List, [], _∷_}
-use Prim.Native.Nat.{ℕ, _-_, _≤_}
+use Prim.Native.Nat.{ℕ, _*_, _≤_}
 use native.Mathlib.Omega.{arith}
-use lib.ListN.{length, take, drop, replicate, length-replicate}
+use lib.ListN.{length, take, replicate, length-replicate}
 use Rattle.linkstate.specs.Lists.{empty, put}
 use Rattle.linkstate.specs.Bytes.{distinct}
 use Rattle.linkstate.specs.Attributes.{Attribute, srlgs}
@@ -16,11 +16,10 @@ use Rattle.bgpls_srlg.specs.Words.{srlgWords}
 
 -- The numbers of attributes, sorted, are their SRLGs.
 pub words-answer : (x : Asked) (ts : List Attribute) (n : ℕ) (xs after ns list : List ℕ) → n ≤ length xs → n ≡ length (srlgWords ts) → after ≡ put xs 0 (srlgWords ts)
-    → ns ≡ distinct (take (n - 0) (drop 0 after)) → x ≡ srlgAnswer ns list → x ≡ srlgAnswer (srlgs ts) list
+    → ns ≡ distinct (take n after) → x ≡ srlgAnswer ns list → x ≡ srlgAnswer (srlgs ts) list
 unfolding srlgs srlgWords
 words-answer x ts n xs after ns list h c w s e =
-    let z : n - 0 ≡ n = omega arith in
-    let front : take (n - 0) after ≡ srlgWords ts = ap (λ (i : ℕ). take i after) (z ∙ c) ∙ ap (take (length (srlgWords ts))) w ∙ front-is xs (srlgWords ts) (omega arith) in
+    let front : take n after ≡ srlgWords ts = ap (λ (i : ℕ). take i after) c ∙ ap (take (length (srlgWords ts))) w ∙ front-is xs (srlgWords ts) (omega arith) in
     e ∙ ap (λ (l : List ℕ). srlgAnswer l list) (s ∙ ap distinct front)
 
 -- Without numbers the answer is absent.
@@ -32,9 +31,12 @@ none-answer ts n list c z = go (srlgWords ts) (omega arith)
     go [] h = refl
     go (w ∷ ws) h = let f : ⊥ = omega arith in absurd f
 
--- A list of k zeros has room for k numbers.
+-- A list of k zeros has room for k numbers, and for twice as many in two halves.
 pub room : (n k : ℕ) → n ≤ k → n ≤ length {A = ℕ} (replicate k 0)
 room n k h = rw length-replicate h
+
+pub half-room : (n k : ℕ) → n ≤ 2 * k → n ≤ 2 * length {A = ℕ} (replicate k 0)
+half-room n k h = rw length-replicate h
 
 -- The answer to a question for SRLGs.
 pub asks-srlg : (r : List ℕ) (whom : Subject) (k : ℕ) (spot : ℕ → Place) (list : List ℕ) (x : Asked) → k ≡ 1096 → x ≡ srlgAnswer (srlgs (given (runSource r) whom 1096)) list

@@ -1,7 +1,7 @@
 // Questions to a BGP-LS run that anybody may have written: ask, value and named.
 ghost use mathlib.Core.Path.{_≡_};
 ghost use mathlib.Core.Bool.{true, false};
-ghost use Prim.Native.Nat.{_≤_};
+ghost use Prim.Native.Nat.{_*_, _≤_};
 ghost use lib.ListN.{length};
 ghost use Rattle.linkstate.specs.Masks.{user, asNumber};
 ghost use Rattle.linkstate.specs.Replies.{accepted, runBgpLs, place};
@@ -146,22 +146,21 @@ pub fn part_of(r: &[u8], whom: Subject, code: usize) -> &[u8]
 
 // Any bytes, any subject and any code are taken; every refusal is document 01's, and after one nothing was written.
 
-// The reply of SRLG: the numbers of a set go into one list, are sorted into another, and are counted before any is written. tmp is room to work in.
+// The reply of SRLG: the numbers of a set go into a list, are sorted there, and are counted before any is written. tmp is room to work in, half as long or more.
 fn answer_words(
     r: &[u8],
     start: Start,
     n: usize,
     list: &mut [u32],
     xs: &mut [u32],
-    out: &mut [u32],
     tmp: &mut [u32],
 ) -> Answer
-    requires { ⌜ Counted (now r) start n × (n ≤ length (now xs)) × (n ≤ length (now out)) × (n ≤ length (now tmp)) ⌝ }
+    requires { ⌜ Counted (now r) start n × (n ≤ length (now xs)) × (n ≤ 2 * length (now tmp)) ⌝ }
     ensures { λ x. ⌜ toldAsked x (now (list .exit)) ≡ srlgAnswer (srlgs (attributesIn (start .set) (now (r .entry)))) (now (list .entry)) ⌝ }
 {
     bgpls_srlg::write_words(r, start, n, xs);
-    let k = srlg_sort::sort_distinct(&xs[0..n], out, tmp);
-    answering::answer_front(out, k, list)
+    let k = srlg_sort::sort_long(&mut xs[0..n], tmp);
+    answering::answer_front(xs, k, list)
 }
 
 // With room for few numbers, for those of most runs, and for as many as a run can have.
@@ -170,9 +169,8 @@ fn answer_few(r: &[u8], start: Start, n: usize, list: &mut [u32]) -> Answer
     ensures { λ x. ⌜ toldAsked x (now (list .exit)) ≡ srlgAnswer (srlgs (attributesIn (start .set) (now (r .entry)))) (now (list .entry)) ⌝ }
 {
     let mut xs = [0u32; 64];
-    let mut out = [0u32; 64];
     let mut tmp = [0u32; 64];
-    answer_words(r, start, n, list, &mut xs, &mut out, &mut tmp)
+    answer_words(r, start, n, list, &mut xs, &mut tmp)
 }
 
 fn answer_many(r: &[u8], start: Start, n: usize, list: &mut [u32]) -> Answer
@@ -180,9 +178,8 @@ fn answer_many(r: &[u8], start: Start, n: usize, list: &mut [u32]) -> Answer
     ensures { λ x. ⌜ toldAsked x (now (list .exit)) ≡ srlgAnswer (srlgs (attributesIn (start .set) (now (r .entry)))) (now (list .entry)) ⌝ }
 {
     let mut xs = [0u32; 512];
-    let mut out = [0u32; 512];
     let mut tmp = [0u32; 512];
-    answer_words(r, start, n, list, &mut xs, &mut out, &mut tmp)
+    answer_words(r, start, n, list, &mut xs, &mut tmp)
 }
 
 fn answer_most(r: &[u8], start: Start, n: usize, list: &mut [u32]) -> Answer
@@ -190,9 +187,8 @@ fn answer_most(r: &[u8], start: Start, n: usize, list: &mut [u32]) -> Answer
     ensures { λ x. ⌜ toldAsked x (now (list .exit)) ≡ srlgAnswer (srlgs (attributesIn (start .set) (now (r .entry)))) (now (list .entry)) ⌝ }
 {
     let mut xs = [0u32; 131072];
-    let mut out = [0u32; 131072];
-    let mut tmp = [0u32; 131072];
-    answer_words(r, start, n, list, &mut xs, &mut out, &mut tmp)
+    let mut tmp = [0u32; 65536];
+    answer_words(r, start, n, list, &mut xs, &mut tmp)
 }
 
 // With eight times the room until it is enough. The call of itself keeps the large arrays apart: without it the compiler lays them into the frame of every question, whose pages are touched one by one.

@@ -47,13 +47,12 @@ fn words_by(b: &[u8], c: &[u8], rule: Rule, out: &mut [u32]) -> usize
     }
 }
 
-// The first k numbers of a list put in order, repeats dropped; how many are left. list and tmp are room to work in.
-fn sort_through(out: &mut [u32], k: usize, list: &mut [u32], tmp: &mut [u32]) -> usize
-    requires { ⌜ (k ≤ length (now out)) × (k ≤ length (now list)) × (k ≤ length (now tmp)) ⌝ }
+// The first k numbers of a list put in order, repeats dropped; how many are left. tmp is room to work in.
+fn sort_through(out: &mut [u32], k: usize, tmp: &mut [u32]) -> usize
+    requires { ⌜ (k ≤ length (now out)) × (k ≤ length (now tmp)) ⌝ }
     ensures { λ r. ⌜ (take r (now (out .exit)) ≡ distinct (take k (now (out .entry)))) × (r ≤ k) ⌝ }
 {
-    srlg::copy_words(&out[0..k], list);
-    srlg_sort::sort_distinct(&list[0..k], out, tmp)
+    srlg_sort::sort_in(&mut out[0..k], tmp)
 }
 
 // The same with room of its own, for few numbers and for as many as a link can have.
@@ -61,28 +60,22 @@ fn sort_few(out: &mut [u32], k: usize) -> usize
     requires { ⌜ (k ≤ length (now out)) × (k ≤ 64) ⌝ }
     ensures { λ r. ⌜ (take r (now (out .exit)) ≡ distinct (take k (now (out .entry)))) × (r ≤ k) ⌝ }
 {
-    let mut list = [0u32; 64];
     let mut tmp = [0u32; 64];
-    sort_through(out, k, &mut list, &mut tmp)
+    sort_through(out, k, &mut tmp)
 }
 
 fn sort_many(out: &mut [u32], k: usize) -> usize
     requires { ⌜ (k ≤ length (now out)) × (k ≤ 512) ⌝ }
     ensures { λ r. ⌜ (take r (now (out .exit)) ≡ distinct (take k (now (out .entry)))) × (r ≤ k) ⌝ }
 {
-    let mut list = [0u32; 512];
     let mut tmp = [0u32; 512];
-    sort_through(out, k, &mut list, &mut tmp)
+    sort_through(out, k, &mut tmp)
 }
 
-// The same; numbers that ascend, as most do, stay as they are.
 fn sort_front(out: &mut [u32], k: usize) -> usize
     requires { ⌜ (k ≤ length (now out)) × (k ≤ 512) ⌝ }
     ensures { λ r. ⌜ (take r (now (out .exit)) ≡ distinct (take k (now (out .entry)))) × (r ≤ k) ⌝ }
 {
-    if srlg::ascends(&out[0..k]) {
-        return k;
-    }
     if k <= 64 {
         return sort_few(out, k);
     }

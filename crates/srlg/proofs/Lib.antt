@@ -2,3 +2,4 @@
 pub mod Laws
 mod Writes
 mod Merges
+mod Moves

@@ -1,5 +1,5 @@
--- Room for as many numbers as a run can have.
-use Rattle.bgpls_reader.proofs.Laws.{room}
+-- Room for as many numbers as a run can have, and half of it to work in.
+use Rattle.bgpls_reader.proofs.Laws.{room, half-room}
 use borrow.Author.Needs.{needs}
 use Rattle.bgpls_reader.proofs.answer_most.Statement.{statement}
 use Rattle.bgpls_reader.proofs.answer_most.Tie as tie
@@ -10,11 +10,8 @@ slice-aggregate-answer-words c = search needs
 slice-aggregate-answer-words-2 : tie.Need-slice-aggregate-answer-words-2
 slice-aggregate-answer-words-2 c = search needs
 
-slice-aggregate-answer-words-3 : tie.Need-slice-aggregate-answer-words-3
-slice-aggregate-answer-words-3 c = search needs
-
 answer-words-requires : tie.Need-answer-words-requires
-answer-words-requires c κs = let p = c .before .before .before .before .before .before .pre in (p .0, room _ 131072 (p .1), room _ 131072 (p .1), room _ 131072 (p .1))
+answer-words-requires c κs = let p = c .before .before .before .before .before .pre in (p .0, room _ 131072 (p .1), half-room _ 65536 (p .1))
 
 same-length : tie.Need-same-length
 same-length c = search needs
@@ -28,7 +25,6 @@ answer-most-spec =
     (tie.spec
     slice-aggregate-answer-words
     slice-aggregate-answer-words-2
-    slice-aggregate-answer-words-3
     answer-words-requires
     same-length
     returns)
