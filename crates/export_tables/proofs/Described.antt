@@ -1,8 +1,8 @@
 -- Tables of sets, classes and groups that resolve a meaning describe it, and an export can be written from them. Assumes nothing.
-use mathlib.Core.Path.{_≡_, refl, sym, ap, ap₂, _∙_, subst}
-use mathlib.Core.Bool.{Bool, true}
+use mathlib.Core.Path.{_≡_, sym, ap, ap₂, _∙_, subst}
+use mathlib.Core.Bool.{Bool}
 use mathlib.Core.List.{List, [], _∷_, map}
-use Prim.Native.Nat.{ℕ, zero, suc, _+_, _-_, _*_, _/_, _%_, _≤_, _<_}
+use Prim.Native.Nat.{ℕ, zero, suc, _*_, _≤_, _<_}
 use native.Mathlib.Omega.{arith}
 use lib.ListN.{length, getD, set, take, length-set}
 use lib.Seq.{length-take-le}
@@ -18,7 +18,6 @@ use Rattle.srlg_classes.specs.Owned.{slotAt, Slots}
 use Rattle.srlg_classes.specs.Sided.{Has, Classified}
 use Rattle.grids.specs.Grids.{setOf, topOf}
 use Rattle.grids.specs.Slots.{slotGrid, linkRows, IsSet, slotOf}
-use Rattle.set_groups.specs.Groups.{groupsBelow}
 use Rattle.set_groups.specs.Table.{word, slotIn, classIn, tableGroups, Named, Placed, Gives, Filled}
 use Rattle.export_bytes.specs.Whole.{Tables, Entered}
 use Rattle.export_bytes.specs.Describes.{Describes}
@@ -60,9 +59,6 @@ module _ {run : List ℕ} {sets own owned : List (List ℕ)} {p : ℕ → Bool} 
   pub tables : length values ≤ 1024 → ((i : ℕ) → getD values i 0 < 4294967296) → Tables run sets values rows counted
   tables most small = record { slots = slotted .slots; link = slotted .link; known = counted-classes values rows classes (k .count) (of .table) most small }
 
-  pub top-low : k .rsvp < length counted
-  top-low = omega (arith, of .rsvp .low, counted-length values rows classes (k .count) (of .table))
-
   has : (c : ℕ) (xs : List ℕ) → Has values rows classes (k .count) c xs → numbers c ≡ xs
   has c xs h = counted-has values rows classes (k .count) (of .table) c xs h
 
@@ -86,10 +82,12 @@ module _ {run : List ℕ} {sets own owned : List (List ℕ)} {p : ℕ → Bool} 
     first-word = ap (λ (h : List ℕ). getD h 2 0) first-entry
 
     later-word : (i : ℕ) → 1 ≤ i → i < count → word headed i ≡ word groups i
-    later-word i l h = ap (λ (x : List (List ℕ)). word (take count x) i) is ∙ ap (λ (x : List ℕ). getD x 2 0) (headed-at groups count first (filled .some) (filled .room) i l h)
+    later-word i l h = ap (λ (x : List (List ℕ)). word (take count x) i) is
+        ∙ ap (λ (x : List ℕ). getD x 2 0) (headed-at groups count first (filled .some) (filled .room) i l h)
 
     pub entered : Entered sets counted headed
-    entered = record { some = omega (arith, size, filled .some); most = omega (arith, size, filled .most); slot = λ i h. slot i (omega (arith, size)); class = λ i h. class i (omega (arith, size)) }
+    entered = record { some = omega (arith, size, filled .some); most = omega (arith, size, filled .most); slot = λ i h. slot i
+        (omega (arith, size)); class = λ i h. class i (omega (arith, size)) }
       where
         slot : (i : ℕ) → i < count → IsSet sets (slotIn (word headed i))
         slot zero h = rw (first-word, general-word (k .general) general-low .0) general
@@ -98,7 +96,8 @@ module _ {run : List ℕ} {sets own owned : List (List ℕ)} {p : ℕ → Bool} 
             rw (later-word (suc i) (omega arith) h, o .2) (placed .slot (o .0) (o .1))
 
         class : (i : ℕ) → i < count → classIn (word headed i) < length counted
-        class zero h = rw (first-word, general-word (k .general) general-low .1) (omega (arith, of .general .low, counted-length values rows classes (k .count) (of .table)))
+        class zero h = rw (first-word, general-word (k .general) general-low .1)
+            (omega (arith, of .general .low, counted-length values rows classes (k .count) (of .table)))
         class (suc i) h =
             let o = filled .owned (suc i) (omega arith) h in
             rw (later-word (suc i) (omega arith) h, o .3) (omega (arith, class-low (o .0) (o .1), counted-length values rows classes (k .count) (of .table)))
@@ -110,16 +109,19 @@ module _ {run : List ℕ} {sets own owned : List (List ℕ)} {p : ℕ → Bool} 
             only = so .only;
             named = so .named;
             set = λ n h.
-                ap₂ (λ (i : ℕ) (xs : List ℕ). row (setOf run (slotGrid sets i) xs)) (slot-kept n) (has (classOf owned n) (srlgs (applicationSet n side)) (of .application n (h .low) (h .high) (h .passes)))
+                ap₂ (λ (i : ℕ) (xs : List ℕ). row (setOf run (slotGrid sets i) xs)) (slot-kept n)
+                    (has (classOf owned n) (srlgs (applicationSet n side)) (of .application n (h .low) (h .high) (h .passes)))
                 ∙ so .set n h;
           }
 
       pub describes : Describes m run sets numbers headed s (k .rsvp)
       describes =
           record {
-            top = ap (λ (xs : List ℕ). map (topOf run (linkRows sets) (slotGrid sets s) xs) codes) (has (k .rsvp) (srlgs (rsvpTeKind 1096 side)) (of .rsvp)) ∙ so .top;
+            top = ap (λ (xs : List ℕ). map (topOf run (linkRows sets) (slotGrid sets s) xs) codes) (has (k .rsvp) (srlgs (rsvpTeKind 1096 side)) (of .rsvp))
+                ∙ so .top;
             general =
-                ap₂ (λ (i : ℕ) (c : ℕ). row (setOf run (slotGrid sets i) (numbers c))) (ap slotIn first-word ∙ general-word (k .general) general-low .0) (ap classIn first-word ∙ general-word (k .general) general-low .1)
+                ap₂ (λ (i : ℕ) (c : ℕ). row (setOf run (slotGrid sets i) (numbers c))) (ap slotIn first-word ∙ general-word (k .general) general-low .0)
+                    (ap classIn first-word ∙ general-word (k .general) general-low .1)
                 ∙ ap (λ (xs : List ℕ). row (setOf run (slotGrid sets 0) xs)) (has (k .general) (srlgs (generalSet side)) (of .general))
                 ∙ so .general;
             nobody = (ap (λ (h : List ℕ). getD h 0 0) first-entry, ap (λ (h : List ℕ). getD h 1 0) first-entry);

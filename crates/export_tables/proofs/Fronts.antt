@@ -1,21 +1,16 @@
 -- The parts of tables that an export is written from: the classes that were counted, and the groups with the general set as entry 0. Assumes nothing.
-use mathlib.Core.Path.{_≡_, refl, sym, ap, _∙_, subst}
-use mathlib.Core.Bool.{Bool, true}
-use mathlib.Core.List.{List, [], _∷_, map}
-use Prim.Native.Nat.{ℕ, suc, _+_, _-_, _*_, _/_, _%_, _≤_, _<_}
+use mathlib.Core.Path.{_≡_, sym, ap, _∙_, subst}
+use mathlib.Core.List.{List, []}
+use Prim.Native.Nat.{ℕ, _-_, _≤_, _<_}
 use native.Mathlib.Omega.{arith}
-use lib.ListN.{length, getD, set, take, drop, length-take, length-set}
+use lib.ListN.{length, getD, set, take, drop, length-set}
 use lib.Seq.{length-take-le, getD-take, getD-set-same, getD-set-other}
 use Rattle.linkstate.specs.Lists.{numbers}
-use Rattle.linkstate.specs.Meaning.{Meaning}
-use Rattle.linkstate.specs.Sides.{Side}
 use Rattle.linkstate.proofs.ListLaws.{map-ext, numbers-mem}
 use Rattle.srlg_sources.specs.Classes.{Class, classNumbers, Classed}
 use Rattle.set_bytes.specs.Standing.{numbersIn, Classes}
-use Rattle.srlg_classes.specs.declared.Classes.{Classes as Told}
-use Rattle.srlg_classes.specs.Sided.{Has, Classified}
-use Rattle.set_groups.specs.Groups.{Group}
-use Rattle.set_groups.specs.Table.{word, slotIn, classIn, entryGroup, tableGroups, Differ, Named, Owned, Filled}
+use Rattle.srlg_classes.specs.Sided.{Has}
+use Rattle.set_groups.specs.Table.{entryGroup, tableGroups, Differ}
 
 -- ---- the front of a list
 
@@ -66,7 +61,8 @@ module _ (groups : List (List ℕ)) (count : ℕ) (h : List ℕ) (some : 1 ≤ c
   pub headed-at : (i : ℕ) → 1 ≤ i → i < count → getD headed i [] ≡ getD groups i []
   headed-at i low l = getD-take count (set groups 0 h) i [] l ∙ getD-set-other groups 0 i h [] (λ e. omega arith)
 
-  pub headed-groups : (run : List ℕ) (sets : List (List ℕ)) (srlgs : ℕ → List ℕ) → tableGroups run sets srlgs headed (length headed) ≡ tableGroups run sets srlgs groups count
+  pub headed-groups : (run : List ℕ) (sets : List (List ℕ)) (srlgs : ℕ → List ℕ)
+      → tableGroups run sets srlgs headed (length headed) ≡ tableGroups run sets srlgs groups count
   unfolding tableGroups
   headed-groups run sets srlgs =
       rw headed-length

@@ -3,20 +3,14 @@ ghost use mathlib.Core.Path.{_≡_};
 ghost use mathlib.Core.Bool.{true};
 ghost use mathlib.Core.List.{List, [], _∷_};
 ghost use Prim.Native.Nat.{ℕ, _+_, _*_, _≤_, _<_};
-ghost use lib.ListN.{length, getD, set, take};
-ghost use Rattle.linkstate.specs.Sides.{Side};
-ghost use Rattle.linkstate.specs.Meaning.{Meaning};
-ghost use Rattle.linkstate.specs.Export.{export};
+ghost use lib.ListN.{length, set, take};
 ghost use Rattle.linkstate.specs.Masks.{inNumber};
 ghost use Rattle.replies.specs.Told.{toldExported};
 ghost use Rattle.masks.specs.Applications.{inBoth, inPair};
-ghost use Rattle.set_bytes.specs.Standing.{numbersIn};
-ghost use Rattle.grids.specs.Slots.{IsSet, Slots};
-ghost use Rattle.set_groups.specs.Table.{left, Placed, Filled};
+ghost use Rattle.grids.specs.Slots.{Slots};
 ghost use Rattle.set_table.specs.Tables.{howMany};
-ghost use Rattle.export_bytes.specs.Whole.{Tables, Entered, answered};
-ghost use Rattle.export_bytes.specs.Describes.{Describes};
-ghost use Rattle.export_tables.specs.Resolved.{Resolves, Slotted, Listed, Room};
+ghost use Rattle.export_tables.specs.Resolved.{Ready, AnswersAll, Filled, AnswersDescribed};
+ghost use Rattle.set_groups.specs.Table as Groups;
 use export_bytes::Top;
 use replies::Written;
 use rules::Names;
@@ -55,8 +49,8 @@ fn export_parts(
     places: &mut [usize],
     out: &mut [u8],
 ) -> Written
-    requires { ⌜ (t .classes ≤ length (now classes)) × (t .groups ≤ length (now groups)) × Tables (now run) (now sets) (now values) (now rows) (take (t .classes) (now classes)) × Entered (now sets) (take (t .classes) (now classes)) (take (t .groups) (now groups)) × IsSet (now sets) (t .slot) × (t .class < t .classes) × (t .classes ≤ length (now places)) × ((c : ℕ) → getD (now places) c 0 ≡ 0) ⌝ }
-    ensures { λ q. ⌜ ((m : Meaning) → Describes m (now (run .entry)) (now (sets .entry)) (numbersIn (now (values .entry)) (now (rows .entry)) (take (t .classes) (now (classes .entry)))) (take (t .groups) (now (groups .entry))) (t .slot) (t .class) → toldExported q (now (out .exit)) ≡ answered (t .measuring) (export m) (now (out .entry))) ⌝ }
+    requires { ⌜ Filled (now run) t (now rows) (now values) (now sets) (now classes) (now groups) (now places) ⌝ }
+    ensures { λ q. ⌜ AnswersDescribed (now (run .entry)) t (now (rows .entry)) (now (values .entry)) (now (sets .entry)) (now (classes .entry)) (now (groups .entry)) (now (out .entry)) (toldExported q (now (out .exit))) ⌝ }
 {
     let c = t.classes;
     let g = t.groups;
@@ -98,8 +92,8 @@ fn group(
     class: usize,
     groups: &mut [[u64; 3]],
 ) -> usize
-    requires { ⌜ Slots (now run) (now sets) × Placed (now sets) (now own) (inBoth standard user) × (1 + left (inBoth standard user) 1 ≤ length (now groups)) × (class < 256) ⌝ }
-    ensures { λ r. ⌜ ((g : List (List ℕ)) × Filled (now (run .entry)) (now (sets .entry)) (now (own .entry)) (inBoth standard user) g r × (now (groups .exit) ≡ set g 0 (0 ∷ 0 ∷ 256 * class ∷ []))) ⌝ }
+    requires { ⌜ Slots (now run) (now sets) × Groups.Placed (now sets) (now own) (inBoth standard user) × (1 + Groups.left (inBoth standard user) 1 ≤ length (now groups)) × (class < 256) ⌝ }
+    ensures { λ r. ⌜ ((g : List (List ℕ)) × Groups.Filled (now (run .entry)) (now (sets .entry)) (now (own .entry)) (inBoth standard user) g r × (now (groups .exit) ≡ set g 0 (0 ∷ 0 ∷ 256 * class ∷ []))) ⌝ }
 {
     let count = set_groups::fill_groups(run, sets, own, standard, user, groups);
     enter_general(groups, class);
@@ -119,8 +113,8 @@ fn export_slots(
     places: &mut [usize],
     out: &mut [u8],
 ) -> Written
-    requires { ⌜ Slotted (now run) (now sets) (now own) (inBoth (n .standard) (n .user)) (n .slot) × Room (now rows) (n .used) (n .names) (now own) (inBoth (n .standard) (n .user)) (now classes) (now groups) (now places) × ((side : Side) × Listed (now values) (now rows) (n .used) (n .names) side) ⌝ }
-    ensures { λ q. ⌜ ((m : Meaning) (side : Side) → Listed (now (values .entry)) (now (rows .entry)) (n .used) (n .names) side → Resolves m (now (run .entry)) (now (sets .entry)) (now (own .entry)) (inBoth (n .standard) (n .user)) (n .slot) side → toldExported q (now (out .exit)) ≡ answered (n .measuring) (export m) (now (out .entry))) ⌝ }
+    requires { ⌜ Ready (now run) n (now rows) (now values) (now sets) (now own) (now classes) (now groups) (now places) ⌝ }
+    ensures { λ q. ⌜ AnswersAll (now (run .entry)) n (now (rows .entry)) (now (values .entry)) (now (sets .entry)) (now (own .entry)) (now (out .entry)) (toldExported q (now (out .exit))) ⌝ }
 {
     let k = srlg_classes::classify(rows, n.used, n.standard, n.user, n.names, classes, own);
     let count = group(run, sets, own, n.standard, n.user, k.general, groups);
@@ -147,8 +141,8 @@ pub fn export_rows(
     places: &mut [usize],
     out: &mut [u8],
 ) -> Written
-    requires { ⌜ (n .slots ≤ length (now sets)) × Slotted (now run) (take (n .slots) (now sets)) (now own) (inBoth (n .standard) (n .user)) (n .slot) × Room (now rows) (n .used) (n .names) (now own) (inBoth (n .standard) (n .user)) (now classes) (now groups) (now places) × ((side : Side) × Listed (now values) (now rows) (n .used) (n .names) side) ⌝ }
-    ensures { λ q. ⌜ ((m : Meaning) (side : Side) → Listed (now (values .entry)) (now (rows .entry)) (n .used) (n .names) side → Resolves m (now (run .entry)) (take (n .slots) (now (sets .entry))) (now (own .entry)) (inBoth (n .standard) (n .user)) (n .slot) side → toldExported q (now (out .exit)) ≡ answered (n .measuring) (export m) (now (out .entry))) ⌝ }
+    requires { ⌜ (n .slots ≤ length (now sets)) × Ready (now run) n (now rows) (now values) (take (n .slots) (now sets)) (now own) (now classes) (now groups) (now places) ⌝ }
+    ensures { λ q. ⌜ AnswersAll (now (run .entry)) n (now (rows .entry)) (now (values .entry)) (take (n .slots) (now (sets .entry))) (now (own .entry)) (now (out .entry)) (toldExported q (now (out .exit))) ⌝ }
 {
     let s = n.slots;
     export_slots(

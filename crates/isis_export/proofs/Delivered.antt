@@ -37,7 +37,8 @@ unfolding write unless _then_ refusedIf faultOfCall fault
 wrote (refused x) result buffer n after e = let z : _≡_ {A = ℕ} 0 1 = cc (ap (λ (y : Exported). y .reply) e) in absurd (omega arith)
 wrote accepted result buffer n after e = go (ltb (length buffer) (length result)) e
   where
-    go : (t : Bool) → unless (cond t (faultOfCall 5) accepted) (λ r. told (exportRefused r) buffer) (told (bytes (length result)) (put buffer 0 result)) ≡ told (bytes n) after → Wrote accepted result n after
+    go : (t : Bool) → unless (cond t (faultOfCall 5) accepted) (λ r. told (exportRefused r) buffer) (told (bytes (length result)) (put buffer 0 result))
+        ≡ told (bytes n) after → Wrote accepted result n after
     go true e = let z : _≡_ {A = ℕ} 0 1 = cc (ap (λ (x : Exported). x .reply) e) in absurd (omega arith)
     go false e =
         let r : bytes (length result) ≡ bytes n = ap (λ (x : Exported). x .reply) e in
@@ -63,5 +64,6 @@ delivered a b c buffer n after e =
     }
 
 -- The same, of the answer that the code gives.
-pub delivered-as : (a b c buffer : List ℕ) (r : Written) (after : List ℕ) → toldExported r after ≡ exportLink a b c buffer → (n : ℕ) → toldWritten r ≡ bytes n → Delivered a b c n after
+pub delivered-as : (a b c buffer : List ℕ) (r : Written) (after : List ℕ) → toldExported r after ≡ exportLink a b c buffer → (n : ℕ) → toldWritten r ≡ bytes n
+    → Delivered a b c n after
 delivered-as a b c buffer r after e n i = delivered a b c buffer n after (sym e ∙ ap (λ (x : Length). told x after) i)

@@ -1,9 +1,8 @@
 -- What the entries answer, from what the checks of the link and its tables do. Assumes nothing.
-use mathlib.Core.Path.{_≡_, refl, sym, ap, _∙_}
-use mathlib.Core.Bool.{Bool, true, false, cond}
+use mathlib.Core.Path.{_≡_, refl, ap, _∙_}
+use mathlib.Core.Bool.{Bool, true, false}
 use mathlib.Core.List.{List}
 use Prim.Native.Nat.{ℕ}
-use lib.Dec.{ltb}
 use lib.ListN.{length}
 use Rattle.linkstate.specs.Replies.{Verdict, accepted, refused, Refusal, _then_, unless, Exported, bytes, exportRefused}
 use Rattle.linkstate.specs.Questions.{write}
@@ -22,9 +21,10 @@ module _ (measuring : Bool) (a b c buffer : List ℕ) where
   unfolding answeredLink unless
   link-refused r e = rw e
 
-  pub link-accepted : linkVerdict a b c ≡ accepted → answered measuring (export (meaning (linkSource a b c))) buffer ≡ answeredLink measuring a b c buffer
+  pub link-accepted : linkVerdict a b c ≡ accepted → (x : Exported) → x ≡ answered measuring (export (meaning (linkSource a b c))) buffer
+      → x ≡ answeredLink measuring a b c buffer
   unfolding answeredLink unless
-  link-accepted e = rw e
+  link-accepted e x h = rw e h
 
 -- Written, it is the third service, and what was written is delivered.
 module _ (a b c buffer : List ℕ) where
@@ -32,7 +32,8 @@ module _ (a b c buffer : List ℕ) where
   unfolding answeredLink answered exportLink write unless _then_
   as-export = go (linkVerdict a b c)
     where
-      go : (v : Verdict) → unless v (λ r. record { reply = exportRefused r; buffer = buffer }) (write accepted (export (meaning (linkSource a b c))) buffer) ≡ write v (export (meaning (linkSource a b c))) buffer
+      go : (v : Verdict) → unless v (λ r. record { reply = exportRefused r; buffer = buffer }) (write accepted (export (meaning (linkSource a b c))) buffer)
+          ≡ write v (export (meaning (linkSource a b c))) buffer
       go accepted = refl
       go (refused r) = refl
 
@@ -45,7 +46,8 @@ module _ (a b c buffer : List ℕ) where
   unfolding answeredLink answered exportLength unless
   as-length = go (linkVerdict a b c)
     where
-      go : (v : Verdict) → (unless {A = Exported} v (λ r. record { reply = exportRefused r; buffer = buffer }) (record { reply = bytes (length (export (meaning (linkSource a b c)))); buffer = buffer })) .reply
+      go : (v : Verdict) → (unless {A = Exported} v (λ r. record { reply = exportRefused r; buffer = buffer })
+          (record { reply = bytes (length (export (meaning (linkSource a b c)))); buffer = buffer })) .reply
           ≡ unless v exportRefused (bytes (length (export (meaning (linkSource a b c)))))
       go accepted = refl
       go (refused r) = refl

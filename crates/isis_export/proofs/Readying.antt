@@ -2,11 +2,11 @@
 use mathlib.Core.Path.{_≡_, refl, sym, ap, _∙_, subst}
 use mathlib.Core.Bool.{Bool, true, _&&_, _||_}
 use mathlib.Core.List.{List, [], _∷_}
-use Prim.Native.Nat.{ℕ, _+_, _*_, _/_, _%_, _-_, _≤_, _<_}
+use Prim.Native.Nat.{ℕ, _+_, _/_, _≤_, _<_}
 use native.Mathlib.Omega.{arith}
 use borrow.Author.Tests.{ltb-false, eqb-true, leb-true}
 use lib.Dec.{eqb, leb, ltb}
-use lib.ListN.{length, getD, take, drop, length-take}
+use lib.ListN.{length, take, length-take}
 use Rattle.linkstate.specs.Attributes.{srlgs}
 use Rattle.linkstate.specs.Sides.{Side, names, ofLive, generalSet}
 use Rattle.linkstate.specs.Replies.{accepted, refused, Exported}
@@ -19,7 +19,6 @@ use Rattle.rules.specs.Names.{Tells}
 use Rattle.srlg.specs.Ascending.{ascending}
 use Rattle.srlg_ranks.specs.Ranks.{picked, keepFrom}
 use Rattle.srlg_table.specs.declared.Used.{Used}
-use Rattle.srlg_classes.specs.Sided.{Sourced}
 use Rattle.export_tables.specs.Resolved.{Listed}
 use Rattle.isis.specs.RunA.{sideA}
 use Rattle.isis.specs.RunB.{sideB}
@@ -90,11 +89,9 @@ both-short x y i j t = (leb-true x i (and-l (leb x i) (leb y j) t), leb-true y j
 
 -- ---- its SRLGs
 
-pub front-is : {A : Type 0} (n : ℕ) (xs : List A) → take (n - 0) (drop 0 xs) ≡ take n xs
-front-is n xs = let e : n - 0 ≡ n = omega arith in rw e
-
 module _ {side : Side} {values : List ℕ} {rows : List (List ℕ)} {r : Indexed} (is : Indexes side values rows r) where
-  pub listed : {named : Names} → Tells (side .live) named → Listed (take (r .count) values) rows (record { words = (r .count + 63) / 64; sources = r .sources }) named side
+  pub listed : {named : Names} → Tells (side .live) named
+      → Listed (take (r .count) values) rows (record { words = (r .count + 63) / 64; sources = r .sources }) named side
   listed t =
       let l = length-take (r .count) values in
       record { most = omega (arith, l, is .few); small = is .small; words = omega (arith, l, is .few); sourced = is .sourced; tells = t }
@@ -115,7 +112,8 @@ none-legacy : srlgs ((sideB [] []) .legacy) ≡ []
 unfolding computing
 none-legacy = refl
 
-pub listed-none : {rows : List (List ℕ)} {named : Names} → Tells ((sideB [] []) .live) named → Listed [] rows (record { words = 0; sources = 0 }) named (sideB [] [])
+pub listed-none : {rows : List (List ℕ)} {named : Names} → Tells ((sideB [] []) .live) named
+    → Listed [] rows (record { words = 0; sources = 0 }) named (sideB [] [])
 unfolding picked keepFrom ascending
 listed-none t =
     record {
@@ -140,11 +138,13 @@ pub as-asked : {m n : Bool} → m ≡ n → (x : Exported) (result buffer : List
 as-asked h x result buffer e = e ∙ ap (λ (t : Bool). answered t result buffer) h
 
 module _ {a b c : List ℕ} {s : Sides} {used : Used} {measuring : Bool} {n : Link} {rows : List (List ℕ)} {values : List ℕ} where
-  pub ready : Passed a b c s → Joined s used measuring n → Listed values rows used (s .b) (sideB b c) → (0 < used .words → InUse rows used) → Ready a b c n rows values
+  pub ready : Passed a b c s → Joined s used measuring n → Listed values rows used (s .b) (sideB b c) → (0 < used .words → InUse rows used)
+      → Ready a b c n rows values
   ready p j l w =
       record {
         passed = subst (PassedA a) (sym (j .of .0)) (p .sideA);
         joined = j .both;
-        listed = subst (λ (u : Used). Listed values rows u (n .b) (sideB b c)) (sym (j .of .2)) (subst (λ (m : Names). Listed values rows used m (sideB b c)) (sym (j .of .1)) l);
+        listed = subst (λ (u : Used). Listed values rows u (n .b) (sideB b c)) (sym (j .of .2))
+            (subst (λ (m : Names). Listed values rows used m (sideB b c)) (sym (j .of .1)) l);
         used = subst (λ (u : Used). 0 < u .words → InUse rows u) (sym (j .of .2)) w;
       }

@@ -1,7 +1,7 @@
 -- The slots that the walk of run A leaves, with the SRLGs of side B, resolve the meaning of the link. Assumes nothing.
 use mathlib.Core.Path.{_≡_, refl, sym, ap, _∙_}
-use mathlib.Core.Bool.{Bool, true, false, cond, _&&_, _||_, false≢true}
-use mathlib.Core.List.{List, [], map, List·Memᴰ}
+use mathlib.Core.Bool.{Bool, true, false, cond, _&&_, _||_}
+use mathlib.Core.List.{List, map, List·Memᴰ}
 use Prim.Native.Nat.{ℕ, _+_, _-_, _≤_, _<_}
 use native.Mathlib.Omega.{arith}
 use borrow.Author.Tests.{eqb-true}
@@ -11,17 +11,15 @@ use Rattle.linkstate.specs.Bytes.{bytesOfWords}
 use Rattle.linkstate.specs.Kinds.{codes, linkCodes, applicationCodes, isLinkCode}
 use Rattle.linkstate.specs.Masks.{others}
 use Rattle.linkstate.specs.Attributes.{Attribute, srlgs, valueOf}
-use Rattle.linkstate.specs.Sides.{Side, named, generalSet, applicationSet, rsvpTeKind, bandwidthKind}
+use Rattle.linkstate.specs.Sides.{named, generalSet, applicationSet, rsvpTeKind, bandwidthKind}
 use Rattle.linkstate.specs.Meaning.{Meaning, meaning, row}
 use Rattle.linkstate.specs.Export.{topValue}
 use Rattle.linkstate.proofs.ListLaws.{and-l, map-ext, map-at, mem-member, member-mem, mem-numbers, numbers-mem}
 use Rattle.rivals.proofs.KindLaws.{link-mem, application-mem}
 use Rattle.kinds.specs.Rules.{gridCodes}
 use Rattle.kinds.proofs.Computing.{computing}
-use Rattle.masks.specs.Sets.{turnedPlace}
 use Rattle.grids.specs.Grids.{gridValue, setOf, bandwidthOf, topOf}
 use Rattle.grids.specs.Slots.{slotGrid, linkRows, slotOf}
-use Rattle.set_groups.specs.Table.{Named}
 use Rattle.srlg_classes.specs.Owned.{classAt}
 use Rattle.isis.specs.RunA.{sideA}
 use Rattle.isis.specs.RunB.{sideB}
@@ -56,7 +54,8 @@ module _ (a : List ℕ) (sets : List (List ℕ)) (s : ℕ) (f : ℕ → List Att
       go false e = map-at (gridValue a (slotGrid sets s)) (λ c. valueOf c (f c)) gridCodes (h .values) (member-mem k gridCodes (grid-member k e m))
 
   -- Kinds are resolved on their sides, SRLG on the other.
-  set-row : (g : ℕ → List Attribute) → ((k : ℕ) → eqb k 1096 ≡ false → f k ≡ g k) → us ≡ g 1096 → row (setOf a (slotGrid sets s) (srlgs us)) ≡ row (λ k. valueOf k (g k))
+  set-row : (g : ℕ → List Attribute) → ((k : ℕ) → eqb k 1096 ≡ false → f k ≡ g k) → us ≡ g 1096
+      → row (setOf a (slotGrid sets s) (srlgs us)) ≡ row (λ k. valueOf k (g k))
   unfolding row valuesOf
   set-row g e i = map-ext _ _ applicationCodes (λ k m. set-value k (mem-member applicationCodes m) ∙ set-sided k)
     where
@@ -101,13 +100,16 @@ module _ (a b c : List ℕ) {sets own : List (List ℕ)} {r : ℕ} (of : Indexed
     where
       reserved : row (setOf a (slotGrid sets r) (srlgs (rsvpTeKind 1096 (sideB b c)))) ≡ row (λ k. valueOf k (rsvpTeKind k (sideOf a b c k)))
       reserved =
-          set-row a sets r (λ k. rsvpTeKind k (sideA a)) (rsvpTeKind 1096 (sideB b c)) (of .rsvpTe) (λ k. rsvpTeKind k (sideOf a b c k)) (λ k e. ap (rsvpTeKind k) (side-a k e)) (ap (rsvpTeKind 1096) side-b)
+          set-row a sets r (λ k. rsvpTeKind k (sideA a)) (rsvpTeKind 1096 (sideB b c)) (of .rsvpTe) (λ k. rsvpTeKind k (sideOf a b c k))
+              (λ k e. ap (rsvpTeKind k) (side-a k e)) (ap (rsvpTeKind 1096) side-b)
 
       go : (k : ℕ) → List·Memᴰ k codes → (t : Bool) → isLinkCode k ≡ t
-          → cond t (bandwidthOf a (linkRows sets) k) (setOf a (slotGrid sets r) (srlgs (rsvpTeKind 1096 (sideB b c))) k) ≡ cond t (valueOf k (bandwidthKind k (sideA a))) (valueOf k (rsvpTeKind k (sideOf a b c k)))
+          → cond t (bandwidthOf a (linkRows sets) k) (setOf a (slotGrid sets r) (srlgs (rsvpTeKind 1096 (sideB b c))) k)
+              ≡ cond t (valueOf k (bandwidthKind k (sideA a))) (valueOf k (rsvpTeKind k (sideOf a b c k)))
       go k i true e = map-at (bandwidthOf a (linkRows sets)) (λ c. valueOf c (bandwidthKind c (sideA a))) linkCodes (of .link .1) (link-mem i e)
       go k i false e =
-          map-at (setOf a (slotGrid sets r) (srlgs (rsvpTeKind 1096 (sideB b c)))) (λ k. valueOf k (rsvpTeKind k (sideOf a b c k))) applicationCodes reserved (application-mem i e)
+          map-at (setOf a (slotGrid sets r) (srlgs (rsvpTeKind 1096 (sideB b c)))) (λ k. valueOf k (rsvpTeKind k (sideOf a b c k))) applicationCodes reserved
+              (application-mem i e)
 
   pub resolves : (p : ℕ → Bool) → ((n : ℕ) → p n ≡ named n (sideA a) || named n (sideB b c)) → Resolves m a sets own p r (sideB b c)
   unfolding meaning linkSource
@@ -116,10 +118,12 @@ module _ (a b c : List ℕ) {sets own : List (List ℕ)} {r : ℕ} (of : Indexed
         only = λ n h. other-low n (and-l (member n others) (named n (sideA a) || named n (sideB b c)) h);
         named = λ n l h. ap (λ (t : Bool). t && (named n (sideA a) || named n (sideB b c))) (low-other n l h) ∙ sym (e n);
         set = λ n h.
-            set-row a sets (slotOf own n) (λ k. applicationSet n (sideA a)) (applicationSet n (sideB b c)) (of .application n (h .low) (h .high)) (λ k. applicationSet n (sideOf a b c k))
+            set-row a sets (slotOf own n) (λ k. applicationSet n (sideA a)) (applicationSet n (sideB b c)) (of .application n (h .low) (h .high))
+                (λ k. applicationSet n (sideOf a b c k))
             (λ k e. ap (applicationSet n) (side-a k e)) (ap (applicationSet n) side-b);
         general =
-            set-row a sets 0 (λ k. generalSet (sideA a)) (generalSet (sideB b c)) (of .general) (λ k. generalSet (sideOf a b c k)) (λ k e. ap generalSet (side-a k e)) (ap generalSet side-b);
+            set-row a sets 0 (λ k. generalSet (sideA a)) (generalSet (sideB b c)) (of .general) (λ k. generalSet (sideOf a b c k))
+                (λ k e. ap generalSet (side-a k e)) (ap generalSet side-b);
         top = top-row;
       }
 

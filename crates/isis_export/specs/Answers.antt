@@ -13,7 +13,11 @@ use Rattle.export_bytes.specs.Whole.{answered}
 unfoldable pub exportLength : List ℕ → List ℕ → List ℕ → Length
 exportLength a b c = unless (linkVerdict a b c) exportRefused (bytes (length (export (meaning (linkSource a b c)))))
 
+-- What an accepted link answers, measured or written.
+abbrev pub acceptedLink : Bool → List ℕ → List ℕ → List ℕ → List ℕ → Exported
+acceptedLink measuring a b c buffer = answered measuring (export (meaning (linkSource a b c))) buffer
+
 -- Either of the two: refused as the link is, else what an accepted link answers.
 unfoldable pub answeredLink : Bool → List ℕ → List ℕ → List ℕ → List ℕ → Exported
-answeredLink measuring a b c buffer =
-    unless (linkVerdict a b c) (λ r. record { reply = exportRefused r; buffer = buffer }) (answered measuring (export (meaning (linkSource a b c))) buffer)
+answeredLink measuring a b c buffer = unless (linkVerdict a b c) (λ r. record { reply = exportRefused r; buffer = buffer })
+    (acceptedLink measuring a b c buffer)

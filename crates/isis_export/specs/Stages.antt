@@ -5,7 +5,7 @@ use mathlib.Core.List.{List, [], _∷_}
 use Prim.Native.Nat.{ℕ, _+_, _≤_, _<_}
 use lib.ListN.{length, getD, replicate}
 use Rattle.linkstate.specs.Limits.{mostSources}
-use Rattle.linkstate.specs.Replies.{accepted, runA, runB}
+use Rattle.linkstate.specs.Replies.{accepted, runA, runB, Exported}
 use Rattle.linkstate.specs.Elements.{elements, faults}
 use Rattle.rules.specs.declared.Names.{Names}
 use Rattle.rules.specs.Names.{Tells}
@@ -20,6 +20,7 @@ use Rattle.isis.specs.RunA.{checkA, sideA}
 use Rattle.isis.specs.RunB.{checkB, sideB}
 use Rattle.isis_check.specs.declared.Sides.{Sides}
 use Rattle.isis_export.specs.declared.Link.{Link}
+use Rattle.isis_export.specs.Answers.{acceptedLink}
 
 -- R9, W2, W3. A run A that passed its checks, and whom it names.
 pub record PassedA (a : List ℕ) (named : Names) : Type 0 where
@@ -50,6 +51,13 @@ pub record Ready (a b c : List ℕ) (n : Link) (rows : List (List ℕ)) (values 
   pub joined : (i : ℕ) → inBoth (n .standard) (n .user) i ≡ inBoth (n .a .standard) (n .a .user) i || inBoth (n .b .standard) (n .b .user) i
   pub listed : Listed values rows (n .used) (n .b) (sideB b c)
   pub used : 0 < n .used .words → InUse rows (n .used)
+
+-- It is so of some runs B and C; and of all such the answer is theirs.
+abbrev pub ReadyFor : List ℕ → Link → List (List ℕ) → List ℕ → Type 0
+ReadyFor a n rows values = (b : List ℕ) × (c : List ℕ) × Ready a b c n rows values
+
+abbrev pub AnswersAll : List ℕ → Link → List (List ℕ) → List ℕ → List ℕ → Exported → Type 0
+AnswersAll a n rows values buffer x = (b c : List ℕ) → Ready a b c n rows values → x ≡ acceptedLink (n .measuring) a b c buffer
 
 -- A table of slot and class in which no place has one yet.
 pub record Unowned (own : List (List ℕ)) : Type 0 where

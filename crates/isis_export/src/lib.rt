@@ -1,22 +1,19 @@
 // The export of an IS-IS link as BGP-LS TLVs, or its length alone (document 01, "BGP-LS bytes"): checks, indexes, and then the tables that no protocol is known of.
 ghost use mathlib.Core.Path.{_≡_};
-ghost use mathlib.Core.List.{List, []};
+ghost use mathlib.Core.List.{[]};
 ghost use Prim.Native.Nat.{ℕ, _+_, _≤_};
 ghost use lib.ListN.{length, take};
 ghost use Rattle.linkstate.specs.Replies.{bytes};
-ghost use Rattle.linkstate.specs.Meaning.{meaning};
 ghost use Rattle.replies.specs.Told.{toldWritten, toldExported};
 ghost use Rattle.masks.specs.Applications.{inBoth, inPair};
 ghost use Rattle.set_table.specs.Tables.{howMany};
-ghost use Rattle.export_bytes.specs.Whole.{answered};
-ghost use Rattle.isis.specs.Link.{linkSource, exportLink};
+ghost use Rattle.isis.specs.Link.{exportLink};
 ghost use Rattle.isis_index.specs.Started.{Started};
 ghost use Rattle.isis_index.specs.Indexed.{Indexed};
 ghost use Rattle.isis_srlg_index.specs.Sources.{Room};
 ghost use Rattle.isis_export.specs.Delivered.{Delivered};
-ghost use Rattle.isis_export.specs.Answers.{exportLength, answeredLink};
-ghost use Rattle.isis_export.specs.Stages.{PassedA, Passed, Joined, Ready, Unowned, Roomy};
-ghost use Rattle.linkstate.specs.Export as Definitions;
+ghost use Rattle.isis_export.specs.Answers.{exportLength, acceptedLink, answeredLink};
+ghost use Rattle.isis_export.specs.Stages.{PassedA, Passed, Joined, ReadyFor, AnswersAll, Unowned, Roomy};
 use export_tables::Plan;
 use isis_check::LinkChecked;
 use isis_check::Sides;
@@ -80,8 +77,8 @@ fn export_with(
     places: &mut [usize],
     out: &mut [u8],
 ) -> Written
-    requires { ⌜ ((b : List ℕ) × (c : List ℕ) × Ready (now a) b c n (now rows) (now values)) × Roomy n (now sets) (now classes) (now groups) (now places) ⌝ }
-    ensures { λ q. ⌜ ((b c : List ℕ) → Ready (now (a .entry)) b c n (now (rows .entry)) (now (values .entry)) → toldExported q (now (out .exit)) ≡ answered (n .measuring) (Definitions.export (meaning (linkSource (now (a .entry)) b c))) (now (out .entry))) ⌝ }
+    requires { ⌜ ReadyFor (now a) n (now rows) (now values) × Roomy n (now sets) (now classes) (now groups) (now places) ⌝ }
+    ensures { λ q. ⌜ AnswersAll (now (a .entry)) n (now (rows .entry)) (now (values .entry)) (now (out .entry)) (toldExported q (now (out .exit))) ⌝ }
 {
     let mut own = [[0u8; 2]; 128];
     let s = fill_sets(a, n.a, sets, &mut own);
@@ -112,8 +109,8 @@ fn export_with(
 
 // The same with room of its own, for twelve named applications and for all.
 fn export_few(a: &[u8], n: Link, rows: &[[u64; 18]], values: &[u64], out: &mut [u8]) -> Written
-    requires { ⌜ ((b : List ℕ) × (c : List ℕ) × Ready (now a) b c n (now rows) (now values)) × (howMany (inPair (n .standard) (n .user)) 128 ≤ 12) ⌝ }
-    ensures { λ q. ⌜ ((b c : List ℕ) → Ready (now (a .entry)) b c n (now (rows .entry)) (now (values .entry)) → toldExported q (now (out .exit)) ≡ answered (n .measuring) (Definitions.export (meaning (linkSource (now (a .entry)) b c))) (now (out .entry))) ⌝ }
+    requires { ⌜ ReadyFor (now a) n (now rows) (now values) × (howMany (inPair (n .standard) (n .user)) 128 ≤ 12) ⌝ }
+    ensures { λ q. ⌜ AnswersAll (now (a .entry)) n (now (rows .entry)) (now (values .entry)) (now (out .entry)) (toldExported q (now (out .exit))) ⌝ }
 {
     let mut sets = [[0u32; 12]; 15];
     let mut classes = [[0u64; 4]; 16];
@@ -133,8 +130,8 @@ fn export_few(a: &[u8], n: Link, rows: &[[u64; 18]], values: &[u64], out: &mut [
 }
 
 fn export_many(a: &[u8], n: Link, rows: &[[u64; 18]], values: &[u64], out: &mut [u8]) -> Written
-    requires { ⌜ ((b : List ℕ) × (c : List ℕ) × Ready (now a) b c n (now rows) (now values)) ⌝ }
-    ensures { λ q. ⌜ ((b c : List ℕ) → Ready (now (a .entry)) b c n (now (rows .entry)) (now (values .entry)) → toldExported q (now (out .exit)) ≡ answered (n .measuring) (Definitions.export (meaning (linkSource (now (a .entry)) b c))) (now (out .entry))) ⌝ }
+    requires { ⌜ ReadyFor (now a) n (now rows) (now values) ⌝ }
+    ensures { λ q. ⌜ AnswersAll (now (a .entry)) n (now (rows .entry)) (now (values .entry)) (now (out .entry)) (toldExported q (now (out .exit))) ⌝ }
 {
     let mut sets = [[1u32; 12]; 131];
     let mut classes = [[1u64; 4]; 131];
@@ -155,8 +152,8 @@ fn export_many(a: &[u8], n: Link, rows: &[[u64; 18]], values: &[u64], out: &mut 
 
 // By how many applications are named.
 fn export_sized(a: &[u8], n: Link, rows: &[[u64; 18]], values: &[u64], out: &mut [u8]) -> Written
-    requires { ⌜ ((b : List ℕ) × (c : List ℕ) × Ready (now a) b c n (now rows) (now values)) ⌝ }
-    ensures { λ q. ⌜ ((b c : List ℕ) → Ready (now (a .entry)) b c n (now (rows .entry)) (now (values .entry)) → toldExported q (now (out .exit)) ≡ answered (n .measuring) (Definitions.export (meaning (linkSource (now (a .entry)) b c))) (now (out .entry))) ⌝ }
+    requires { ⌜ ReadyFor (now a) n (now rows) (now values) ⌝ }
+    ensures { λ q. ⌜ AnswersAll (now (a .entry)) n (now (rows .entry)) (now (values .entry)) (now (out .entry)) (toldExported q (now (out .exit))) ⌝ }
 {
     if export_tables::at_most(n.standard, n.user, 12) {
         return export_few(a, n, rows, values, out);
@@ -173,8 +170,8 @@ fn export_listed(
     count: usize,
     out: &mut [u8],
 ) -> Written
-    requires { ⌜ (count ≤ length (now values)) × ((b : List ℕ) × (c : List ℕ) × Ready (now a) b c n (now rows) (take count (now values))) ⌝ }
-    ensures { λ q. ⌜ ((b c : List ℕ) → Ready (now (a .entry)) b c n (now (rows .entry)) (take count (now (values .entry))) → toldExported q (now (out .exit)) ≡ answered (n .measuring) (Definitions.export (meaning (linkSource (now (a .entry)) b c))) (now (out .entry))) ⌝ }
+    requires { ⌜ (count ≤ length (now values)) × ReadyFor (now a) n (now rows) (take count (now values)) ⌝ }
+    ensures { λ q. ⌜ AnswersAll (now (a .entry)) n (now (rows .entry)) (take count (now (values .entry))) (now (out .entry)) (toldExported q (now (out .exit))) ⌝ }
 {
     export_sized(a, n, rows, &values[0..count], out)
 }
@@ -210,7 +207,7 @@ fn export_keys(
     out: &mut [u8],
 ) -> Written
     requires { ⌜ Passed (now a) (now b) (now c) s × Room (length (now b)) (length (now c)) (length (now keys)) (length (now rows)) × (length (now keys) ≤ length (now values)) ⌝ }
-    ensures { λ q. ⌜ toldExported q (now (out .exit)) ≡ answered measuring (Definitions.export (meaning (linkSource (now (a .entry)) (now (b .entry)) (now (c .entry))))) (now (out .entry)) ⌝ }
+    ensures { λ q. ⌜ toldExported q (now (out .exit)) ≡ acceptedLink measuring (now (a .entry)) (now (b .entry)) (now (c .entry)) (now (out .entry)) ⌝ }
 {
     let k = isis_srlg_index::index_srlgs(b, c, s.b, keys, values, rows);
     let used = Used {
@@ -222,16 +219,9 @@ fn export_keys(
 }
 
 // The same with room of its own, for short runs B and C and for all.
-fn export_short(
-    a: &[u8],
-    b: &[u8],
-    c: &[u8],
-    s: Sides,
-    measuring: bool,
-    out: &mut [u8],
-) -> Written
+fn export_short(a: &[u8], b: &[u8], c: &[u8], s: Sides, measuring: bool, out: &mut [u8]) -> Written
     requires { ⌜ Passed (now a) (now b) (now c) s × (length (now b) ≤ 320) × (length (now c) ≤ 192) ⌝ }
-    ensures { λ q. ⌜ toldExported q (now (out .exit)) ≡ answered measuring (Definitions.export (meaning (linkSource (now (a .entry)) (now (b .entry)) (now (c .entry))))) (now (out .entry)) ⌝ }
+    ensures { λ q. ⌜ toldExported q (now (out .exit)) ≡ acceptedLink measuring (now (a .entry)) (now (b .entry)) (now (c .entry)) (now (out .entry)) ⌝ }
 {
     let mut keys = [1u64; 128];
     let mut values = [1u64; 128];
@@ -249,16 +239,9 @@ fn export_short(
     )
 }
 
-fn export_long(
-    a: &[u8],
-    b: &[u8],
-    c: &[u8],
-    s: Sides,
-    measuring: bool,
-    out: &mut [u8],
-) -> Written
+fn export_long(a: &[u8], b: &[u8], c: &[u8], s: Sides, measuring: bool, out: &mut [u8]) -> Written
     requires { ⌜ Passed (now a) (now b) (now c) s ⌝ }
-    ensures { λ q. ⌜ toldExported q (now (out .exit)) ≡ answered measuring (Definitions.export (meaning (linkSource (now (a .entry)) (now (b .entry)) (now (c .entry))))) (now (out .entry)) ⌝ }
+    ensures { λ q. ⌜ toldExported q (now (out .exit)) ≡ acceptedLink measuring (now (a .entry)) (now (b .entry)) (now (c .entry)) (now (out .entry)) ⌝ }
 {
     let mut keys = [1u64; 768];
     let mut values = [1u64; 768];
@@ -279,7 +262,7 @@ fn export_long(
 // Where runs B and C are empty: no SRLG at all.
 fn export_bare(a: &[u8], s: Sides, measuring: bool, out: &mut [u8]) -> Written
     requires { ⌜ Passed (now a) [] [] s ⌝ }
-    ensures { λ q. ⌜ toldExported q (now (out .exit)) ≡ answered measuring (Definitions.export (meaning (linkSource (now (a .entry)) [] []))) (now (out .entry)) ⌝ }
+    ensures { λ q. ⌜ toldExported q (now (out .exit)) ≡ acceptedLink measuring (now (a .entry)) [] [] (now (out .entry)) ⌝ }
 {
     let rows = [[0u64; 18]; 1];
     let values = [0u64; 1];
@@ -301,7 +284,7 @@ fn export_accepted(
     out: &mut [u8],
 ) -> Written
     requires { ⌜ Passed (now a) (now b) (now c) s ⌝ }
-    ensures { λ q. ⌜ toldExported q (now (out .exit)) ≡ answered measuring (Definitions.export (meaning (linkSource (now (a .entry)) (now (b .entry)) (now (c .entry))))) (now (out .entry)) ⌝ }
+    ensures { λ q. ⌜ toldExported q (now (out .exit)) ≡ acceptedLink measuring (now (a .entry)) (now (b .entry)) (now (c .entry)) (now (out .entry)) ⌝ }
 {
     if (b.len() == 0) & (c.len() == 0) {
         return export_bare(a, s, measuring, out);

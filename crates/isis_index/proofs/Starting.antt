@@ -2,11 +2,11 @@
 use mathlib.Core.Path.{_≡_, refl, sym, ap, _∙_}
 use mathlib.Core.Bool.{Bool, true, false, cond}
 use mathlib.Core.List.{List, []}
-use Prim.Native.Nat.{ℕ, _-_, _≤_, _<_}
+use Prim.Native.Nat.{ℕ, zero, suc, _-_, _≤_, _<_}
 use native.Mathlib.Omega.{arith}
 use borrow.Author.Tests.{ltb-true, ltb-false, leb-true, le-leb}
 use lib.Dec.{ltb}
-use lib.ListN.{length, take, getD, replicate, length-take}
+use lib.ListN.{length, take, drop, getD, replicate, length-take}
 use lib.Seq.{getD-take}
 use Rattle.linkstate.specs.Masks.{inNumber}
 use Rattle.linkstate.specs.Sides.{Advertisement}
@@ -15,7 +15,7 @@ use Rattle.masks.proofs.Steps.{turned-back}
 use Rattle.rules.specs.declared.Names.{Names}
 use Rattle.rules.specs.Names.{Tells}
 use Rattle.masks.specs.Applications.{inBoth, inPair}
-use Rattle.set_table.specs.Tables.{slotAt, Begun}
+use Rattle.set_table.specs.Tables.{slotAt, Owned, Begun}
 use Rattle.isis_index.specs.Index.{owning, Ground, Owning}
 use Rattle.isis_index.specs.Started.{Started}
 use Rattle.isis_index.proofs.Cells.{place-low}
@@ -26,6 +26,14 @@ use Rattle.isis_index.proofs.Walking.{no-mask}
 -- No slot and no class yet.
 abbrev pub unowned : List (List ℕ)
 unowned = replicate 128 (replicate 2 0)
+
+pub unowned-rows : Owned unowned
+unowned-rows = record { size = refl; pairs = λ p h. row 128 p h }
+  where
+    row : (n p : ℕ) → p < n → length (getD (replicate n (replicate {A = ℕ} 2 0)) p []) ≡ 2
+    row zero p h = absurd (omega arith)
+    row (suc n) zero h = refl
+    row (suc n) (suc p) h = row n p (omega arith)
 
 -- The sets of two masks as sent, n as 2 to the n.
 pub turned-both : (s u x y : ℕ) → ((n : ℕ) → n < 64 → inNumber x n ≡ inSent s n) → ((n : ℕ) → n < 64 → inNumber y n ≡ inSent u n) → (n : ℕ) → n < 128
@@ -61,6 +69,13 @@ module _ (named : Names) (standard user : ℕ) (ts : (n : ℕ) → n < 64 → in
 
       row : (s : ℕ) → s < k → getD (take k filled) s [] ≡ getD filled s []
       row s h = getD-take k filled s [] h
+
+  -- As the front of the table is lent.
+  pub started-front : {own filled : List (List ℕ)} {k : ℕ} → Begun unowned own filled standard user k → 3 ≤ k → k ≤ 256 → k ≤ length filled
+      → Started named (take (k - 0) (drop 0 filled)) own
+  started-front {own} {filled} {k} b three most room =
+      let e : k - 0 ≡ k = omega arith in
+      started b three most room (take (k - 0) (drop 0 filled)) (ap (λ (i : ℕ). take i filled) e)
 
 -- ---- what the walk asks for
 

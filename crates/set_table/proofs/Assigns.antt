@@ -1,8 +1,8 @@
 -- Slots given to applications, from the lowest on. Assumes nothing.
-use Prim.Native.Nat.{ℕ, zero, suc, _+_, _-_, _*_, _/_, _%_, _^_, _≤_, _<_}
+use Prim.Native.Nat.{ℕ, zero, suc, _+_, _-_, _%_, _^_, _≤_, _<_}
 use mathlib.Core.Path.{_≡_, refl, sym, _∙_, ap, ap₂, subst}
-use mathlib.Core.Bool.{Bool, true, false, cond, _&&_, _||_, not, and-false, and-true, false≢true}
-use mathlib.Core.List.{List, [], _∷_, map}
+use mathlib.Core.Bool.{Bool, true, false, _&&_, not, and-false, and-true, false≢true}
+use mathlib.Core.List.{List, []}
 use lib.Dec.{eqb, ltb}
 use lib.ListN.{length, getD, set, replicate, length-set}
 use lib.Seq.{getD-set-same, getD-set-other}
@@ -13,7 +13,7 @@ use Rattle.linkstate.proofs.ListLaws.{and-l, and-r}
 use Rattle.masks.specs.Sets.{turnedPlace}
 use Rattle.masks.proofs.Steps.{zero-none}
 use Rattle.srlg_ranks.proofs.Bits.{lowest}
-use Rattle.grids.specs.Slots.{cell, IsSet}
+use Rattle.grids.specs.Slots.{cell}
 use Rattle.set_table.specs.Marks.{valueMark, valueSize, total, setMark, setSize}
 use Rattle.set_table.specs.Tables.{CellFits, rowValues, Fitting, Summed, Table, slotAt, Owned, howMany, emptyRow, Assigned, Begun}
 use Rattle.masks.specs.Applications.{inPair}
@@ -385,3 +385,13 @@ module _ (run : List ℕ) (sets : List (List ℕ)) (h : (s : ℕ) → s < length
     where
       none : CellFits run 0
       none = record { within = omega arith; short = omega arith; some = λ d. absurd (d refl) }
+
+-- There are at most k numbers below k.
+pub many-most : (p : ℕ → Bool) (k : ℕ) → howMany p k ≤ k
+unfolding howMany one
+many-most p zero = omega arith
+many-most p (suc k) = go (p k) (many-most p k)
+  where
+    go : (b : Bool) → howMany p k ≤ k → howMany p k + one b ≤ suc k
+    go true h = omega arith
+    go false h = omega arith

@@ -1,8 +1,4 @@
 -- `export_tables::export_parts` meets its contract: the contract of `export_sets`, over parts. Assumes nothing.
-use mathlib.Core.Path.{sym, ap, _∙_}
-use mathlib.Core.List.{List}
-use Prim.Native.Nat.{ℕ}
-use native.Mathlib.Omega.{arith}
 use denote.Ref.{now}
 use lib.Seq.{length-take-le}
 use borrow.Author.Needs.{needs}
@@ -37,8 +33,9 @@ export-sets-requires c κs =
     let s = start (c .before .before .before .before .before .before .before) in
     let t = s .args .t in
     let p = s .pre in
-    rw (front-is (t .classes) (now (s .args .classes)), front-is (t .groups) (now (s .args .groups)), length-take-le (t .classes) (now (s .args .classes)) (p .0))
-    (p .2, p .3, p .4, p .5, p .6, p .7)
+    rw (front-is (t .classes) (now (s .args .classes)), front-is (t .groups) (now (s .args .groups)), length-take-le (t .classes) (now (s .args .classes))
+        (p .room .0))
+    (p .tables, p .entered, p .top .0, p .top .1, p .placed, p .unwritten)
 
 same-length : tie.Need-same-length
 same-length c = search needs

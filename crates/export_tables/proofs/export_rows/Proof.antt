@@ -24,7 +24,7 @@ part-export-slots-end c = search needs
 export-slots-requires : tie.Need-export-slots-requires
 export-slots-requires c κs =
     let s = start (c .before .before .before .before .before) in
-    rw (front-is (s .args .n .slots) (now (s .args .sets))) (s .pre .1, s .pre .2, s .pre .3)
+    rw (front-is (s .args .n .slots) (now (s .args .sets))) (s .pre .1)
 
 same-length : tie.Need-same-length
 same-length c = search needs

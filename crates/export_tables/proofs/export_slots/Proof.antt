@@ -1,8 +1,7 @@
 -- `export_tables::export_slots` meets its contract: the classes of the side, the groups, and then parts that describe the meaning. Assumes nothing.
-use mathlib.Core.Path.{_≡_, refl, sym, ap, _∙_, subst}
 use mathlib.Core.Bool.{Bool}
-use mathlib.Core.List.{List, [], _∷_}
-use Prim.Native.Nat.{ℕ, _≤_, _<_, _*_}
+use mathlib.Core.List.{List}
+use Prim.Native.Nat.{ℕ, _≤_}
 use native.Mathlib.Omega.{arith}
 use denote.Ref.{now}
 use lib.ListN.{length}
@@ -35,9 +34,10 @@ abbrev asked : tie.After-classify → ℕ → Bool
 asked k = inBoth (start k .args .n .standard) (start k .args .n .user)
 
 few : (k : tie.After-classify) → length (classes-in k) ≤ 131
-few k = omega (arith, start k .pre .1 .few, k .classify .kept .1 .1 .1 .1 .1 .0)
+few k = omega (arith, start k .pre .room .few, k .classify .kept .1 .1 .1 .1 .1 .0)
 
-module _ (k : tie.After-classify) (side : Side) (l : Listed (now (start k .args .values)) (now (start k .args .rows)) (start k .args .n .used) (start k .args .n .names) side) where
+module _ (k : tie.After-classify) (side : Side)
+    (l : Listed (now (start k .args .values)) (now (start k .args .rows)) (start k .args .n .used) (start k .args .n .names) side) where
   classified : Classified (now (start k .args .values)) (now (start k .args .rows)) (classes-in k) (own-in k) (asked k) side (k .classify .result)
   classified = k .classify .ensures .1 (now (start k .args .values)) side (l .words) (l .sourced) (l .tells)
 
@@ -48,26 +48,30 @@ group-requires : tie.Need-group-requires
 group-requires c κs =
     let k = c .before .before .before in
     let p = start k .pre in
-    let of = classified k (p .2 .0) (p .2 .1) in
-    (p .0 .slots, placed (p .0) (k .classify .ensures .0) of (few k), p .1 .grouped, general-low (p .0) (k .classify .ensures .0) of (few k))
+    let of = classified k (p .listed .0) (p .listed .1) in (
+      p .slotted .slots,
+      placed (p .slotted) (k .classify .ensures .0) of (few k),
+      p .room .grouped,
+      general-low (p .slotted) (k .classify .ensures .0) of (few k),
+    )
 
 export-parts-requires : tie.Need-export-parts-requires
 export-parts-requires c κs =
     let g = c .before .before .before .before .before in
     let k = classed g in
     let p = start k .pre in
-    let l = p .2 .1 in
-    let of = classified k (p .2 .0) l in
-    let f = g .group .ensures in (
-      of .table .room,
-      room (p .0) (k .classify .ensures .0) of (few k) (f .1) (f .2),
-      tables (p .0) (k .classify .ensures .0) of (few k) (l .most) (l .small),
-      entered (p .0) (k .classify .ensures .0) of (few k) (f .1) (f .2),
-      p .0 .top,
-      of .rsvp .low,
-      omega (arith, of .table .room, p .1 .placed, k .classify .kept .1 .1 .1 .1 .1 .0),
-      p .1 .unwritten,
-    )
+    let s = p .slotted in
+    let l = p .listed .1 in
+    let of = classified k (p .listed .0) l in
+    let f = g .group .ensures in
+    record {
+      room = (of .table .room, room s (k .classify .ensures .0) of (few k) (f .1) (f .2));
+      tables = tables s (k .classify .ensures .0) of (few k) (l .most) (l .small);
+      entered = entered s (k .classify .ensures .0) of (few k) (f .1) (f .2);
+      top = (s .top, omega (arith, of .general .low, of .rsvp .low));
+      placed = omega (arith, of .table .room, p .room .placed, k .classify .kept .1 .1 .1 .1 .1 .0);
+      unwritten = p .room .unwritten;
+    }
 
 same-length : tie.Need-same-length
 same-length c = search needs
@@ -86,7 +90,7 @@ returns c m side l so =
     let q = c .before .before .before .before in
     let k = classed (grouped q) in
     let f = grouped q .group .ensures in
-    q .export-parts .ensures m (describes (start k .pre .0) (k .classify .ensures .0) (classified k side l) (few k) (f .1) (f .2) m so)
+    q .export-parts .ensures m (describes (start k .pre .slotted) (k .classify .ensures .0) (classified k side l) (few k) (f .1) (f .2) m so)
 
 pub export-slots-spec : {M : Type 1} → statement M
 export-slots-spec =

@@ -1,5 +1,4 @@
 -- `isis_export::export_checked` meets its contract: the refusal of the checks, or the answer of a link that passed them. Assumes nothing.
-use mathlib.Core.Path.{_∙_}
 use denote.Ref.{now}
 use Rattle.isis_export.proofs.Readying.{verdict-refused, verdict-accepted, sides-passed}
 use Rattle.isis_export.proofs.Entries.{link-refused, link-accepted}
@@ -23,7 +22,8 @@ returns : tie.Need-returns
 returns c =
     let g = c .before in
     let a = g .before .before .before .before .before .before .before .args in
-    link-refused (a .measuring) (now (a .a)) (now (a .b)) (now (a .c)) (now (a .out)) _ (verdict-refused (g .before .before .check-sides .ensures) _ (g .r .given .1))
+    link-refused (a .measuring) (now (a .a)) (now (a .b)) (now (a .c)) (now (a .out)) _
+        (verdict-refused (g .before .before .check-sides .ensures) _ (g .r .given .1))
 
 same-length : tie.Need-same-length
 same-length c = search needs
@@ -34,7 +34,8 @@ returns-2 c =
     let g = q .before .before .before in
     let k = g .before .before in
     let a = k .before .before .before .before .before .args in
-    q .export-accepted .ensures ∙ link-accepted (a .measuring) (now (a .a)) (now (a .b)) (now (a .c)) (now (a .out)) (verdict-accepted (k .check-sides .ensures) _ (g .s .given .1))
+    link-accepted (a .measuring) (now (a .a)) (now (a .b)) (now (a .c)) (now (a .out)) (verdict-accepted (k .check-sides .ensures) _ (g .s .given .1)) _
+    (q .export-accepted .ensures)
 
 pub export-checked-spec : {M : Type 1} → statement M
 export-checked-spec =

@@ -18,7 +18,8 @@ slice-aggregate-export-with-4 : tie.Need-slice-aggregate-export-with-4
 slice-aggregate-export-with-4 c = search needs
 
 export-with-requires : tie.Need-export-with-requires
-export-with-requires c κs = let p = c .before .before .before .before .before .before .before .before .pre in (p .0, few-room (p .0 .2) (p .1) _ _ _ _ refl refl refl refl refl)
+export-with-requires c κs = let p = c .before .before .before .before .before .before .before .before .pre in
+    (p .0, few-room (p .0 .2) (p .1) _ _ _ _ refl refl refl refl refl)
 
 same-length : tie.Need-same-length
 same-length c = search needs

@@ -12,7 +12,8 @@ export-checked-requires : tie.Need-export-checked-requires
 export-checked-requires c κs = search needs
 
 returns : tie.Need-returns
-returns c = let q = c .before in let a = q .before .before .before .before .before .args in measured (now (a .a)) (now (a .b)) (now (a .c)) _ (q .export-checked .result) (q .export-checked .last .1 .1 .1 .1 .0) (q .export-checked .ensures)
+returns c = let q = c .before in let a = q .before .before .before .before .before .args in measured (now (a .a)) (now (a .b)) (now (a .c)) _
+    (q .export-checked .result) (q .export-checked .last .1 .1 .1 .1 .0) (q .export-checked .ensures)
 
 pub export-length-spec : {M : Type 1} → statement M
 export-length-spec =

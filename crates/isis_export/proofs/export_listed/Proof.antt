@@ -1,6 +1,6 @@
 -- `isis_export::export_listed` meets its contract: that of `export_sized`, over the front of the list. Assumes nothing.
 use denote.Ref.{now}
-use Rattle.isis_export.proofs.Readying.{front-is}
+use Rattle.export_tables.proofs.Fronts.{front-is}
 use borrow.Author.Needs.{needs}
 use Rattle.isis_export.proofs.export_listed.Statement.{statement}
 use Rattle.isis_export.proofs.export_listed.Tie as tie

@@ -18,7 +18,8 @@ slice-aggregate-export-with-4 : tie.Need-slice-aggregate-export-with-4
 slice-aggregate-export-with-4 c = search needs
 
 export-with-requires : tie.Need-export-with-requires
-export-with-requires c κs = let p = c .before .before .before .before .before .before .before .before .pre in (p, all-room (p .2) _ _ _ _ refl refl refl refl refl)
+export-with-requires c κs = let p = c .before .before .before .before .before .before .before .before .pre in
+    (p, all-room (p .2) _ _ _ _ refl refl refl refl refl)
 
 same-length : tie.Need-same-length
 same-length c = search needs

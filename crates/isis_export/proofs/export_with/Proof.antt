@@ -28,7 +28,7 @@ export-rows-requires c κs =
     let p = start k .pre in
     let of = p .0 .2 in
     let is = k .fill-sets .ensures .1 in
-    (k .fill-sets .ensures .0, slotted is _, table-room of _ _ _ _ _ (p .1) (is .owned .size), (_, of .listed))
+    (k .fill-sets .ensures .0, record { slotted = slotted is _; room = table-room of _ _ _ _ _ (p .1) (is .owned .size); listed = (_, of .listed) })
 
 same-length : tie.Need-same-length
 same-length c = search needs

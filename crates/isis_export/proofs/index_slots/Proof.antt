@@ -7,7 +7,7 @@ use denote.Ref.{now}
 use lib.ListN.{length}
 use lib.Seq.{take-at, length-take-le}
 use Rattle.isis_index.specs.Indexed.{Indexed}
-use Rattle.isis_export.proofs.Readying.{front-is}
+use Rattle.export_tables.proofs.Fronts.{front-is}
 use borrow.Author.Needs.{needs}
 use Rattle.isis_export.proofs.index_slots.Statement.{statement}
 use Rattle.isis_export.proofs.index_slots.Tie as tie
@@ -38,7 +38,8 @@ returns c =
     let n = s .args .count in
     let sets = now (s .args .sets) in
     let e = q .index-a .kept .1 .1 .0 ∙ ap length (front-is n sets) ∙ length-take-le n sets (s .pre .1) in
-    subst (λ (x : List (List ℕ)). Indexed (now (s .args .a)) x (q .index-a .last .1 .1 .1 .0) (q .index-a .result)) (sym (take-at (q .index-a .last .1 .1 .0) _ n e)) (q .index-a .ensures)
+    subst (λ (x : List (List ℕ)). Indexed (now (s .args .a)) x (q .index-a .last .1 .1 .1 .0) (q .index-a .result))
+        (sym (take-at (q .index-a .last .1 .1 .0) _ n e)) (q .index-a .ensures)
 
 pub index-slots-spec : {M : Type 1} → statement M
 index-slots-spec =
