@@ -1,2 +1,3 @@
+pub mod SrlgLaws
 pub mod Laws
 pub mod SetLaws

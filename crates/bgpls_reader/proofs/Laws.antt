@@ -12,7 +12,7 @@ use Rattle.linkstate.specs.Masks.{user, asNumber}
 use Rattle.linkstate.specs.Questions.{Subject, given, unwritten, srlgAnswer, answer, bytesOfFirst, listNamed}
 use Rattle.linkstate.specs.BgpLs.{runVerdict, runSource}
 use Rattle.octets.proofs.Laws.{front-is}
-use Rattle.bgpls_srlg.specs.Words.{srlgWords}
+use Rattle.bgpls_find.specs.Words.{srlgWords}
 
 -- The numbers of attributes, sorted, are their SRLGs.
 pub words-answer : (x : Asked) (ts : List Attribute) (n : ℕ) (xs after ns list : List ℕ) → n ≤ length xs → n ≡ length (srlgWords ts) → after ≡ put xs 0 (srlgWords ts)

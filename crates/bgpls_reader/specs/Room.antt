@@ -6,7 +6,7 @@ use lib.ListN.{length}
 use Rattle.bgpls_find.specs.declared.Start.{Start}
 use Rattle.bgpls_find.specs.Sets.{attributesIn}
 use Rattle.bgpls_find.specs.Walks.{Starts}
-use Rattle.bgpls_srlg.specs.Words.{srlgWords}
+use Rattle.bgpls_find.specs.Words.{srlgWords}
 
 pub record Counted (r : List ℕ) (start : Start) (n : ℕ) : Type 0 where
   pub starts : Starts (start .set) r (start .first) (start .next)

@@ -158,7 +158,7 @@ fn answer_words(
     requires { ⌜ Counted (now r) start n × (n ≤ length (now xs)) × (n ≤ 2 * length (now tmp)) ⌝ }
     ensures { λ x. ⌜ toldAsked x (now (list .exit)) ≡ srlgAnswer (srlgs (attributesIn (start .set) (now (r .entry)))) (now (list .entry)) ⌝ }
 {
-    bgpls_srlg::write_words(r, start, n, xs);
+    bgpls_find::write_words(r, start, n, xs);
     let k = srlg_sort::sort_long(&mut xs[0..n], tmp);
     answering::answer_front(xs, k, list)
 }
@@ -214,7 +214,7 @@ fn answer_srlg(r: &[u8], whom: Subject, list: &mut [u32]) -> Answer
     ensures { λ x. ⌜ toldAsked x (now (list .exit)) ≡ srlgAnswer (srlgs (given (runSource (now (r .entry))) (subjectOf whom) 1096)) (now (list .entry)) ⌝ }
 {
     let start = set_asked(r, whom, 1096);
-    let n = bgpls_srlg::count_words(r, start);
+    let n = bgpls_find::count_words(r, start);
     if n == 0 {
         return Answer::Absent;
     }

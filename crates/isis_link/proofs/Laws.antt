@@ -32,8 +32,8 @@ use Rattle.isis_check.specs.declared.LinkChecked.the-variants.{Accepted}
 use Rattle.isis_check.specs.Sides.{NamedSides}
 use Rattle.isis_link.proofs.Checks.{b-passed, b-short, c-short}
 use Rattle.isis_link.proofs.Given.{given-in-b}
-use Rattle.isis_srlgs.specs.Runs.{Passed}
-use Rattle.isis_srlgs.proofs.Words.{no-srlgs}
+use Rattle.isis_tlvs_238.specs.Runs.{Passed}
+use Rattle.isis_tlvs_238.proofs.Words.{no-srlgs}
 
 pub passed : (a b c : List ℕ) → linkVerdict a b c ≡ accepted → Passed b c
 passed a b c ok = record { checked = b-passed a b c ok; shortB = b-short a b c ok; shortC = c-short a b c ok }

@@ -21,7 +21,7 @@ ghost use Rattle.isis_grids.specs.declared.Which.the-variants.{WithoutL};
 ghost use Rattle.isis_link.specs.Asked.{ChecksAsked, AskedInA, Asked};
 ghost use Rattle.isis.specs.RunB.{sideB};
 ghost use Rattle.rules.specs.Names.{Tells};
-ghost use Rattle.isis_srlgs.specs.Runs.{Passed};
+ghost use Rattle.isis_tlvs_238.specs.Runs.{Passed};
 use isis_check::LinkChecked;
 use isis_check::Sides;
 use isis_grids::Which;
@@ -131,7 +131,7 @@ fn answer_srlg(b: &[u8], c: &[u8], whom: Subject, m: Names, list: &mut [u32]) ->
         return Answer::Absent;
     }
     let mut ns = [0u32; 512];
-    let k = isis_srlgs::srlgs_of(b, c, whom, m, &mut ns);
+    let k = isis_tlvs_238::srlgs_of(b, c, whom, m, &mut ns);
     answering::answer_front(&ns, k, list)
 }
 

@@ -1,2 +1,4 @@
+pub mod Words
+pub mod Sorted
 pub mod Tlvs
 pub mod Walks

@@ -1,20 +1,106 @@
 // The live TLVs 238, Application-Specific SRLG, of a run B that passed its checks: the numbers of the SRLG values of those that pass a test (document 01, "Who
-// gets what").
 ghost use mathlib.Core.Path.{_≡_};
-ghost use mathlib.Core.Bool.{_&&_, false};
-ghost use mathlib.Core.List.{List, []};
-ghost use Prim.Native.Nat.{ℕ, _+_, _/_, _≤_, _<_};
+ghost use mathlib.Core.Bool.{false, _&&_};
+ghost use Prim.Native.Nat.{_/_, _≤_, ℕ, _+_, _<_};
 ghost use lib.ListN.{length, take, drop};
+ghost use Rattle.linkstate.specs.Bytes.{distinct, words};
+ghost use Rattle.linkstate.specs.Attributes.{srlgs};
+ghost use Rattle.linkstate.specs.Questions.{numberTooHigh};
+ghost use Rattle.replies.specs.Told.{subjectOf};
+ghost use Rattle.rules.specs.Names.{Tells};
+ghost use Rattle.rules.specs.Rules.{takenBy, givenOn};
+ghost use Rattle.rules.specs.declared.Rule.the-variants.{NamingFirst};
+ghost use Rattle.isis.specs.RunB.{sideB, checkB, liveSrlg};
+ghost use Rattle.isis_tlvs_238.specs.Selected.{srlgWords, selects, masked, wordsIn, Listed, Whole};
+ghost use Rattle.isis_tlvs_238.specs.Runs.{Passed, Fronts, OnSideB};
+ghost use mathlib.Core.List.{List, []};
 ghost use Rattle.linkstate.specs.Lists.{put};
-ghost use Rattle.linkstate.specs.Bytes.{words};
 ghost use Rattle.linkstate.specs.Replies.{accepted, runB};
 ghost use Rattle.linkstate.specs.Elements.{element, elements, faults};
 ghost use Rattle.linkstate.specs.Sides.{ofLive};
 ghost use Rattle.isis.specs.MaskHeader.{sabmLength, udabmLength, headerLength, advertisement};
-ghost use Rattle.isis.specs.RunB.{checkB, liveSrlg, sideB};
 ghost use Rattle.isis_check_a.specs.Headers.{headerOf};
-ghost use Rattle.isis_tlvs_238.specs.Selected.{selects, masked, srlgWords, wordsIn, Listed, Whole};
 use isis_check_a::Header;
+use replies::Subject;
+use rules::Names;
+use rules::Rule;
+
+// TLVs 238 of run B or the legacy values of run C.
+
+// The numbers of the TLVs 238 that name RSVP-TE, and those of run C where these carry none, at the front of the list; how many there are.
+fn naming_first(b: &[u8], c: &[u8], out: &mut [u32]) -> usize
+    requires { ⌜ Passed (now b) (now c) × (length (now b) / 4 ≤ length (now out)) × (length (now c) / 4 ≤ length (now out)) ⌝ }
+    ensures { λ r. ⌜ Fronts (now (out .entry)) (now (out .exit)) r (srlgWords (takenBy NamingFirst 1096 (sideB (now (b .entry)) (now (c .entry))))) ⌝ }
+{
+    let k = collect(b, Which::Naming(0), out, 0);
+    if 0 < k {
+        return k;
+    }
+    srlg::words_into(c, out, 0)
+}
+
+// The numbers of what a rule takes on side B. No rule of a bandwidth is one of SRLG's.
+fn words_by(b: &[u8], c: &[u8], rule: Rule, out: &mut [u32]) -> usize
+    requires { ⌜ Passed (now b) (now c) × (length (now b) / 4 ≤ length (now out)) × (length (now c) / 4 ≤ length (now out)) × OnSideB rule ⌝ }
+    ensures { λ r. ⌜ Fronts (now (out .entry)) (now (out .exit)) r (srlgWords (takenBy rule 1096 (sideB (now (b .entry)) (now (c .entry))))) ⌝ }
+{
+    match rule {
+        Rule::ByL => srlg::words_into(c, out, 0),
+        Rule::Naming(n) => collect(b, Which::Naming(n), out, 0),
+        Rule::General => collect(b, Which::General, out, 0),
+        Rule::Legacy => srlg::words_into(c, out, 0),
+        Rule::NamingFirst => naming_first(b, c, out),
+        Rule::AloneFirst => 0,
+        Rule::LegacyFirst => 0,
+    }
+}
+
+// The first k numbers of a list put in order, repeats dropped; how many are left. tmp is room to work in.
+fn sort_through(out: &mut [u32], k: usize, tmp: &mut [u32]) -> usize
+    requires { ⌜ (k ≤ length (now out)) × (k ≤ length (now tmp)) ⌝ }
+    ensures { λ r. ⌜ (take r (now (out .exit)) ≡ distinct (take k (now (out .entry)))) × (r ≤ k) ⌝ }
+{
+    srlg_sort::sort_in(&mut out[0..k], tmp)
+}
+
+// The same with room of its own, for few numbers and for as many as a link can have.
+fn sort_few(out: &mut [u32], k: usize) -> usize
+    requires { ⌜ (k ≤ length (now out)) × (k ≤ 64) ⌝ }
+    ensures { λ r. ⌜ (take r (now (out .exit)) ≡ distinct (take k (now (out .entry)))) × (r ≤ k) ⌝ }
+{
+    let mut tmp = [0u32; 64];
+    sort_through(out, k, &mut tmp)
+}
+
+fn sort_many(out: &mut [u32], k: usize) -> usize
+    requires { ⌜ (k ≤ length (now out)) × (k ≤ 512) ⌝ }
+    ensures { λ r. ⌜ (take r (now (out .exit)) ≡ distinct (take k (now (out .entry)))) × (r ≤ k) ⌝ }
+{
+    let mut tmp = [0u32; 512];
+    sort_through(out, k, &mut tmp)
+}
+
+fn sort_front(out: &mut [u32], k: usize) -> usize
+    requires { ⌜ (k ≤ length (now out)) × (k ≤ 512) ⌝ }
+    ensures { λ r. ⌜ (take r (now (out .exit)) ≡ distinct (take k (now (out .entry)))) × (r ≤ k) ⌝ }
+{
+    if k <= 64 {
+        return sort_few(out, k);
+    }
+    sort_many(out, k)
+}
+
+// The SRLGs of a subject, ascending, at the front of the list, by whom side B names; how many there are. What stands behind them is of no meaning.
+pub fn srlgs_of(b: &[u8], c: &[u8], whom: Subject, m: Names, out: &mut [u32]) -> usize
+    requires { ⌜ Passed (now b) (now c) × (length (now b) / 4 ≤ length (now out)) × (length (now c) / 4 ≤ length (now out)) × (numberTooHigh (subjectOf whom) ≡ false) × Tells ((sideB (now b) (now c)) .live) m ⌝ }
+    ensures { λ r. ⌜ (take r (now (out .exit)) ≡ srlgs (givenOn (subjectOf whom) 1096 (sideB (now (b .entry)) (now (c .entry))))) × (r ≤ 512) × (r ≤ length (now (out .entry))) ⌝ }
+{
+    let rule = rules::decide(whom, 1096, m);
+    let k = words_by(b, c, rule, out);
+    sort_front(out, k)
+}
+
+// gets what").
 
 // Which live TLVs 238 are read: those that name an application, or the general ones.
 pub enum Which {
