@@ -120,13 +120,15 @@ module _ (a : List ℕ) (at : ℕ) (w : ReadAt a at) where
   part-of : (i k : ℕ) → i + k ≤ getD a (at + 1) 0 → take k (drop (at + 2 + i) a) ≡ take k (drop i value)
   unfolding bytesAt
   part-of i k h =
-      sym (part-of-part (drop (at + 2) a) (getD a (at + 1) 0) (omega (arith, length-drop (at + 2) a, w .asla .inside)) i (omega arith) k h ∙ ap (take k) (drop-drop i (at + 2) a))
+      sym (part-of-part (drop (at + 2) a) (getD a (at + 1) 0) (omega (arith, length-drop (at + 2) a, w .asla .inside)) i (omega arith) k h ∙ ap (take k)
+      (drop-drop i (at + 2) a))
 
   standard-is : take standard (drop (at + 4) a) ≡ (advertisement value []) .standardMask
   unfolding advertisement
   standard-is =
       let e : at + 4 ≡ at + 2 + 2 = omega arith in
-      ap (λ (i : ℕ). take standard (drop i a)) e ∙ part-of 2 standard (omega (arith, header-fits)) ∙ ap (λ (k : ℕ). take k (drop 2 value)) (sym (standard-bytes a at (w .asla) read-first))
+      ap (λ (i : ℕ). take standard (drop i a)) e ∙ part-of 2 standard (omega (arith, header-fits)) ∙ ap (λ (k : ℕ). take k (drop 2 value))
+      (sym (standard-bytes a at (w .asla) read-first))
 
   user-is : take user (drop (at + 4 + standard) a) ≡ (advertisement value []) .userMask
   unfolding advertisement
@@ -170,10 +172,12 @@ module _ (a : List ℕ) (at : ℕ) (w : ReadAt a at) where
     unfolding selects
     not-alone n = selects-not-alone RsvpTeAlone _ _ m refl first-number n ∙ ap rsvpTeAlone plain-is
 
-    pub alone-if : m ≡ 1 → (k : ℕ) → k ≡ asNumber (bit (take (at + 4 + standard + user - (at + 4 + standard)) (drop (at + 4 + standard) a))) → eqb k 0 ≡ rsvpTeAlone (advertisement value [])
+    pub alone-if : m ≡ 1 → (k : ℕ) → k ≡ asNumber (bit (take (at + 4 + standard + user - (at + 4 + standard)) (drop (at + 4 + standard) a)))
+        → eqb k 0 ≡ rsvpTeAlone (advertisement value [])
     unfolding selects
     alone-if n k f =
-        selects-alone RsvpTeAlone _ _ m k refl first-number n (f ∙ ap (λ (l : List ℕ). asNumber (bit l)) (part-lent (at + 4 + standard) user)) ∙ ap rsvpTeAlone plain-is
+        selects-alone RsvpTeAlone _ _ m k refl first-number n (f ∙ ap (λ (l : List ℕ). asNumber (bit l)) (part-lent (at + 4 + standard) user))
+        ∙ ap rsvpTeAlone plain-is
 
 -- ---- whether it is selected
 
@@ -249,7 +253,8 @@ module _ (a : List ℕ) (at : ℕ) (w : AslaAt a at) where
   unfolding isTaken selects lFlag sabmLength
   general-not h = go (leb 128 (getD (valueAt a at) 0 0)) refl (maskTooLong (valueAt a at)) refl
     where
-      go : (l : Bool) → leb 128 (getD (valueAt a at) 0 0) ≡ l → (m : Bool) → maskTooLong (valueAt a at) ≡ m → false ≡ cond l false (cond m false (general (advertisement (valueAt a at) [])))
+      go : (l : Bool) → leb 128 (getD (valueAt a at) 0 0) ≡ l → (m : Bool) → maskTooLong (valueAt a at) ≡ m
+          → false ≡ cond l false (cond m false (general (advertisement (valueAt a at) [])))
       go true e m f = refl
       go false e true f = refl
       go false e false f =
@@ -274,8 +279,11 @@ module _ (a : List ℕ) (at : ℕ) (w : AslaAt a at) where
       too-long : maskTooLong (valueAt a at) ≡ ltb 8 (getD a (at + 3) 0 % 128)
       too-long = mask-long (valueAt a at) (getD a (at + 3) 0 % 128) zero-standard same-user
 
-      go : (m : Bool) → maskTooLong (valueAt a at) ≡ m → (b : Bool) → eqb (getD a (at + 3) 0 % 128) 0 ≡ b → b ≡ cond m false (general (advertisement (valueAt a at) []))
-      go true e true f = let z : getD a (at + 3) 0 % 128 ≡ 0 = eqb-true (getD a (at + 3) 0 % 128) 0 f in absurd (omega (arith, ltb-true 8 (getD a (at + 3) 0 % 128) (sym too-long ∙ e)))
+      go : (m : Bool) → maskTooLong (valueAt a at) ≡ m → (b : Bool) → eqb (getD a (at + 3) 0 % 128) 0 ≡ b
+          → b ≡ cond m false (general (advertisement (valueAt a at) []))
+      go true e true f =
+          let z : getD a (at + 3) 0 % 128 ≡ 0 = eqb-true (getD a (at + 3) 0 % 128) 0 f in absurd
+          (omega (arith, ltb-true 8 (getD a (at + 3) 0 % 128) (sym too-long ∙ e)))
       go true e false f = refl
       go false e b f =
           sym (general-is e ∙ ap₂ (λ (x y : ℕ). eqb x 0 && eqb y 0) zero-standard same-user ∙ f)

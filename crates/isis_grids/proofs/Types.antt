@@ -29,7 +29,8 @@ unfolding all
 all-at p [] h k l = absurd (omega arith)
 all-at p (c ∷ cs) h k l = go (p c) refl h k l (all-at p cs)
   where
-    go : (b : Bool) → p c ≡ b → b && all p cs ≡ true → (k : ℕ) → k < suc (length cs) → (all p cs ≡ true → (k : ℕ) → k < length cs → p (getD cs k 0) ≡ true) → p (getD (c ∷ cs) k 0) ≡ true
+    go : (b : Bool) → p c ≡ b → b && all p cs ≡ true → (k : ℕ) → k < suc (length cs) → (all p cs ≡ true → (k : ℕ) → k < length cs → p (getD cs k 0) ≡ true)
+        → p (getD (c ∷ cs) k 0) ≡ true
     go true e h zero l f = e
     go true e h (suc k) l f = f h k (omega arith)
     go false e h k l f = absurd (let z : _≡_ {A = ℕ} 0 1 = cc in omega arith)
@@ -62,7 +63,8 @@ module _ (k : ℕ) (known : isCode k ≡ true) where
   pub type-is : eqb k 1096 ≡ false → (t : ℕ) → t ≡ typeOf k → codeOfType t ≡ k
   unfolding computing
   type-is n t e =
-      ap codeOfType e ∙ eqb-true (codeOfType (typeOf k)) k (go (eqb k 1096) n (code-tested (λ c. eqb c 1096 || eqb (codeOfType (typeOf c)) c) k kinds refl known))
+      ap codeOfType e ∙ eqb-true (codeOfType (typeOf k)) k (go (eqb k 1096) n (code-tested
+      (λ c. eqb c 1096 || eqb (codeOfType (typeOf c)) c) k kinds refl known))
     where
       go : (b : Bool) → b ≡ false → b || eqb (codeOfType (typeOf k)) k ≡ true → eqb (codeOfType (typeOf k)) k ≡ true
       go true f h = absurd (let z : _≡_ {A = ℕ} 0 1 = cc in omega arith)

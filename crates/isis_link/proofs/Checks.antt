@@ -41,7 +41,9 @@ module _ (a b c : List ℕ) (ok : linkVerdict a b c ≡ accepted) where
   b-passed = then-second _ _ runs
 
   pub b-short : length b ≤ 2048
-  b-short = ltb-false 2048 (length b) (or-r (ltb 2048 (length a)) (ltb 2048 (length b)) (or-l (ltb 2048 (length a) || ltb 2048 (length b)) (ltb 1024 (length c)) sizes))
+  b-short =
+      ltb-false 2048 (length b) (or-r (ltb 2048 (length a)) (ltb 2048 (length b))
+      (or-l (ltb 2048 (length a) || ltb 2048 (length b)) (ltb 1024 (length c)) sizes))
 
   pub c-short : length c ≤ 1024
   c-short = ltb-false 1024 (length c) (or-r (ltb 2048 (length a) || ltb 2048 (length b)) (ltb 1024 (length c)) sizes)

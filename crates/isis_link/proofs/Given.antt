@@ -42,7 +42,8 @@ module _ (a b c : List ℕ) where
   unfolding given givenOn linkSource
   given-on whom k = go (isLinkCode k) refl
     where
-      go : (x : Bool) → isLinkCode k ≡ x → cond x (bandwidthKind k (sideA a)) (setOf (linkSource a b c) whom k) ≡ cond x (bandwidthKind k (sideOf a b c k)) (setOn whom k (sideOf a b c k))
+      go : (x : Bool) → isLinkCode k ≡ x
+          → cond x (bandwidthKind k (sideA a)) (setOf (linkSource a b c) whom k) ≡ cond x (bandwidthKind k (sideOf a b c k)) (setOn whom k (sideOf a b c k))
       go true e = ap (bandwidthKind k) (sym (side-a k (link-apart k e)))
       go false e = set-on whom k
 

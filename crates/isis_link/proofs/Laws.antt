@@ -44,7 +44,8 @@ unfolding linkSource
 of-link a b c v e = e
 
 -- Places lie in run A, and the bytes are its own.
-pub answered : (a b c : List ℕ) (whom : Subject) (k : ℕ) (list : List ℕ) (x : Asked) → beforeAnswer (linkSource a b c) whom k ≡ accepted → x ≡ answer (place runA) k (given (linkSource a b c) whom k) list → x ≡ ask (linkSource a b c) whom k list
+pub answered : (a b c : List ℕ) (whom : Subject) (k : ℕ) (list : List ℕ) (x : Asked) → beforeAnswer (linkSource a b c) whom k ≡ accepted
+    → x ≡ answer (place runA) k (given (linkSource a b c) whom k) list → x ≡ ask (linkSource a b c) whom k list
 unfolding linkSource
 answered a b c whom k list x e h = h ∙ of-run
   where
@@ -98,11 +99,15 @@ module _ (a b c : List ℕ) (standard users : ℕ) where
   lists v ls lu hs hu =
       rw (← v)
       (ap₂ listed
-      (is-number standard (λ n. member n others && (named n (sideA a) || named n (sideB b c))) ls (λ n h. hs n h ∙ and-comm (named n (sideA a) || named n (sideB b c)) (not (eqb n 0)) ∙ ap (λ (x : Bool). x && (named n (sideA a) || named n (sideB b c))) (sym (standard-is n h))))
-      (is-number users (λ n. member (user n) others && (named (user n) (sideA a) || named (user n) (sideB b c))) lu (λ n h. hu n h ∙ ap (λ (x : Bool). x && (named (user n) (sideA a) || named (user n) (sideB b c))) (sym (user-is n h)))))
+      (is-number standard (λ n. member n others && (named n (sideA a) || named n (sideB b c))) ls
+      (λ n h. hs n h ∙ and-comm (named n (sideA a) || named n (sideB b c)) (not (eqb n 0)) ∙ ap
+      (λ (x : Bool). x && (named n (sideA a) || named n (sideB b c))) (sym (standard-is n h))))
+      (is-number users (λ n. member (user n) others && (named (user n) (sideA a) || named (user n) (sideB b c))) lu
+      (λ n h. hu n h ∙ ap (λ (x : Bool). x && (named (user n) (sideA a) || named (user n) (sideB b c))) (sym (user-is n h)))))
 
 -- Whom the sides name, as the checks tell it.
-pub told-names : (a b c : List ℕ) (r : LinkChecked) → NamedSides r a b c → (s : Sides) → r ≡ Accepted s → Tells ((sideA a) .live) (s .a) × Tells ((sideB b c) .live) (s .b)
+pub told-names : (a b c : List ℕ) (r : LinkChecked) → NamedSides r a b c → (s : Sides) → r ≡ Accepted s
+    → Tells ((sideA a) .live) (s .a) × Tells ((sideB b c) .live) (s .b)
 told-names a b c r h s e = subst (λ (x : LinkChecked). NamedSides x a b c) e h
 
 -- What is in the numbers, from what each step says of them: m is whom either side names, with the bytes of masks.
@@ -119,14 +124,16 @@ module _ (a b c : List ℕ) (x y m : Names) (p : Tells ((sideA a) .live) x) (q :
         low : (n : ℕ) → n < 64 → inSent (m .standard) n ≡ inBoth (m .standard) (m .user) n
         low n h = ap (λ (b : Bool). cond b (inSent (m .standard) n) (inSent (m .user) (n - 64))) (sym (lt-ltb n 64 h))
 
-    pub user-in : ((n : ℕ) → n < 64 → inNumber t n ≡ inSent (m .user) n) → (n : ℕ) → n < 64 → inNumber t n ≡ named (user n) (sideA a) || named (user n) (sideB b c)
+    pub user-in : ((n : ℕ) → n < 64 → inNumber t n ≡ inSent (m .user) n) → (n : ℕ) → n < 64
+        → inNumber t n ≡ named (user n) (sideA a) || named (user n) (sideB b c)
     unfolding inBoth user
     user-in ht n h = ht n h ∙ high n ∙ either (64 + n)
       where
         high : (n : ℕ) → inSent (m .user) n ≡ inBoth (m .standard) (m .user) (64 + n)
         high n =
             let z : n ≡ 64 + n - 64 = omega arith in
-            ap (inSent (m .user)) z ∙ ap (λ (b : Bool). cond b (inSent (m .standard) (64 + n)) (inSent (m .user) (64 + n - 64))) (sym (le-ltb (64 + n) 64 (omega arith)))
+            ap (inSent (m .user)) z ∙ ap (λ (b : Bool). cond b (inSent (m .standard) (64 + n)) (inSent (m .user) (64 + n - 64)))
+            (sym (le-ltb (64 + n) 64 (omega arith)))
 
 -- Without runs B and C there is no SRLG to answer with.
 pub none-there : (b c : List ℕ) (whom : Subject) (list : List ℕ) → (eqb (length b) 0 && eqb (length c) 0) ≡ true
@@ -135,5 +142,6 @@ unfolding srlgAnswer unwritten empty
 none-there b c whom list e = sym (ap (λ (ns : List ℕ). srlgAnswer ns list) (no-srlgs b c whom e))
 
 -- What the code answers SRLG with, of the link.
-pub srlg-of-link : (a b c : List ℕ) (whom : Subject) (list : List ℕ) (x : Asked) → x ≡ srlgAnswer (srlgs (givenOn whom 1096 (sideB b c))) list → x ≡ srlgAnswer (srlgs (setOf (linkSource a b c) whom 1096)) list
+pub srlg-of-link : (a b c : List ℕ) (whom : Subject) (list : List ℕ) (x : Asked) → x ≡ srlgAnswer (srlgs (givenOn whom 1096 (sideB b c))) list
+    → x ≡ srlgAnswer (srlgs (setOf (linkSource a b c) whom 1096)) list
 srlg-of-link a b c whom list x e = e ∙ ap (λ (ts : List Attribute). srlgAnswer (srlgs ts) list) (given-in-b a b c whom)

@@ -33,7 +33,8 @@ use Rattle.isis_link.proofs.Given.{given-in-a}
 use Rattle.isis_link.proofs.ValueLaws.{some-type}
 
 -- What a rule takes is a list with the same row.
-pub takes : (a : List ℕ) (k : ℕ) (rule r : Rule) (ts : List Attribute) (row : List ℕ) → rule ≡ r → rowOf k ts ≡ rowOf k (takenBy r k (sideA a)) → row ≡ rowOf k ts → row ≡ rowOf k (takenBy rule k (sideA a))
+pub takes : (a : List ℕ) (k : ℕ) (rule r : Rule) (ts : List Attribute) (row : List ℕ) → rule ≡ r → rowOf k ts ≡ rowOf k (takenBy r k (sideA a))
+    → row ≡ rowOf k ts → row ≡ rowOf k (takenBy rule k (sideA a))
 takes a k rule r ts row g e h = h ∙ e ∙ ap (λ (x : Rule). rowOf k (takenBy x k (sideA a))) (sym g)
 
 -- ---- one list, then another
@@ -44,10 +45,13 @@ placed-live w a = subst (All Placed) (sym (live-all w a)) (placed-selected w (el
 module _ (c : ℕ) (a row : List ℕ) where
   module _ (w : Which) (e : row ≡ rowOf c (ofLive (selects w) (sideA a))) where
     pub live-there : (getD row 0 0 ≡ 0 → ⊥) → row ≡ rowOf c (ofLive (selects w) (sideA a) ++ (sideA a) .legacy)
-    live-there n = first-present c (ofLive (selects w) (sideA a)) ((sideA a) .legacy) (ofLive (selects w) (sideA a) ++ (sideA a) .legacy) (placed-live w a) refl row e n
+    live-there n =
+        first-present c (ofLive (selects w) (sideA a)) ((sideA a) .legacy) (ofLive (selects w) (sideA a) ++ (sideA a) .legacy) (placed-live w a) refl row e n
 
-    pub live-absent : getD row 0 0 ≡ 0 → (found : List ℕ) → found ≡ rowOf c ((sideA a) .legacy) → found ≡ rowOf c (ofLive (selects w) (sideA a) ++ (sideA a) .legacy)
-    live-absent n found f = f ∙ first-absent c (ofLive (selects w) (sideA a)) ((sideA a) .legacy) (ofLive (selects w) (sideA a) ++ (sideA a) .legacy) (placed-live w a) refl row e n
+    pub live-absent : getD row 0 0 ≡ 0 → (found : List ℕ) → found ≡ rowOf c ((sideA a) .legacy)
+        → found ≡ rowOf c (ofLive (selects w) (sideA a) ++ (sideA a) .legacy)
+    live-absent n found f =
+        f ∙ first-absent c (ofLive (selects w) (sideA a)) ((sideA a) .legacy) (ofLive (selects w) (sideA a) ++ (sideA a) .legacy) (placed-live w a) refl row e n
 
   module _ (e : row ≡ rowOf c ((sideA a) .legacy)) where
     pub legacy-there : (ts : List Attribute) → (getD row 0 0 ≡ 0 → ⊥) → row ≡ rowOf c ((sideA a) .legacy ++ ts)
@@ -67,7 +71,8 @@ naming-first a ok k known other =
     ∙ go (eqb (getD (rowOf k live) 0 0) 0)
     ∙ ap (λ (b : Bool). rowOf k (cond b ((sideA a) .legacy) live)) (sym e)
   where
-    go : (b : Bool) → cond b (rowOf k ((sideA a) .legacy)) (rowOf k (ofLive (names 0) (sideA a))) ≡ rowOf k (cond b ((sideA a) .legacy) (ofLive (names 0) (sideA a)))
+    go : (b : Bool)
+        → cond b (rowOf k ((sideA a) .legacy)) (rowOf k (ofLive (names 0) (sideA a))) ≡ rowOf k (cond b ((sideA a) .legacy) (ofLive (names 0) (sideA a)))
     go true = refl
     go false = refl
 

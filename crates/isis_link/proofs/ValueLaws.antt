@@ -66,8 +66,10 @@ module _ (a : List ℕ) (ok : faults runA checkA (elements 1 0 a) ≡ accepted) 
   taken-stands General k = live-stands a ok W.General
   taken-stands Legacy k = legacy-stands a ok
   taken-stands NamingFirst k = all-cond (Stands a) (empty (valueOf k (ofLive (names 0) (sideA a)))) _ _ (legacy-stands a ok) (live-stands a ok (W.Naming 0))
-  taken-stands AloneFirst k = all-append (Stands a) (ofLive (selects W.RsvpTeAlone) (sideA a)) ((sideA a) .legacy) (live-stands a ok W.RsvpTeAlone) (legacy-stands a ok)
-  taken-stands LegacyFirst k = all-append (Stands a) ((sideA a) .legacy) (ofLive (selects W.WithoutL) (sideA a)) (legacy-stands a ok) (live-stands a ok W.WithoutL)
+  taken-stands AloneFirst k =
+      all-append (Stands a) (ofLive (selects W.RsvpTeAlone) (sideA a)) ((sideA a) .legacy) (live-stands a ok W.RsvpTeAlone) (legacy-stands a ok)
+  taken-stands LegacyFirst k =
+      all-append (Stands a) ((sideA a) .legacy) (ofLive (selects W.WithoutL) (sideA a)) (legacy-stands a ok) (live-stands a ok W.WithoutL)
 
   pub given-stands : (b c : List ℕ) (whom : Subject) (k : ℕ) → eqb k 1096 ≡ false → All (Stands a) (given (linkSource a b c) whom k)
   given-stands b c whom k s = subst (All (Stands a)) (rule-taken whom k (sideA a) ∙ sym (given-in-a a b c whom k s)) (taken-stands (ruleOn whom k (sideA a)) k)
@@ -93,9 +95,11 @@ module _ (a : List ℕ) (whom : Subject) (k : ℕ) (m : Names) (q : AskedInA a w
   unfolding bgplsValue
   reads t j st = go (eqb k 1092) refl (st .value ∙ ap (λ (x : ℕ). bgplsValue x (bytesAt a (t .at) (t .len))) j)
     where
-      go : (z : Bool) → eqb k 1092 ≡ z → t .value ≡ cond z (0 ∷ bytesAt a (t .at) (t .len)) (bytesAt a (t .at) (t .len)) → readingAs (formOf k) (place runA) t ≡ readingAs (formOf k) (place runA) (standing a (t .at) (t .len))
+      go : (z : Bool) → eqb k 1092 ≡ z → t .value ≡ cond z (0 ∷ bytesAt a (t .at) (t .len)) (bytesAt a (t .at) (t .len))
+          → readingAs (formOf k) (place runA) t ≡ readingAs (formOf k) (place runA) (standing a (t .at) (t .len))
       go true z v =
-          subst (λ (f : Form). readingAs f (place runA) t ≡ readingAs f (place runA) (standing a (t .at) (t .len))) (sym (ap formOf (eqb-true k 1092 z) ∙ metric-form)) (zero-in-front a (place runA) t v)
+          subst (λ (f : Form). readingAs f (place runA) t ≡ readingAs f (place runA) (standing a (t .at) (t .len))) (sym (ap formOf (eqb-true k 1092 z) ∙ metric-form))
+          (zero-in-front a (place runA) t v)
       go false z v = own-bytes a (place runA) t (formOf k) v
 
   pub row-readable : ReadableRow (formOf k) (length a) (getD row 0 0) (getD row 1 0)
@@ -105,13 +109,20 @@ module _ (a : List ℕ) (whom : Subject) (k : ℕ) (m : Names) (q : AskedInA a w
       go : First a k (given (linkSource a b c) whom k) → ReadableRow (formOf k) (length a) (getD row 0 0) (getD row 1 0)
       go (absent i) = λ z. absurd (z (ap (λ (x : List ℕ). getD x 0 0) (row-absent i)))
       go (present t us i j st) =
-          rw (row-present t us i) (λ z. (lies t j st, readable-in-a k (t .len) (q .known) (q .other) (sym (ap (λ (x : ℕ). wrongOfCode x (t .len)) j) ∙ st .right)))
+          rw (row-present t us i) (λ z. (
+            lies t j st,
+            readable-in-a k (t .len) (q .known) (q .other)
+                (sym (ap (λ (x : ℕ). wrongOfCode x (t .len)) j) ∙ st .right),
+          ))
 
   row-reply : firstOf (place runA) (ofKind k (given (linkSource a b c) whom k)) ≡ rowAnswer a (place runA) k (getD row 0 0) (getD row 1 0)
   row-reply = go first
     where
-      go : First a k (given (linkSource a b c) whom k) → firstOf (place runA) (ofKind k (given (linkSource a b c) whom k)) ≡ rowAnswer a (place runA) k (getD row 0 0) (getD row 1 0)
-      go (absent i) = first-absent a (place runA) k (ofKind k (given (linkSource a b c) whom k)) i ∙ sym (ap (λ (x : List ℕ). rowAnswer a (place runA) k (getD x 0 0) (getD x 1 0)) (row-absent i))
+      go : First a k (given (linkSource a b c) whom k)
+          → firstOf (place runA) (ofKind k (given (linkSource a b c) whom k)) ≡ rowAnswer a (place runA) k (getD row 0 0) (getD row 1 0)
+      go (absent i) =
+          first-absent a (place runA) k (ofKind k (given (linkSource a b c) whom k)) i ∙ sym
+          (ap (λ (x : List ℕ). rowAnswer a (place runA) k (getD x 0 0) (getD x 1 0)) (row-absent i))
       go (present t us i j st) =
           first-present a (place runA) k (ofKind k (given (linkSource a b c) whom k)) t us i j (st .placed) (reads t j st)
           ∙ sym (ap (λ (x : List ℕ). rowAnswer a (place runA) k (getD x 0 0) (getD x 1 0)) (row-present t us i))
@@ -122,7 +133,8 @@ module _ (a : List ℕ) (whom : Subject) (k : ℕ) (m : Names) (q : AskedInA a w
   pub row-within : (getD row 0 0 ≡ 0 → ⊥) → getD row 0 0 + getD row 1 0 ≤ length a
   row-within z = row-readable z .0
 
-  pub row-part : (getD row 0 0 ≡ 0 → ⊥) → take (getD row 0 0 + getD row 1 0 - getD row 0 0) (drop (getD row 0 0) a) ≡ bytesOfFirst a (ofKind k (given (linkSource a b c) whom k))
+  pub row-part : (getD row 0 0 ≡ 0 → ⊥)
+      → take (getD row 0 0 + getD row 1 0 - getD row 0 0) (drop (getD row 0 0) a) ≡ bytesOfFirst a (ofKind k (given (linkSource a b c) whom k))
   unfolding bytesOfFirst
   row-part z = part-is a (getD row 0 0) (getD row 1 0) ∙ go first
     where
@@ -136,4 +148,5 @@ module _ (a : List ℕ) (whom : Subject) (k : ℕ) (m : Names) (q : AskedInA a w
     where
       go : First a k (given (linkSource a b c) whom k) → [] ≡ bytesOfFirst a (ofKind k (given (linkSource a b c) whom k))
       go (absent i) = sym (ap (bytesOfFirst a) i)
-      go (present t us i j st) = let y : t .at ≡ 0 = sym (ap (λ (x : List ℕ). getD x 0 0) (row-present t us i)) ∙ z in let w = st .placed in absurd (omega arith)
+      go (present t us i j st) =
+          let y : t .at ≡ 0 = sym (ap (λ (x : List ℕ). getD x 0 0) (row-present t us i)) ∙ z in let w = st .placed in absurd (omega arith)

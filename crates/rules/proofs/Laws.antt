@@ -32,13 +32,15 @@ unfolding any
 named-by-l n [] h = h
 named-by-l n (d ∷ ds) h = go (d .L) (names n d) h (named-by-l n ds)
   where
-    go : (x y : Bool) → (x && y) || any (λ d. d .L && names n d) ds ≡ true → (any (λ d. d .L && names n d) ds ≡ true → any (names n) ds ≡ true) → y || any (names n) ds ≡ true
+    go : (x y : Bool) → (x && y) || any (λ d. d .L && names n d) ds ≡ true → (any (λ d. d .L && names n d) ds ≡ true → any (names n) ds ≡ true)
+        → y || any (names n) ds ≡ true
     go x true h r = refl
     go true false h r = r h
     go false false h r = r h
 
 -- A test that only those pass that name n, where none does.
-none-pass : (n : ℕ) (p q : Advertisement → Bool) → ((d : Advertisement) → p d ≡ names n d && q d) → (ds : List Advertisement) → any (names n) ds ≡ false → keep p ds ≡ []
+none-pass : (n : ℕ) (p q : Advertisement → Bool) → ((d : Advertisement) → p d ≡ names n d && q d) → (ds : List Advertisement) → any (names n) ds ≡ false
+    → keep p ds ≡ []
 unfolding any keep
 none-pass n p q e [] h = refl
 none-pass n p q e (d ∷ ds) h = go (names n d) (p d) (e d) h (none-pass n p q e ds)
@@ -118,7 +120,8 @@ unfolding subjectRule setOn
 subject-taken generally k s = general-taken k s
 subject-taken (standardNo n) k s = go (eqb n 0)
   where
-    go : (b : Bool) → takenBy (cond b (rsvpTeRule (namedWithL 0 s) (named 0 s)) (applicationRule n (namedWithL n s) (named n s))) k s ≡ cond b (rsvpTeKind k s) (applicationSet n s)
+    go : (b : Bool)
+        → takenBy (cond b (rsvpTeRule (namedWithL 0 s) (named 0 s)) (applicationRule n (namedWithL n s) (named n s))) k s ≡ cond b (rsvpTeKind k s) (applicationSet n s)
     go true = rsvp-te-taken k s
     go false = application-taken k n s
 subject-taken (userNo n) k s = application-taken k (user n) s

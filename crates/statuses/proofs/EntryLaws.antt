@@ -66,15 +66,18 @@ finds s whom k list x = go (beforeAnswer s whom k) refl (eqb k 1096) refl
 
 module _ (s : List ℕ) (spot : ℕ → Place) (p n : ℕ) where
   -- A float by the bits of the code's slice.
-  pub float-words : (f : Form) → f ≡ float → two 3 (number (take (p + n - p) (drop p s))) 0 ≡ readingWords (number (bytesAt s p n)) (readingAs f spot (standing s p n))
+  pub float-words : (f : Form) → f ≡ float
+      → two 3 (number (take (p + n - p) (drop p s))) 0 ≡ readingWords (number (bytesAt s p n)) (readingAs f spot (standing s p n))
   unfolding readingAs
   float-words f e = rw e (ap (λ (v : List ℕ). two 3 (number v) 0) (part-is s p n))
 
   -- Any other form has no bits.
-  pub other-words : (f : CodeForm) → OneOf (0 ∷ 1 ∷ 3 ∷ 4 ∷ []) (tagOf the-type f) → (g : Form) → toldForm f ≡ g → (x : Reading) → x ≡ readingAs (toldForm f) spot (standing s p n)
+  pub other-words : (f : CodeForm) → OneOf (0 ∷ 1 ∷ 3 ∷ 4 ∷ []) (tagOf the-type f) → (g : Form) → toldForm f ≡ g → (x : Reading)
+      → x ≡ readingAs (toldForm f) spot (standing s p n)
       → (w : List ℕ) → w ≡ readingWords 0 x → w ≡ readingWords (number (bytesAt s p n)) (readingAs g spot (standing s p n))
   unfolding readingAs
-  other-words f o g e x h w i = i ∙ ap (readingWords 0) h ∙ go f o ∙ ap (λ (q : Form). readingWords (number (bytesAt s p n)) (readingAs q spot (standing s p n))) e
+  other-words f o g e x h w i =
+      i ∙ ap (readingWords 0) h ∙ go f o ∙ ap (λ (q : Form). readingWords (number (bytesAt s p n)) (readingAs q spot (standing s p n))) e
     where
       go : (f : CodeForm) → OneOf (0 ∷ 1 ∷ 3 ∷ 4 ∷ []) (tagOf the-type f)
           → readingWords 0 (readingAs (toldForm f) spot (standing s p n)) ≡ readingWords (number (bytesAt s p n)) (readingAs (toldForm f) spot (standing s p n))
@@ -95,7 +98,8 @@ module _ (s : Source) (whom : Subject) (k : ℕ) where
   unfolding valueWords unless
   place-srlg w n e h = n ∙ rw (e, eq-eqb k 1096 h)
 
-  pub place-first : (w : List ℕ) → beforeAnswer s whom k ≡ accepted → (k ≡ 1096 → ⊥) → w ≡ placeWords (s .spot) (ofKind k (given s whom k)) → w ≡ valueWords s whom k
+  pub place-first : (w : List ℕ) → beforeAnswer s whom k ≡ accepted → (k ≡ 1096 → ⊥) → w ≡ placeWords (s .spot) (ofKind k (given s whom k))
+      → w ≡ valueWords s whom k
   unfolding valueWords unless
   place-first w e h p = rw (e, ne-eqb k 1096 h) p
 
@@ -108,12 +112,14 @@ unfolding firstOf placeWords
 first-none spot [] e = refl
 first-none spot (t ∷ ts) e = absurd (let z : _≡_ {A = ℕ} 0 1 = cc in omega arith)
 
-pub row-placed : (run : Run) (row : List ℕ) (ts : List Attribute) → row ≡ firstRow ts → (getD row 0 0 ≡ 0 → ⊥) → placed 4 (getD row 0 0) (getD row 1 0) run ≡ placeWords (place run) ts
+pub row-placed : (run : Run) (row : List ℕ) (ts : List Attribute) → row ≡ firstRow ts → (getD row 0 0 ≡ 0 → ⊥)
+    → placed 4 (getD row 0 0) (getD row 1 0) run ≡ placeWords (place run) ts
 unfolding firstRow placeWords place
 row-placed run row [] e h = absurd (h (ap (λ (x : List ℕ). getD x 0 0) e))
 row-placed run row (t ∷ ts) e h = rw e
 
-pub row-not-placed : (a : List ℕ) (spot : ℕ → Place) (k : ℕ) (row : List ℕ) (ts : List Attribute) → firstOf spot ts ≡ rowAnswer a spot k (getD row 0 0) (getD row 1 0) → getD row 0 0 ≡ 0 → nothing ≡ placeWords spot ts
+pub row-not-placed : (a : List ℕ) (spot : ℕ → Place) (k : ℕ) (row : List ℕ) (ts : List Attribute) → firstOf spot ts ≡ rowAnswer a spot k (getD row 0 0) (getD row 1 0)
+    → getD row 0 0 ≡ 0 → nothing ≡ placeWords spot ts
 unfolding rowAnswer
 row-not-placed a spot k row ts e z = first-none spot ts (e ∙ rw z)
 
@@ -156,9 +162,12 @@ module _ (s : Source) (whom : Subject) (k : ℕ) (list : List ℕ) where
     first = firstOf (s .spot) (ofKind k (given s whom k))
 
     pub asked-first : (x : Reply) → first ≡ x → (w : List ℕ) → w ≡ replyWords (number (value s whom k)) x → Answers s whom k list w list
-    asked-first x f w h = answered s whom k list list first (answer-other s whom k (s .spot) list first other refl ∙ ask-answered s whom k list e) w (h ∙ ap (replyWords (number (value s whom k))) (sym f))
+    asked-first x f w h =
+        answered s whom k list list first (answer-other s whom k (s .spot) list first other refl ∙ ask-answered s whom k list e) w
+        (h ∙ ap (replyWords (number (value s whom k))) (sym f))
 
-    pub asked-row : (b : List ℕ) (p n : ℕ) → first ≡ rowAnswer b (s .spot) k p n → (p ≡ 0 → ⊥) → take (p + n - p) (drop p b) ≡ bytesOfFirst (s .bytes) (ofKind k (given s whom k))
+    pub asked-row : (b : List ℕ) (p n : ℕ) → first ≡ rowAnswer b (s .spot) k p n → (p ≡ 0 → ⊥)
+        → take (p + n - p) (drop p b) ≡ bytesOfFirst (s .bytes) (ofKind k (given s whom k))
         → (w : List ℕ) → w ≡ readingWords (number (bytesAt b p n)) (readingAs (formOf k) (s .spot) (standing b p n)) → Answers s whom k list w list
     asked-row b p n f z v w h =
         let x = readingAs (formOf k) (s .spot) (standing b p n) in

@@ -44,18 +44,22 @@ Tied s = s .side .live ≡ each (s .live) (s .elements)
 module _ (s : Standing) where
   pub first-same : (p q : Advertisement → Bool) → ((d : Advertisement) → p d ≡ q d) → first s p ≡ first s q
   unfolding first
-  first-same p q h = lookup-same (λ e. any p (s .live e)) (λ e. any q (s .live e)) (λ e. heldAt (s .spot (offsetOf e))) nowhere (λ e. any-same p q h (s .live e)) (s .elements)
+  first-same p q h =
+      lookup-same (λ e. any p (s .live e)) (λ e. any q (s .live e)) (λ e. heldAt (s .spot (offsetOf e))) nowhere (λ e. any-same p q h (s .live e))
+      (s .elements)
 
   module _ (tied : Tied s) (p : Advertisement → Bool) where
     pub first-held : isHeld (first s p) ≡ any p (s .side .live)
     unfolding first isHeld
     first-held =
-        held-any (λ e. any p (s .live e)) (λ e. heldAt (s .spot (offsetOf e))) (λ e. refl) (s .elements) ∙ any-each p (s .live) (s .elements) ∙ ap (any p) (sym tied)
+        held-any (λ e. any p (s .live e)) (λ e. heldAt (s .spot (offsetOf e))) (λ e. refl) (s .elements) ∙ any-each p (s .live) (s .elements) ∙ ap
+        (any p) (sym tied)
 
     pub first-none : isHeld (first s p) ≡ false → first s p ≡ nowhere
     unfolding first
     first-none h =
-        none-any (λ e. any p (s .live e)) (λ e. heldAt (s .spot (offsetOf e))) (s .elements) (any-each p (s .live) (s .elements) ∙ ap (any p) (sym tied) ∙ sym first-held ∙ h)
+        none-any (λ e. any p (s .live e)) (λ e. heldAt (s .spot (offsetOf e))) (s .elements)
+        (any-each p (s .live) (s .elements) ∙ ap (any p) (sym tied) ∙ sym first-held ∙ h)
 
   -- The one that holds the value, from the first that passes and has the kind.
   module _ (tied : Tied s) (k : ℕ) (p : Advertisement → Bool) where
@@ -87,12 +91,14 @@ module _ (s : Standing) where
     unfolding holder isHeld
     holder-held = go (eqb k 1096) refl (has k (ofLive p (s .side))) refl
       where
-        go : (c : Bool) → eqb k 1096 ≡ c → (b : Bool) → has k (ofLive p (s .side)) ≡ b → isHeld (cond b (first s (λ d. p d && (c || has k (d .attributes)))) nowhere) ≡ b
+        go : (c : Bool) → eqb k 1096 ≡ c → (b : Bool) → has k (ofLive p (s .side)) ≡ b
+            → isHeld (cond b (first s (λ d. p d && (c || has k (d .attributes)))) nowhere) ≡ b
         go c i false e = refl
         go false i true e = both-held ∙ e
         go true i true e =
             first-held tied (λ d. p d && true)
-            ∙ any-more both (λ d. p d && true) (λ d h. and-true (p d) ∙ and-l (p d) (has k (d .attributes)) h) (s .side .live) (sym (first-held tied both) ∙ both-held ∙ e)
+            ∙ any-more both (λ d. p d && true) (λ d h. and-true (p d) ∙ and-l (p d) (has k (d .attributes)) h) (s .side .live)
+            (sym (first-held tied both) ∙ both-held ∙ e)
 
     pub holder-nowhere : isHeld (holder s k p) ≡ false → holder s k p ≡ nowhere
     unfolding holder

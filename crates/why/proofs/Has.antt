@@ -55,7 +55,8 @@ and-true false = refl
 pub kind-moved : (k w base : ℕ) (s : List ℕ) → any (isOf k) (elements w base s) ≡ any (isOf k) (elements w 0 s)
 unfolding isOf moved
 kind-moved k w base s =
-    ap (λ (i : ℕ). any (isOf k) (elements w i s)) (sym (add-zero base)) ∙ ap (any (isOf k)) (elements-moved w base 0 s) ∙ any-map (isOf k) (moved base) (elements w 0 s)
+    ap (λ (i : ℕ). any (isOf k) (elements w i s)) (sym (add-zero base)) ∙ ap (any (isOf k)) (elements-moved w base 0 s) ∙ any-map (isOf k) (moved base)
+    (elements w 0 s)
     ∙ any-same (λ e. isOf k (moved base e)) (isOf k) same (elements w 0 s)
   where
     same : (e : Element) → isOf k (moved base e) ≡ isOf k e
@@ -91,7 +92,8 @@ unfolding empty
 empty-append [] y = refl
 empty-append (w ∷ x) y = refl
 
-srlg-some : (ts : List Attribute) → not (empty (each (λ t. words (t .value)) (keep (λ t. eqb 1096 (t .code)) ts))) ≡ any (λ t. eqb 1096 (t .code) && leb 4 (length (t .value))) ts
+srlg-some : (ts : List Attribute)
+    → not (empty (each (λ t. words (t .value)) (keep (λ t. eqb 1096 (t .code)) ts))) ≡ any (λ t. eqb 1096 (t .code) && leb 4 (length (t .value))) ts
 unfolding keep each any empty
 srlg-some [] = refl
 srlg-some (t ∷ ts) = go (eqb 1096 (t .code)) (srlg-some ts)
@@ -130,7 +132,8 @@ has-is k ts = go (eqb k 1096) refl
     go false e = has-other k ts e
 
 -- Those of advertisements that pass, together: one of them has it.
-pub has-live : (k : ℕ) (p : Advertisement → Bool) (ds : List Advertisement) → has k (each (λ d. d .attributes) (keep p ds)) ≡ any (λ d. p d && has k (d .attributes)) ds
+pub has-live : (k : ℕ) (p : Advertisement → Bool) (ds : List Advertisement)
+    → has k (each (λ d. d .attributes) (keep p ds)) ≡ any (λ d. p d && has k (d .attributes)) ds
 unfolding keep each any
 has-live k p ds = has-is k (each (λ d. d .attributes) (keep p ds)) ∙ go ds
   where

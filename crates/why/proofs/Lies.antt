@@ -61,7 +61,8 @@ module _ (s : Standing) (k : ℕ) (other : k ≡ 1096 → ⊥) (p : Advertisemen
   append : (ds es : List Advertisement) → ofAll (ds ++ es) ≡ ofAll ds ++ ofAll es
   unfolding ofKind
   append ds es =
-      ap (λ (l : List Advertisement). ofKind k (each (λ d. d .attributes) l)) (keep-append p ds es) ∙ ap (ofKind k) (each-append (λ d. d .attributes) (keep p ds) (keep p es))
+      ap (λ (l : List Advertisement). ofKind k (each (λ d. d .attributes) l)) (keep-append p ds es) ∙ ap (ofKind k)
+      (each-append (λ d. d .attributes) (keep p ds) (keep p es))
       ∙ keep-append (λ t. eqb k (t .code)) (each (λ d. d .attributes) (keep p ds)) (each (λ d. d .attributes) (keep p es))
 
   -- the first attribute of the kind, where an advertisement passes and has it
@@ -94,8 +95,18 @@ module _ (s : Standing) (k : ℕ) (other : k ≡ 1096 → ⊥) (p : Advertisemen
           let q = head-in (s .live x) (ofAll (each (s .live) es)) ts i (sym (append (s .live x) (each (s .live) es)) ∙ e) in
           record { holds = x; there = List·Memᴰ·head refl; offset = cc; advertised = q .0; live = q .1; passes = q .2; value = q .3 }
       go false i f r =
-          let q = r f (ap (λ (l : List Attribute). l ++ ofAll (each (s .live) es)) (sym (none-there (s .live x) i)) ∙ sym (append (s .live x) (each (s .live) es)) ∙ e) in
-          record { holds = q .holds; there = List·Memᴰ·tail (q .there); offset = q .offset; advertised = q .advertised; live = q .live; passes = q .passes; value = q .value }
+          let q = r f (ap (λ (l : List Attribute). l ++ ofAll (each (s .live) es)) (sym (none-there (s .live x) i)) ∙ sym
+          (append (s .live x) (each (s .live) es)) ∙ e) in
+          record {
+            holds = q .holds;
+            there = List·Memᴰ·tail
+                (q .there);
+            offset = q .offset;
+            advertised = q .advertised;
+            live = q .live;
+            passes = q .passes;
+            value = q .value;
+          }
 
   pub lies : Tied s → (ts : List Attribute) → holder s k p ≡ heldAt told → ofKind k (ofLive p (s .side)) ≡ t ∷ ts → Lies s p t told (s .elements)
   unfolding first ofLive
@@ -127,7 +138,8 @@ unfolding rsvpTeKind sideOf selects
 rsvp-te-agrees a b c k ok known s e = ap (λ (x : Bool). cond (namedWithL 0 s || x) (s .legacy) (ofLive (names 0) s)) (go (eqb k 1096) refl)
   where
     go : (x : Bool) → eqb k 1096 ≡ x → empty (valueOf k (ofLive (names 0) s)) ≡ not (has k (ofLive (names 0) s))
-    go true i = subst (λ (n : ℕ). empty (valueOf n (ofLive (names 0) s)) ≡ not (has n (ofLive (names 0) s))) (sym (eqb-true k 1096 i)) (same-b (ofLive (names 0) s))
+    go true i =
+        subst (λ (n : ℕ). empty (valueOf n (ofLive (names 0) s)) ≡ not (has n (ofLive (names 0) s))) (sym (eqb-true k 1096 i)) (same-b (ofLive (names 0) s))
     go false i =
         let q : sideA a ≡ s = sym (e ∙ rw i) in
         same-a a k (ofLive (names 0) s) (subst (λ (r : Side). All (Stands a) (ofLive (names 0) r)) q (live-stands a (a-passed a b c ok) (Naming 0))) known i

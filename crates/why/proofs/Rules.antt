@@ -193,7 +193,8 @@ module _ (run : Run) (b : List ℕ) (k : ℕ) (ok : Ready run b k) where
     unfolding namingWhy passing _orElse_
     naming-none u f ef =
         ap (because W.byName)
-        (ef ∙ first-in run b k ok (T.Names n) ∙ ap (λ (x : W.Holder). x orElse first st (names n)) (sym (holder-nowhere st (tied run b) k (names n) (ap isHeld (sym eh) ∙ u))))
+        (ef ∙ first-in run b k ok (T.Names n) ∙ ap (λ (x : W.Holder). x orElse first st (names n))
+        (sym (holder-nowhere st (tied run b) k (names n) (ap isHeld (sym eh) ∙ u))))
 
   -- and RSVP-TE
   module _ (h : W.Holder) (eh : h ≡ holder st k (passing (T.Names 0))) where
@@ -274,10 +275,15 @@ module _ (rule : Rule) (whom : Subject) (k : ℕ) (s : Standing) (x : W.Why) whe
       go General o = refl
       go NamingFirst o = refl
       go Legacy o = refl
-      go AloneFirst o = absurd (⊎-elim (λ e. omega arith) (λ g. ⊎-elim (λ e. omega arith) (λ f. ⊎-elim (λ e. omega arith) (λ d. ⊎-elim (λ e. omega arith) (λ e. omega arith) d) f) g) o)
-      go LegacyFirst o = absurd (⊎-elim (λ e. omega arith) (λ g. ⊎-elim (λ e. omega arith) (λ f. ⊎-elim (λ e. omega arith) (λ d. ⊎-elim (λ e. omega arith) (λ e. omega arith) d) f) g) o)
+      go AloneFirst o =
+          absurd (⊎-elim (λ e. omega arith) (λ g. ⊎-elim (λ e. omega arith) (λ f. ⊎-elim (λ e. omega arith)
+          (λ d. ⊎-elim (λ e. omega arith) (λ e. omega arith) d) f) g) o)
+      go LegacyFirst o =
+          absurd (⊎-elim (λ e. omega arith) (λ g. ⊎-elim (λ e. omega arith) (λ f. ⊎-elim (λ e. omega arith)
+          (λ d. ⊎-elim (λ e. omega arith) (λ e. omega arith) d) f) g) o)
 
-pub by-general : (rule : Rule) (whom : Subject) (k : ℕ) (s : Standing) → rule ≡ General → (g : W.Rule) (h : W.Holder) → g ≡ generalRule whom → h ≡ holder s k (passing T.General) → because g h ≡ whyBy rule whom k s
+pub by-general : (rule : Rule) (whom : Subject) (k : ℕ) (s : Standing) → rule ≡ General → (g : W.Rule) (h : W.Holder) → g ≡ generalRule whom
+    → h ≡ holder s k (passing T.General) → because g h ≡ whyBy rule whom k s
 unfolding whyBy passing
 by-general rule whom k s e g h i j = rw (e, i, j)
 
@@ -306,12 +312,14 @@ unfolding any
 none-has k = has-is k []
 
 module _ (k : ℕ) (s : Standing) where
-  application-why : (whom : Subject) (n : ℕ) → numberOf whom ≡ n → generalRule whom ≡ W.unnamed → whyBy (applicationRule n (namedWithL n (s .side)) (named n (s .side))) whom k s ≡ applicationWhy n k s
+  application-why : (whom : Subject) (n : ℕ) → numberOf whom ≡ n → generalRule whom ≡ W.unnamed
+      → whyBy (applicationRule n (namedWithL n (s .side)) (named n (s .side))) whom k s ≡ applicationWhy n k s
   unfolding whyBy applicationRule applicationWhy namingWhy
   application-why whom n z g = go (namedWithL n (s .side)) (named n (s .side))
     where
       go : (x y : Bool) → whyBy (cond x ByL (cond y (Naming n) General)) whom k s
-          ≡ cond x (because W.byL (first s (namesWithL n))) (cond y (because W.byName (holder s k (names n) orElse first s (names n))) (because W.unnamed (holder s k general)))
+          ≡ cond x (because W.byL (first s (namesWithL n))) (cond y (because W.byName (holder s k (names n) orElse first s (names n)))
+          (because W.unnamed (holder s k general)))
       go true y = ap (λ (i : ℕ). because W.byL (first s (namesWithL i))) z
       go false true = refl
       go false false = ap (λ (r : W.Rule). because r (holder s k general)) g
@@ -392,7 +400,8 @@ module _ (a b c : List ℕ) (whom : Subject) (rule : Rule) (x : W.Why) where
 
   pub link-in-b : rule ≡ ruleOn whom 1096 (sideB b []) → x ≡ whyBy rule whom 1096 (standing B b) → x ≡ linkAnswer a b c whom 1096
   unfolding linkAnswer standing standOf standB ruleOn
-  link-in-b e h = rw srlg-apart (h ∙ ap (λ (r : Rule). whyBy r whom 1096 (standB b [])) (e ∙ on-subject) ∙ subject-why 1096 (standB b []) whom ∙ any-c whom 1096 b c)
+  link-in-b e h =
+      rw srlg-apart (h ∙ ap (λ (r : Rule). whyBy r whom 1096 (standB b [])) (e ∙ on-subject) ∙ subject-why 1096 (standB b []) whom ∙ any-c whom 1096 b c)
     where
       on-subject : ruleOn whom 1096 (sideB b []) ≡ subjectRule whom (sideB b [])
       on-subject = rw srlg-apart
@@ -425,7 +434,8 @@ module _ (whom : Whom) (s : Side) (r : Rule) where
   unfolding subjectRule
   rule-general e h = rw e h
 
-  pub rule-standard : (n : ℕ) → whom ≡ S.Standard n → isRsvpTe (subjectOf whom) ≡ false → r ≡ applicationRule n (namedWithL n s) (named n s) → r ≡ subjectRule (subjectOf whom) s
+  pub rule-standard : (n : ℕ) → whom ≡ S.Standard n → isRsvpTe (subjectOf whom) ≡ false → r ≡ applicationRule n (namedWithL n s) (named n s)
+      → r ≡ subjectRule (subjectOf whom) s
   unfolding subjectRule isRsvpTe
   rule-standard n e f h = let z : eqb n 0 ≡ false = rw e at f in rw (e, z) h
 
@@ -443,9 +453,11 @@ module _ (s : List ℕ) (whom : Subject) (k : ℕ) (x : W.Why) where
     unfolding runAnswer
     run-rsvp-te t h = rw f (h ∙ told-top k (standRun s) topWhy whom t)
 
-    pub run-other : isRsvpTe whom ≡ false → (rule : Rule) → rule ≡ subjectRule whom (runSide s) → x ≡ whyBy rule whom k (standing BgpLs s) → x ≡ runAnswer s whom k
+    pub run-other : isRsvpTe whom ≡ false → (rule : Rule) → rule ≡ subjectRule whom (runSide s) → x ≡ whyBy rule whom k (standing BgpLs s)
+        → x ≡ runAnswer s whom k
     unfolding runAnswer standing standRun
-    run-other t rule e h = rw f (h ∙ ap (λ (r : Rule). whyBy r whom k (standRun s)) e ∙ subject-why k (standRun s) whom ∙ told-other k (standRun s) topWhy whom t)
+    run-other t rule e h =
+        rw f (h ∙ ap (λ (r : Rule). whyBy r whom k (standRun s)) e ∙ subject-why k (standRun s) whom ∙ told-other k (standRun s) topWhy whom t)
 
 -- ---- the entries
 

@@ -81,37 +81,45 @@ module _ (k t : ℕ) (known : isCode k ≡ true) (other : eqb k 1096 ≡ false) 
   same-a (cut at) = refl
   same-a (element at u v) =
       let n : eqb t 1096 ≡ false = ne-eqb t 1096 (λ i. some-type (ap codeOfType i ∙ no-type)) in
-      rw (other, n) (or-none (eqb k (codeOfType u) && true) ∙ ap (λ (b : Bool). b && true) (eqb-sym k (codeOfType u) ∙ ap (eqb (codeOfType u)) (sym is) ∙ sym (type-code t some-type u)))
+      rw (other, n) (or-none (eqb k (codeOfType u) && true) ∙ ap (λ (b : Bool). b && true)
+      (eqb-sym k (codeOfType u) ∙ ap (eqb (codeOfType u)) (sym is) ∙ sym (type-code t some-type u)))
 
   pub carries-a : (at : ℕ) (v : List ℕ) → carriesA t v ≡ has k (cond (lFlag v) [] (each I.attributesOf (listElements at v)))
   unfolding carriesA listElements any each
   carries-a at v = rw (ne-eqb t 0 (λ i. some-type (ap codeOfType i ∙ no-zero .0))) (go (lFlag v))
     where
-      go : (l : Bool) → (not l && any (isOf t) (elements 1 0 (drop (headerLength v) v))) ≡ has k (cond l [] (each I.attributesOf (elements 1 (at + 2 + headerLength v) (drop (headerLength v) v))))
+      go : (l : Bool)
+          → (not l && any (isOf t) (elements 1 0 (drop (headerLength v) v))) ≡ has k (cond l [] (each I.attributesOf (elements 1 (at + 2 + headerLength v) (drop (headerLength v) v))))
       go true = sym (has-list k t I.attributesOf same-a [])
-      go false = sym (has-list k t I.attributesOf same-a (elements 1 (at + 2 + headerLength v) (drop (headerLength v) v)) ∙ kind-moved t 1 (at + 2 + headerLength v) (drop (headerLength v) v))
+      go false =
+          sym (has-list k t I.attributesOf same-a (elements 1 (at + 2 + headerLength v) (drop (headerLength v) v)) ∙ kind-moved t 1 (at + 2 + headerLength v)
+          (drop (headerLength v) v))
 
 -- of a TLV 238
 carries-b : (o : ℕ) (v : List ℕ) → carriesB 1096 v ≡ has 1096 (cond (lFlag v) [] (srlgAttribute o (srlgValues v) ∷ []))
 unfolding carriesB srlgAttribute any hit
 carries-b o v = go (lFlag v)
   where
-    go : (l : Bool) → (not l && leb 4 (length (srlgValues v))) ≡ has 1096 (cond l [] (record { code = 1096; at = o; len = length (srlgValues v); value = srlgValues v } ∷ []))
+    go : (l : Bool)
+        → (not l && leb 4 (length (srlgValues v))) ≡ has 1096 (cond l [] (record { code = 1096; at = o; len = length (srlgValues v); value = srlgValues v } ∷ []))
     go true = sym (has-is 1096 [])
-    go false = sym (has-is 1096 (record { code = 1096; at = o; len = length (srlgValues v); value = srlgValues v } ∷ []) ∙ or-none (leb 4 (length (srlgValues v))))
+    go false =
+        sym (has-is 1096 (record { code = 1096; at = o; len = length (srlgValues v); value = srlgValues v } ∷ []) ∙ or-none (leb 4 (length (srlgValues v))))
 
 -- of a 1122
 module _ (k : ℕ) (known : isCode k ≡ true) where
   same-run : (e : Element) → any (hit k) (L.attributesOf e) ≡ isOf k e
   unfolding L.attributesOf attribute isOf any hit
   same-run (cut at) = refl
-  same-run (element at u v) = or-none (eqb k u && (not (eqb k 1096) || leb 4 (length v))) ∙ ap (λ (b : Bool). b && (not (eqb k 1096) || leb 4 (length v))) (eqb-sym k u)
+  same-run (element at u v) =
+      or-none (eqb k u && (not (eqb k 1096) || leb 4 (length v))) ∙ ap (λ (b : Bool). b && (not (eqb k 1096) || leb 4 (length v))) (eqb-sym k u)
 
   carries-run : (at : ℕ) (v : List ℕ) → inList 2 k (drop (L.aslaHeader v) v) ≡ has k (each L.attributesOf (L.innerElements at v))
   unfolding inList L.innerElements
   carries-run at v =
       rw (ne-eqb k 0 (some-code k known))
-      (sym (has-list k k L.attributesOf same-run (elements 2 (at + 4 + L.aslaHeader v) (drop (L.aslaHeader v) v)) ∙ kind-moved k 2 (at + 4 + L.aslaHeader v) (drop (L.aslaHeader v) v)))
+      (sym (has-list k k L.attributesOf same-run (elements 2 (at + 4 + L.aslaHeader v) (drop (L.aslaHeader v) v)) ∙ kind-moved k 2 (at + 4 + L.aslaHeader v)
+      (drop (L.aslaHeader v) v)))
 
 -- ---- elements that passed their checks
 
@@ -119,7 +127,8 @@ module _ (k : ℕ) (known : isCode k ≡ true) where
 one-such : (st b c : Bool) (p q : Advertisement → Bool) (d : Advertisement) → (b && p d ≡ true → st ≡ true) → c ≡ q d
     → ((st && any p (cond b (d ∷ []) [])) && c) ≡ any (λ d. p d && q d) (cond b (d ∷ []) [])
 one-such st b c p q d h i =
-    ap₂ (λ (x y : Bool). x && y) (ap (λ (x : Bool). st && x) (any-one p b d) ∙ absorb st (b && p d) h) i ∙ group b (p d) (q d) ∙ sym (any-one (λ d. p d && q d) b d)
+    ap₂ (λ (x y : Bool). x && y) (ap (λ (x : Bool). st && x) (any-one p b d) ∙ absorb st (b && p d) h) i ∙ group b (p d) (q d) ∙ sym
+    (any-one (λ d. p d && q d) b d)
   where
     group : (x y z : Bool) → ((x && y) && z) ≡ (x && (y && z))
     group true y z = refl
@@ -157,7 +166,9 @@ module _ (test : Test) (k at t : ℕ) (v : List ℕ) (q : Advertisement → Bool
   pub such-run : L.checkTop at t v ≡ accepted → inList 2 k (drop (L.aslaHeader v) v) ≡ q (L.advertisement at v)
       → suchIn BgpLs test k (element at t v) ≡ any (λ d. passing test d && q d) (L.advertisementsOf (element at t v))
   unfolding suchIn L.advertisementsOf
-  such-run ok i = one-such (leb (L.aslaHeader v) (length v)) (eqb t 1122 && L.notIgnored v) (inList 2 k (drop (L.aslaHeader v) v)) (passing test) q (L.advertisement at v) stand i
+  such-run ok i =
+      one-such (leb (L.aslaHeader v) (length v)) (eqb t 1122 && L.notIgnored v) (inList 2 k (drop (L.aslaHeader v) v)) (passing test) q
+      (L.advertisement at v) stand i
     where
       stand : (eqb t 1122 && L.notIgnored v) && passing test (L.advertisement at v) ≡ true → leb (L.aslaHeader v) (length v) ≡ true
       stand e =
@@ -194,14 +205,17 @@ found-in B s c ok test k q i =
     (λ at t v h. such-b test k at t v q h (i at (afterNeighbour v))) (elements 1 0 s) (ok .0)
 found-in C s c ok test k q i = absurd ok
 found-in BgpLs s c ok test k q i =
-    lookup-passed runBgpLs L.checkTop (suchIn BgpLs test k) (λ e. any (λ d. passing test d && q d) (L.advertisementsOf e)) (λ e. heldAt (place runBgpLs (offsetOf e)))
-    (λ at t v h. such-run test k at t v q h (i at v)) (elements 2 0 s) (then-second (refusedIf (ltb 524288 (length s)) 1) (faults runBgpLs L.checkTop (elements 2 0 s)) (ok .0))
+    lookup-passed runBgpLs L.checkTop (suchIn BgpLs test k) (λ e. any (λ d. passing test d && q d) (L.advertisementsOf e))
+    (λ e. heldAt (place runBgpLs (offsetOf e)))
+    (λ at t v h. such-run test k at t v q h (i at v)) (elements 2 0 s)
+    (then-second (refusedIf (ltb 524288 (length s)) 1) (faults runBgpLs L.checkTop (elements 2 0 s)) (ok .0))
 
 -- No kind is asked for.
 pub first-in : (run : Run) (s : List ℕ) (c : ℕ) → Ready run s c → (test : Test) → firstSuch run test 0 s ≡ first (standing run s) (passing test)
 unfolding carriesA carriesB inList
 first-in run s c ok test =
-    found-in run s c ok test 0 (λ d. true) (asks run ok) ∙ first-same (standing run s) (λ d. passing test d && true) (passing test) (λ d. and-true (passing test d))
+    found-in run s c ok test 0 (λ d. true) (asks run ok) ∙ first-same (standing run s) (λ d. passing test d && true) (passing test)
+    (λ d. and-true (passing test d))
   where
     asks : (run : Run) → Ready run s c → Asks run 0 (λ d. true)
     asks A r = λ at v. refl
@@ -210,7 +224,8 @@ first-in run s c ok test =
     asks BgpLs r = λ at v. refl
 
 -- One is, by its type.
-pub with-in : (run : Run) (s : List ℕ) (k : ℕ) → Ready run s k → (test : Test) (t : ℕ) → IsType run t k → firstSuch run test t s ≡ first (standing run s) (withKind test k)
+pub with-in : (run : Run) (s : List ℕ) (k : ℕ) → Ready run s k → (test : Test) (t : ℕ) → IsType run t k
+    → firstSuch run test t s ≡ first (standing run s) (withKind test k)
 unfolding withKind advertisement srlgAdvertisement L.advertisement
 with-in run s k ok test t is = found-in run s k ok test t (λ d. has k (d .attributes)) (asks run ok is)
   where

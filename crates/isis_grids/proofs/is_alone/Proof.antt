@@ -70,7 +70,9 @@ mask-number-requires-2 : tie.Need-mask-number-requires-2
 mask-number-requires-2 c κs = lent-short _ _ (c .before .before .before .before .before .before .before .before .before .pre) .1
 
 returns-3 : tie.Need-returns-3
-returns-3 c = alone-if _ _ (c .before .before .before .before .before .before .before .before .before .before .pre) _ (c .before .before .before .mask-number .ensures) (omega arith) _ (c .mask-number2 .ensures)
+returns-3 c =
+    alone-if _ _ (c .before .before .before .before .before .before .before .before .before .before .pre) _ (c .before .before .before .mask-number .ensures)
+    (omega arith) _ (c .mask-number2 .ensures)
 
 pub is-alone-spec : {M : Type 1} → statement M
 is-alone-spec =

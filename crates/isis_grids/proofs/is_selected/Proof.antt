@@ -42,13 +42,19 @@ is-read-requires-3 : tie.Need-is-read-requires-3
 is-read-requires-3 c κs = search needs
 
 returns-3 : tie.Need-returns-3
-returns-3 c = taken-naming _ _ (c .before .before .before .before .before .before .before .pre) _ _ _ (c .before .before .before .before .which .given .1) (read-at _ _ (c .before .before .before .before .before .before .before .pre) _ (c .before .before .is-read .ensures) (not-false _ (c .before .if1 .left))) (c .names-at .ensures)
+returns-3 c =
+    taken-naming _ _ (c .before .before .before .before .before .before .before .pre) _ _ _ (c .before .before .before .before .which .given .1)
+    (read-at _ _ (c .before .before .before .before .before .before .before .pre) _ (c .before .before .is-read .ensures)
+    (not-false _ (c .before .if1 .left))) (c .names-at .ensures)
 
 returns-4 : tie.Need-returns-4
 returns-4 c = taken-general _ _ (c .before .before .before .before .pre) _ _ (c .before .enum-told .given .1) (c .is-general .ensures)
 
 returns-5 : tie.Need-returns-5
-returns-5 c = taken-alone _ _ (c .before .before .before .before .before .before .pre) _ _ (c .before .before .before .enum-told2 .given .1) (read-at _ _ (c .before .before .before .before .before .before .pre) _ (c .before .before .is-read2 .ensures) (not-false _ (c .before .if2 .left))) (c .is-alone .ensures)
+returns-5 c =
+    taken-alone _ _ (c .before .before .before .before .before .before .pre) _ _ (c .before .before .before .enum-told2 .given .1)
+    (read-at _ _ (c .before .before .before .before .before .before .pre) _ (c .before .before .is-read2 .ensures) (not-false _ (c .before .if2 .left)))
+    (c .is-alone .ensures)
 
 returns-6 : tie.Need-returns-6
 returns-6 c = taken-plain _ _ (c .before .before .before .before .pre) _ _ (c .before .enum-told3 .given .1) (c .is-read3 .ensures)

@@ -22,7 +22,9 @@ use Rattle.isis_grids.proofs.live_row.Statement.{statement}
 use Rattle.isis_grids.proofs.live_row.Tie as tie
 
 abbrev Inv-loop : tie.InvT-loop
-Inv-loop a which t at₀ at = (at ≤ length a) × (faults runA checkA (left 1 0 a at) ≡ accepted) × (rowOf (codeOfType t) (each (selected which) (left 1 0 a at)) ≡ rowOf (codeOfType t) (ofLive (selects which) (sideA a)))
+Inv-loop a which t at₀ at =
+    (at ≤ length a) × (faults runA checkA (left 1 0 a at) ≡ accepted) ×
+    (rowOf (codeOfType t) (each (selected which) (left 1 0 a at)) ≡ rowOf (codeOfType t) (ofLive (selects which) (sideA a)))
 
 abbrev μ-loop : tie.MeasureT-loop
 μ-loop a which t at₀ at = length a - at
@@ -31,14 +33,20 @@ loop-holds : tie.Need-loop-holds Inv-loop μ-loop
 loop-holds c = let x = c .before .args in (
   omega arith,
   ap (faults runA checkA) (left-all 0 (now (x .a))) ∙ c .before .pre .1,
-  ap (λ (es : List Element). rowOf (codeOfType (x .t)) (each (selected (x .which)) es)) (left-all 0 (now (x .a))) ∙ ap (rowOf (codeOfType (x .t))) (sym (live-all (x .which) (now (x .a)))),
+  ap (λ (es : List Element). rowOf (codeOfType (x .t)) (each (selected (x .which)) es)) (left-all 0 (now (x .a))) ∙ ap (rowOf (codeOfType (x .t)))
+      (sym (live-all (x .which) (now (x .a)))),
 )
 
 add-n : tie.Need-add-n Inv-loop μ-loop
 add-n c = search needs
 
 shared-slice-read-n : tie.Need-shared-slice-read-n Inv-loop μ-loop
-shared-slice-read-n c = let l = c .before .before .loop in omega (arith, inside checkA 0 (now (c .before .before .before .before .args .a)) (l .at) (c .before .loop-test .taken) (l .inv .1))
+shared-slice-read-n c =
+    let l = c .before .before .loop in omega (
+      arith,
+      inside checkA 0 (now (c .before .before .before .before .args .a)) (l .at) (c .before .loop-test .taken)
+          (l .inv .1),
+    )
 
 cast-n : tie.Need-cast-n Inv-loop μ-loop
 cast-n c = omega (arith, c .shared-slice-known2 .given (c .before .before .loop .at + 1))
@@ -47,7 +55,12 @@ add-next : tie.Need-add-next Inv-loop μ-loop
 add-next c = search needs
 
 add-next-2 : tie.Need-add-next-2 Inv-loop μ-loop
-add-next-2 c = let l = c .before .before .loop in omega (arith, inside checkA 0 (now (c .before .before .before .before .args .a)) (l .at) (c .before .loop-test .taken) (l .inv .1))
+add-next-2 c =
+    let l = c .before .before .loop in omega (
+      arith,
+      inside checkA 0 (now (c .before .before .before .before .args .a)) (l .at) (c .before .loop-test .taken)
+          (l .inv .1),
+    )
 
 shared-slice-read-if1 : tie.Need-shared-slice-read-if1 Inv-loop μ-loop
 shared-slice-read-if1 c = search needs
@@ -65,7 +78,10 @@ part-row-in-start : tie.Need-part-row-in-start Inv-loop μ-loop
 part-row-in-start c = search needs
 
 part-row-in-end : tie.Need-part-row-in-end Inv-loop μ-loop
-part-row-in-end c = let l = c .before .before .before .before .before .before .loop in inside checkA 0 (now (c .before .before .before .before .before .before .before .before .args .a)) (l .at) (c .before .before .before .before .before .loop-test .taken) (l .inv .1)
+part-row-in-end c =
+    let l = c .before .before .before .before .before .before .loop in inside checkA 0
+    (now (c .before .before .before .before .before .before .before .before .args .a)) (l .at) (c .before .before .before .before .before .loop-test .taken)
+    (l .inv .1)
 
 row-in-requires : tie.Need-row-in-requires Inv-loop μ-loop
 row-in-requires c κs = let l = c .before .before .before .before .before .before .before .loop in
@@ -83,7 +99,9 @@ array-read-if3 c = search needs
 returns : tie.Need-returns Inv-loop μ-loop
 returns c = let l = c .before .before .before .before .before .before .before .before .before .loop in
     let x = c .before .before .before .before .before .before .before .before .before .before .before .args in
-    live-row-found (codeOfType (x .t)) (x .which) (now (x .a)) (l .at) (c .before .before .before .before .before .before .before .before .loop-test .taken) (l .inv .1) (c .before .before .before .before .list-at .result) (c .before .before .before .before .list-at .ensures) (c .before .row-in .result) (c .before .row-in .ensures) (c .if3 .taken) ∙ l .inv .2
+    live-row-found (codeOfType (x .t)) (x .which) (now (x .a)) (l .at) (c .before .before .before .before .before .before .before .before .loop-test .taken)
+    (l .inv .1) (c .before .before .before .before .list-at .result) (c .before .before .before .before .list-at .ensures) (c .before .row-in .result)
+    (c .before .row-in .ensures) (c .if3 .taken) ∙ l .inv .2
 
 loop-less : tie.Need-loop-less Inv-loop μ-loop
 loop-less c = omega arith
@@ -94,7 +112,8 @@ loop-again c = let l = c .before .before .before .before .before .before .before
     let here = c .before .before .before .before .before .before .before .before .loop-test .taken in (
       inside checkA 0 (now (x .a)) (l .at) here (l .inv .1),
       rest-ok checkA 0 (now (x .a)) (l .at) here (l .inv .1),
-      live-row-next (codeOfType (x .t)) (x .which) (now (x .a)) (l .at) here (l .inv .1) (c .before .before .before .before .list-at .result) (c .before .before .before .before .list-at .ensures) (c .before .row-in .result) (c .before .row-in .ensures) (c .if3 .left) ∙ l .inv .2,
+      live-row-next (codeOfType (x .t)) (x .which) (now (x .a)) (l .at) here (l .inv .1) (c .before .before .before .before .list-at .result)
+          (c .before .before .before .before .list-at .ensures) (c .before .row-in .result) (c .before .row-in .ensures) (c .if3 .left) ∙ l .inv .2,
     )
 
 loop-less-2 : tie.Need-loop-less-2 Inv-loop μ-loop
@@ -106,7 +125,8 @@ loop-again-2 c = let l = c .before .before .before .before .before .before .loop
     let here = c .before .before .before .before .before .loop-test .taken in (
       inside checkA 0 (now (x .a)) (l .at) here (l .inv .1),
       rest-ok checkA 0 (now (x .a)) (l .at) here (l .inv .1),
-      live-row-unread (codeOfType (x .t)) (x .which) (now (x .a)) (l .at) here (l .inv .1) (c .before .list-at .result) (c .before .list-at .ensures) (c .if2 .left) ∙ l .inv .2,
+      live-row-unread (codeOfType (x .t)) (x .which) (now (x .a)) (l .at) here (l .inv .1) (c .before .list-at .result) (c .before .list-at .ensures)
+          (c .if2 .left) ∙ l .inv .2,
     )
 
 loop-less-3 : tie.Need-loop-less-3 Inv-loop μ-loop
@@ -118,11 +138,14 @@ loop-again-3 c = let l = c .before .before .before .before .loop in
     let here = c .before .before .before .loop-test .taken in (
       inside checkA 0 (now (x .a)) (l .at) here (l .inv .1),
       rest-ok checkA 0 (now (x .a)) (l .at) here (l .inv .1),
-      live-row-unread (codeOfType (x .t)) (x .which) (now (x .a)) (l .at) here (l .inv .1) (l .at + 2 + getD (now (x .a)) (l .at + 1) 0) (list-other (x .which) (now (x .a)) (l .at) (c .if1 .left)) (omega arith) ∙ l .inv .2,
+      live-row-unread (codeOfType (x .t)) (x .which) (now (x .a)) (l .at) here (l .inv .1) (l .at + 2 + getD (now (x .a)) (l .at + 1) 0)
+          (list-other (x .which) (now (x .a)) (l .at) (c .if1 .left)) (omega arith) ∙ l .inv .2,
     )
 
 returns-2 : tie.Need-returns-2 Inv-loop μ-loop
-returns-2 c = let l = c .before .loop in live-row-end (codeOfType (c .before .before .before .args .t)) (c .before .before .before .args .which) (now (c .before .before .before .args .a)) (l .at) (c .loop-test .left) ∙ l .inv .2
+returns-2 c =
+    let l = c .before .loop in live-row-end (codeOfType (c .before .before .before .args .t)) (c .before .before .before .args .which)
+    (now (c .before .before .before .args .a)) (l .at) (c .loop-test .left) ∙ l .inv .2
 
 pub live-row-spec : {M : Type 1} → statement M
 live-row-spec =

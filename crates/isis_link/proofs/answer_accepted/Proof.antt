@@ -26,7 +26,8 @@ answer-value-requires c κs = asked-in-a _ _ _ _ _ _ (c .before .before .before 
 
 returns-2 : tie.Need-returns-2
 returns-2 c = let a = c .before .before .before .before .before .before .before .args in
-    answer-other (linkSource (a .a .now) (a .b .now) (a .c .now)) (subjectOf (a .whom)) _ (place runA) _ _ (c .before .before .if1 .left) (c .answer-value .ensures (a .b .now) (a .c .now))
+    answer-other (linkSource (a .a .now) (a .b .now) (a .c .now)) (subjectOf (a .whom)) _ (place runA) _ _ (c .before .before .if1 .left)
+    (c .answer-value .ensures (a .b .now) (a .c .now))
 
 pub answer-accepted-spec : {M : Type 1} → statement M
 answer-accepted-spec =

@@ -28,8 +28,9 @@ same-length : tie.Need-same-length
 same-length c = search needs
 
 returns-2 : tie.Need-returns-2
-returns-2 c = let q = c .before .before .before .before .before .before .before .before .before .before .before .before .args in
-    c .before .before .answer-front .ensures ∙ ap (λ (ns : List ℕ). srlgAnswer ns (q .list .now)) (c .before .before .before .before .before .before .srlgs-of .ensures .0)
+returns-2 c = let half = c .before .before .before .before .before .before in let q = half .before .before .before .before .before .before .args in
+    c .before .before .answer-front .ensures ∙ ap (λ (ns : List ℕ). srlgAnswer ns (q .list .now))
+    (c .before .before .before .before .before .before .srlgs-of .ensures .0)
 
 pub answer-srlg-spec : {M : Type 1} → statement M
 answer-srlg-spec =

@@ -22,15 +22,17 @@ answer-accepted-requires c κs = asked-with _ _ _ _ _ _ (c .before .before .befo
 
 returns : tie.Need-returns
 returns c = let a = c .before .before .before .before .before .before .before .before .args in
-    ask-refused (linkSource (a .a .now) (a .b .now) (a .c .now)) (subjectOf (a .whom)) (a .code) _ _ (asked-refused _ _ _ _ _ _ (c .before .before .before .check-asked .ensures) _ (c .before .x .given .1))
+    ask-refused (linkSource (a .a .now) (a .b .now) (a .c .now)) (subjectOf (a .whom)) (a .code) _ _
+    (asked-refused _ _ _ _ _ _ (c .before .before .before .check-asked .ensures) _ (c .before .x .given .1))
 
 same-length : tie.Need-same-length
 same-length c = search needs
 
 returns-2 : tie.Need-returns-2
-returns-2 c = let a = c .before .before .before .before .before .before .before .before .before .before .before .before .args in
+returns-2 c = let half = c .before .before .before .before .before .before in let a = half .before .before .before .before .before .before .args in
     answered (a .a .now) (a .b .now) (a .c .now) (subjectOf (a .whom)) (a .code) _ _
-    (asked-passed _ _ _ _ _ _ (c .before .before .before .before .before .before .before .check-asked .ensures) _ (c .before .before .before .before .before .names .given .1))
+    (asked-passed _ _ _ _ _ _ (c .before .before .before .before .before .before .before .check-asked .ensures) _
+    (c .before .before .before .before .before .names .given .1))
     (c .before .before .answer-accepted .ensures)
 
 pub ask-spec : {M : Type 1} → statement M

@@ -14,7 +14,8 @@ enum-known-x c = search needs
 
 returns : tie.Need-returns
 returns c = let q = c .before .before .before .before .before .before .before .args in
-    refused-first (q .a .now) (q .b .now) (q .c .now) (subjectOf (q .whom)) (q .code) _ (sym (ap toldChecked (c .before .x .given .1)) ∙ c .before .before .before .check-question .ensures)
+    refused-first (q .a .now) (q .b .now) (q .c .now) (subjectOf (q .whom)) (q .code) _
+    (sym (ap toldChecked (c .before .x .given .1)) ∙ c .before .before .before .check-question .ensures)
 
 enum-told : tie.Need-enum-told
 enum-told c = search needs
@@ -24,7 +25,8 @@ check-sides-requires c κs = search needs
 
 returns-2 : tie.Need-returns-2
 returns-2 c = let q = c .before .before .before .before .before .before .before .args in
-    as-link (q .a .now) (q .b .now) (q .c .now) (subjectOf (q .whom)) (q .code) _ (sym (ap toldChecked (c .before .enum-told .given .1)) ∙ c .before .before .before .check-question .ensures) (c .check-sides .ensures)
+    as-link (q .a .now) (q .b .now) (q .c .now) (subjectOf (q .whom)) (q .code) _
+    (sym (ap toldChecked (c .before .enum-told .given .1)) ∙ c .before .before .before .check-question .ensures) (c .check-sides .ensures)
 
 pub check-asked-spec : {M : Type 1} → statement M
 check-asked-spec =

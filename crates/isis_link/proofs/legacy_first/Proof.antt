@@ -18,7 +18,9 @@ live-row-requires : tie.Need-live-row-requires
 live-row-requires c κs = search needs
 
 returns-2 : tie.Need-returns-2
-returns-2 c = legacy-absent _ (now (c .before .before .before .before .args .a)) _ (c .before .before .legacy-row .ensures) _ (c .before .if1 .left) _ (c .live-row .ensures)
+returns-2 c =
+    legacy-absent _ (now (c .before .before .before .before .args .a)) _ (c .before .before .legacy-row .ensures) _ (c .before .if1 .left) _
+    (c .live-row .ensures)
 
 pub legacy-first-spec : {M : Type 1} → statement M
 legacy-first-spec =

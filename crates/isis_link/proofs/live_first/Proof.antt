@@ -18,7 +18,9 @@ legacy-row-requires : tie.Need-legacy-row-requires
 legacy-row-requires c κs = search needs
 
 returns-2 : tie.Need-returns-2
-returns-2 c = live-absent _ (now (c .before .before .before .before .args .a)) _ _ (c .before .before .live-row .ensures) (c .before .if1 .left) _ (c .legacy-row .ensures)
+returns-2 c =
+    live-absent _ (now (c .before .before .before .before .args .a)) _ _ (c .before .before .live-row .ensures) (c .before .if1 .left) _
+    (c .legacy-row .ensures)
 
 pub live-first-spec : {M : Type 1} → statement M
 live-first-spec =

@@ -25,7 +25,8 @@ part-result-end : tie.Need-part-result-end
 part-result-end c = search needs
 
 returns : tie.Need-returns
-returns c = let q = c .before .before .before .before in λ b d. row-none _ _ _ _ (q .pre) b d _ (c .before .before .find-row .ensures b d) (c .before .if1 .taken)
+returns c =
+    let q = c .before .before .before .before in λ b d. row-none _ _ _ _ (q .pre) b d _ (c .before .before .find-row .ensures b d) (c .before .if1 .taken)
 
 add-result : tie.Need-add-result
 add-result c = let q = c .before .before .before in omega (arith, row-within _ _ _ _ (q .pre) [] [] _ (c .before .find-row .ensures [] []) (c .if1 .left))
@@ -40,7 +41,8 @@ part-result-end-2 : tie.Need-part-result-end-2
 part-result-end-2 c = let q = c .before .before .before in row-within _ _ _ _ (q .pre) [] [] _ (c .before .find-row .ensures [] []) (c .if1 .left)
 
 returns-2 : tie.Need-returns-2
-returns-2 c = let q = c .before .before .before .before in λ b d. row-part _ _ _ _ (q .pre) b d _ (c .before .before .find-row .ensures b d) (c .before .if1 .left)
+returns-2 c =
+    let q = c .before .before .before .before in λ b d. row-part _ _ _ _ (q .pre) b d _ (c .before .before .find-row .ensures b d) (c .before .if1 .left)
 
 pub part-of-spec : {M : Type 1} → statement M
 part-of-spec =

@@ -58,7 +58,8 @@ returns c = takes (now (c .before .before .before .before .args .a)) _ _ ByL _ _
 
 returns-2 : tie.Need-returns-2
 unfolding takenBy selects
-returns-2 c = takes (now (c .before .before .before .before .before .args .a)) _ _ (Naming _) _ _ (c .before .before .rule .given .1) refl (c .live-row .ensures)
+returns-2 c =
+    takes (now (c .before .before .before .before .before .args .a)) _ _ (Naming _) _ _ (c .before .before .rule .given .1) refl (c .live-row .ensures)
 
 returns-3 : tie.Need-returns-3
 unfolding takenBy generalSet selects
@@ -70,7 +71,8 @@ returns-4 c = takes (now (c .before .before .before .before .args .a)) _ _ Legac
 
 returns-5 : tie.Need-returns-5
 returns-5 c = let q = c .before .before .before .before in let p = q .pre in
-    takes (now (q .args .a)) _ _ NamingFirst _ _ (c .before .enum-told4 .given .1) (naming-first (now (q .args .a)) (p .1) _ (p .2) (p .3)) (c .live-first .ensures)
+    takes (now (q .args .a)) _ _ NamingFirst _ _ (c .before .enum-told4 .given .1) (naming-first (now (q .args .a)) (p .1) _ (p .2) (p .3))
+    (c .live-first .ensures)
 
 returns-6 : tie.Need-returns-6
 unfolding takenBy selects

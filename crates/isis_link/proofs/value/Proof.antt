@@ -26,7 +26,8 @@ part-result-end c = search needs
 
 returns : tie.Need-returns
 returns c = let a = c .before .before .before .before .before .before .before .args in
-    value-refused (linkSource (a .a .now) (a .b .now) (a .c .now)) (subjectOf (a .whom)) (a .code) _ (asked-refused _ _ _ _ _ _ (c .before .before .before .check-asked .ensures) _ (c .before .enum-told .given .1))
+    value-refused (linkSource (a .a .now) (a .b .now) (a .c .now)) (subjectOf (a .whom)) (a .code) _
+    (asked-refused _ _ _ _ _ _ (c .before .before .before .check-asked .ensures) _ (c .before .enum-told .given .1))
 
 enum-known-names : tie.Need-enum-known-names
 enum-known-names c = search needs
@@ -43,15 +44,19 @@ part-result-end-2 c = search needs
 returns-2 : tie.Need-returns-2
 returns-2 c = let a = c .before .before .before .before .before .before .before .before .before .args in
     value-srlg (linkSource (a .a .now) (a .b .now) (a .c .now)) (subjectOf (a .whom)) (a .code)
-    (asked-passed _ _ _ _ _ _ (c .before .before .before .before .before .check-asked .ensures) _ (c .before .before .before .names .given .1)) (c .before .if1 .taken)
+    (asked-passed _ _ _ _ _ _ (c .before .before .before .before .before .check-asked .ensures) _ (c .before .before .before .names .given .1))
+    (c .before .if1 .taken)
 
 part-of-requires : tie.Need-part-of-requires
-part-of-requires c κs = asked-in-a _ _ _ _ _ _ (asked-with _ _ _ _ _ _ (c .before .before .before .before .before .check-asked .ensures) _ (c .before .before .before .names .given .1)) (ne-eqb _ 1096 (c .before .if1 .left))
+part-of-requires c κs =
+    asked-in-a _ _ _ _ _ _ (asked-with _ _ _ _ _ _ (c .before .before .before .before .before .check-asked .ensures) _
+    (c .before .before .before .names .given .1)) (ne-eqb _ 1096 (c .before .if1 .left))
 
 returns-3 : tie.Need-returns-3
 returns-3 c = let a = c .before .before .before .before .before .before .before .before .before .before .args in
     value-part (linkSource (a .a .now) (a .b .now) (a .c .now)) (subjectOf (a .whom)) (a .code) _
-    (asked-passed _ _ _ _ _ _ (c .before .before .before .before .before .before .check-asked .ensures) _ (c .before .before .before .before .names .given .1)) (c .before .before .if1 .left)
+    (asked-passed _ _ _ _ _ _ (c .before .before .before .before .before .before .check-asked .ensures) _
+    (c .before .before .before .before .names .given .1)) (c .before .before .if1 .left)
     (source-bytes (a .a .now) (a .b .now) (a .c .now) _ _ (c .part-of .ensures (a .b .now) (a .c .now)))
 
 pub value-spec : {M : Type 1} → statement M

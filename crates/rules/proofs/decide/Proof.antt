@@ -31,7 +31,8 @@ subject-rule-requires c κs = search needs
 returns-2 : tie.Need-returns-2
 returns-2 c =
     let q = c .before .before .before .args in
-    both-of _ _ _ _ (λ s t. on-subject (subjectOf (q .whom)) (q .code) s _ (sym (c .before .before .is-link-code .ensures) ∙ c .before .if1 .left) (c .subject-rule .ensures s t))
+    both-of _ _ _ _ (λ s t. on-subject (subjectOf (q .whom)) (q .code) s _ (sym (c .before .before .is-link-code .ensures) ∙ c .before .if1 .left)
+    (c .subject-rule .ensures s t))
 
 pub decide-spec : {M : Type 1} → statement M
 decide-spec =

@@ -19,7 +19,8 @@ same-length c = search needs
 returns : tie.Need-returns
 returns c =
     let a = c .before .before .before .before .before .before .before .before .before .before .args in
-    answered-srlg (linkSource (a .a .now) (a .b .now) (a .c .now)) (subjectOf (a .whom)) (a .code) (a .list .now) _ _ (c .before .before .before .ask .ensures) (c .before .before .before .before .before .if1 .taken) _ (c .answer-words .ensures)
+    answered-srlg (linkSource (a .a .now) (a .b .now) (a .c .now)) (subjectOf (a .whom)) (a .code) (a .list .now) _ _
+    (c .before .before .before .ask .ensures) (c .before .before .before .before .before .if1 .taken) _ (c .answer-words .ensures)
 
 ask-link-value-requires : tie.Need-ask-link-value-requires
 ask-link-value-requires c κs = ne-eqb _ 1096 (c .if1 .left)

@@ -25,11 +25,14 @@ enum-known-names : tie.Need-enum-known-names
 enum-known-names c = search needs
 
 words-in-a-requires : tie.Need-words-in-a-requires
-words-in-a-requires c κs = asked-in-a _ _ _ _ _ _ (asked-with _ _ _ _ _ _ (c .before .before .before .before .check-asked .ensures) _ (c .before .before .names .given .1)) (c .before .before .before .before .before .before .before .before .pre)
+words-in-a-requires c κs =
+    asked-in-a _ _ _ _ _ _ (asked-with _ _ _ _ _ _ (c .before .before .before .before .check-asked .ensures) _ (c .before .before .names .given .1))
+    (c .before .before .before .before .before .before .before .before .pre)
 
 returns-2 : tie.Need-returns-2
 returns-2 c = let a = c .before .before .before .before .before .before .before .before .before .args in
-    λ list. c .words-in-a .ensures (a .b .now) (a .c .now) list (asked-passed _ _ _ _ _ _ (c .before .before .before .before .before .check-asked .ensures) _ (c .before .before .before .names .given .1))
+    λ list. c .words-in-a .ensures (a .b .now) (a .c .now) list (asked-passed _ _ _ _ _ _ (c .before .before .before .before .before .check-asked .ensures) _
+    (c .before .before .before .names .given .1))
 
 pub ask-link-value-spec : {M : Type 1} → statement M
 ask-link-value-spec =

@@ -19,7 +19,8 @@ same-length c = search needs
 returns : tie.Need-returns
 returns c =
     let a = c .before .before .before .before .before .before .before .before .args in
-    answered-srlg (runSource (a .r .now)) (subjectOf (a .whom)) (a .code) (a .list .now) _ _ (c .before .before .before .ask .ensures) (c .before .before .before .before .before .if1 .taken) _ (c .answer-words .ensures)
+    answered-srlg (runSource (a .r .now)) (subjectOf (a .whom)) (a .code) (a .list .now) _ _ (c .before .before .before .ask .ensures)
+    (c .before .before .before .before .before .if1 .taken) _ (c .answer-words .ensures)
 
 ask-run-value-requires : tie.Need-ask-run-value-requires
 ask-run-value-requires c κs = ne-eqb _ 1096 (c .if1 .left)

@@ -24,7 +24,8 @@ refusal-words-requires c κs = search needs
 returns : tie.Need-returns
 returns c list =
     let a = c .before .before .before .before .before .before .args in let s = runSource (a .r .now) in let k = a .code in let whom = subjectOf (a .whom) in
-    asked-refused s whom k list _ (by-question s whom k _ (sym (ap toldChecked (c .before .before .x .given .1)) ∙ c .before .before .before .before .check-question .ensures)) _ (c .refusal-words .ensures)
+    asked-refused s whom k list _ (by-question s whom k _ (sym (ap toldChecked (c .before .before .x .given .1))
+    ∙ c .before .before .before .before .check-question .ensures)) _ (c .refusal-words .ensures)
 
 enum-told : tie.Need-enum-told
 enum-told c = search needs
@@ -40,16 +41,20 @@ refusal-words-requires-2 c κs = search needs
 
 returns-2 : tie.Need-returns-2
 returns-2 c list =
-    let a = c .before .before .before .before .before .before .before .before .before .args in let s = runSource (a .r .now) in let k = a .code in let whom = subjectOf (a .whom) in
-    let q = sym (ap toldChecked (c .before .before .before .before .before .enum-told .given .1)) ∙ c .before .before .before .before .before .before .before .check-question .ensures in
-    asked-refused s whom k list _ (by-bytes s whom k _ q (of-run (a .r .now) _ (sym (ap toldChecked (c .before .before .x2 .given .1)) ∙ c .before .before .before .before .check-run .ensures))) _ (c .refusal-words2 .ensures)
+    let a = c .before .before .before .before .before .before .before .before .before .args in let s = runSource (a .r .now) in let k = a .code in
+    let whom = subjectOf (a .whom) in
+    let q = sym (ap toldChecked (c .before .before .before .before .before .enum-told .given .1))
+    ∙ c .before .before .before .before .before .before .before .check-question .ensures in
+    asked-refused s whom k list _ (by-bytes s whom k _ q (of-run (a .r .now) _ (sym (ap toldChecked (c .before .before .x2 .given .1))
+    ∙ c .before .before .before .before .check-run .ensures))) _ (c .refusal-words2 .ensures)
 
 enum-told-2 : tie.Need-enum-told-2
 enum-told-2 c = search needs
 
 find-value-requires : tie.Need-find-value-requires
 find-value-requires c κs =
-    let a = c .before .before .before .before .before .before .before .args in let s = runSource (a .r .now) in let k = a .code in let whom = subjectOf (a .whom) in
+    let a = c .before .before .before .before .before .before .before .args in let s = runSource (a .r .now) in let k = a .code in let whom = subjectOf
+    (a .whom) in
     let q = sym (c .before .before .before .before .before .check-question .ensures) ∙ ap toldChecked (c .before .before .before .enum-told .given .1) in
     (sym (c .before .before .check-run .ensures) ∙ ap toldChecked (c .enum-told2 .given .1), question-low s whom k q)
 
@@ -67,16 +72,21 @@ unfolding runSource
 returns-3 c list =
     let b = c .before .before .before .before .before .before .before .before .before .before .before in
     let a = b .args in let s = runSource (a .r .now) in let k = a .code in let whom = subjectOf (a .whom) in
-    let q = sym (ap toldChecked (c .before .before .before .before .before .before .before .enum-told .given .1)) ∙ c .before .before .before .before .before .before .before .before .before .check-question .ensures in
-    let v = of-run (a .r .now) _ (sym (ap toldChecked (c .before .before .before .before .enum-told2 .given .1)) ∙ c .before .before .before .before .before .before .check-run .ensures) in
-    asked-first s whom k list (by-nothing s whom k q v) (eqb-false k 1096 (b .pre)) absent (none-first (place runBgpLs) _ (found-none _ (sym (c .before .enum-told3 .given .1) ∙ c .before .before .before .find-value .ensures))) _ (c .no-words .ensures)
+    let q = sym (ap toldChecked (c .before .before .before .before .before .before .before .enum-told .given .1))
+    ∙ c .before .before .before .before .before .before .before .before .before .check-question .ensures in
+    let v = of-run (a .r .now) _ (sym (ap toldChecked (c .before .before .before .before .enum-told2 .given .1))
+    ∙ c .before .before .before .before .before .before .check-run .ensures) in
+    asked-first s whom k list (by-nothing s whom k q v) (eqb-false k 1096 (b .pre)) absent
+    (none-first (place runBgpLs) _ (found-none _ (sym (c .before .enum-told3 .given .1) ∙ c .before .before .before .find-value .ensures))) _ (c .no-words .ensures)
 
 standing-words-requires : tie.Need-standing-words-requires
 standing-words-requires c κs =
     let b = c .before .before .before .before .before .before .before .before .before .before .before in
     let a = b .args in let s = runSource (a .r .now) in let k = a .code in let whom = subjectOf (a .whom) in
-    let q = sym (c .before .before .before .before .before .before .before .before .before .check-question .ensures) ∙ ap toldChecked (c .before .before .before .before .before .before .before .enum-told .given .1) in
-    let ok = sym (c .before .before .before .before .before .before .check-run .ensures) ∙ ap toldChecked (c .before .before .before .before .enum-told2 .given .1) in
+    let q = sym (c .before .before .before .before .before .before .before .before .before .check-question .ensures) ∙ ap toldChecked
+    (c .before .before .before .before .before .before .before .enum-told .given .1) in
+    let ok = sym (c .before .before .before .before .before .before .check-run .ensures) ∙ ap toldChecked
+    (c .before .before .before .before .enum-told2 .given .1) in
     let low = question-low s whom k q in
     let known = question-known s whom k q in
     let f = found-first _ _ _ (sym (c .before .place .given .1) ∙ c .before .before .before .find-value .ensures) in
@@ -85,10 +95,12 @@ standing-words-requires c κs =
 returns-4 : tie.Need-returns-4
 unfolding runSource
 returns-4 c list =
-    let b = c .before .before .before .before .before .before .before .before .before .before .before .before in
+    let half = c .before .before .before .before .before .before in let b = half .before .before .before .before .before .before in
     let a = b .args in let s = runSource (a .r .now) in let k = a .code in let whom = subjectOf (a .whom) in
-    let q = sym (c .before .before .before .before .before .before .before .before .before .before .check-question .ensures) ∙ ap toldChecked (c .before .before .before .before .before .before .before .before .enum-told .given .1) in
-    let ok = sym (c .before .before .before .before .before .before .before .check-run .ensures) ∙ ap toldChecked (c .before .before .before .before .before .enum-told2 .given .1) in
+    let q = sym (c .before .before .before .before .before .before .before .before .before .before .check-question .ensures) ∙ ap toldChecked
+    (c .before .before .before .before .before .before .before .before .enum-told .given .1) in
+    let ok = sym (c .before .before .before .before .before .before .before .check-run .ensures) ∙ ap toldChecked
+    (c .before .before .before .before .before .enum-told2 .given .1) in
     let low = question-low s whom k q in
     let known = question-known s whom k q in
     let f = found-first _ _ _ (sym (c .before .before .place .given .1) ∙ c .before .before .before .before .find-value .ensures) in

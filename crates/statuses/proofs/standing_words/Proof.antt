@@ -34,12 +34,14 @@ bits-words-requires c κs =
     let q = c .before .before .before .before .before in
     let a = q .args in
     let e = sym (c .before .before .before .form-of .ensures) ∙ ap toldForm (c .before .enum-told .given .1) in
-    ap length (part-is (a .s .now) (a .place) (a .len)) ∙ length-bytesAt (a .s .now) (a .place) (a .len) (q .pre .0) ∙ subst (λ (f : Form). Readable f (a .len)) e (q .pre .1)
+    ap length (part-is (a .s .now) (a .place) (a .len)) ∙ length-bytesAt (a .s .now) (a .place) (a .len) (q .pre .0) ∙ subst
+    (λ (f : Form). Readable f (a .len)) e (q .pre .1)
 
 returns : tie.Need-returns
 returns c =
     let a = c .before .before .before .before .before .before .args in
-    c .bits-words .ensures ∙ float-words (a .s .now) (toldSpot (a .run)) (a .place) (a .len) _ (sym (c .before .before .before .before .form-of .ensures) ∙ ap toldForm (c .before .before .enum-told .given .1))
+    c .bits-words .ensures ∙ float-words (a .s .now) (toldSpot (a .run)) (a .place) (a .len) _
+    (sym (c .before .before .before .before .form-of .ensures) ∙ ap toldForm (c .before .before .enum-told .given .1))
 
 read-value-requires : tie.Need-read-value-requires
 read-value-requires c κs =
@@ -51,7 +53,8 @@ reading-words-requires c κs = search needs
 returns-2 : tie.Need-returns-2
 returns-2 c =
     let a = c .before .before .before .before .before .args in
-    other-words (a .s .now) (toldSpot (a .run)) (a .place) (a .len) (c .before .before .before .form-of .result) (c .before .before .match .keys2) _ (c .before .before .before .form-of .ensures) _ (c .before .read-value .ensures) _ (c .reading-words .ensures)
+    other-words (a .s .now) (toldSpot (a .run)) (a .place) (a .len) (c .before .before .before .form-of .result) (c .before .before .match .keys2) _
+    (c .before .before .before .form-of .ensures) _ (c .before .read-value .ensures) _ (c .reading-words .ensures)
 
 pub standing-words-spec : {M : Type 1} → statement M
 standing-words-spec =

@@ -19,7 +19,8 @@ no-words-requires c κs = search needs
 
 returns : tie.Need-returns
 returns c = let a = c .before .before .before .before .before .before .before .args in
-    place-refused (linkSource (a .a .now) (a .b .now) (a .c .now)) (subjectOf (a .whom)) (a .code) _ _ (c .no-words .ensures) (asked-refused _ _ _ _ _ _ (c .before .before .before .check-asked .ensures) _ (c .before .enum-told .given .1))
+    place-refused (linkSource (a .a .now) (a .b .now) (a .c .now)) (subjectOf (a .whom)) (a .code) _ _ (c .no-words .ensures)
+    (asked-refused _ _ _ _ _ _ (c .before .before .before .check-asked .ensures) _ (c .before .enum-told .given .1))
 
 enum-known-names : tie.Need-enum-known-names
 enum-known-names c = search needs
@@ -30,16 +31,20 @@ no-words-requires-2 c κs = search needs
 returns-2 : tie.Need-returns-2
 returns-2 c = let a = c .before .before .before .before .before .before .before .before .before .args in
     place-srlg (linkSource (a .a .now) (a .b .now) (a .c .now)) (subjectOf (a .whom)) (a .code) _ (c .no-words2 .ensures)
-    (asked-passed _ _ _ _ _ _ (c .before .before .before .before .before .check-asked .ensures) _ (c .before .before .before .names .given .1)) (c .before .if1 .taken)
+    (asked-passed _ _ _ _ _ _ (c .before .before .before .before .before .check-asked .ensures) _ (c .before .before .before .names .given .1))
+    (c .before .if1 .taken)
 
 place-in-a-requires : tie.Need-place-in-a-requires
-place-in-a-requires c κs = asked-in-a _ _ _ _ _ _ (asked-with _ _ _ _ _ _ (c .before .before .before .before .before .check-asked .ensures) _ (c .before .before .before .names .given .1)) (ne-eqb _ 1096 (c .before .if1 .left))
+place-in-a-requires c κs =
+    asked-in-a _ _ _ _ _ _ (asked-with _ _ _ _ _ _ (c .before .before .before .before .before .check-asked .ensures) _
+    (c .before .before .before .names .given .1)) (ne-eqb _ 1096 (c .before .if1 .left))
 
 returns-3 : tie.Need-returns-3
 unfolding linkSource
 returns-3 c = let a = c .before .before .before .before .before .before .before .before .before .before .args in
     place-first (linkSource (a .a .now) (a .b .now) (a .c .now)) (subjectOf (a .whom)) (a .code) _
-    (asked-passed _ _ _ _ _ _ (c .before .before .before .before .before .before .check-asked .ensures) _ (c .before .before .before .before .names .given .1)) (c .before .before .if1 .left)
+    (asked-passed _ _ _ _ _ _ (c .before .before .before .before .before .before .check-asked .ensures) _
+    (c .before .before .before .before .names .given .1)) (c .before .before .if1 .left)
     (c .place-in-a .ensures (a .b .now) (a .c .now))
 
 pub value-link-spec : {M : Type 1} → statement M

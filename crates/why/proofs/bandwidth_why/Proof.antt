@@ -25,7 +25,8 @@ legacy-why-requires c κs = search needs
 
 returns : tie.Need-returns
 returns c = let b = c .before .before .before .before in
-    band-legacy-first (b .args .rule) generally (b .args .code) (standing A (now (b .args .a))) _ (c .before .enum-told .given .1) (c .legacy-first-why .ensures)
+    band-legacy-first (b .args .rule) generally (b .args .code) (standing A (now (b .args .a))) _ (c .before .enum-told .given .1)
+    (c .legacy-first-why .ensures)
 
 returns-2 : tie.Need-returns-2
 returns-2 c = let b = c .before .before .before .before in

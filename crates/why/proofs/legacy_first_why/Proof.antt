@@ -18,7 +18,8 @@ legacy-why-requires c κs = search needs
 returns : tie.Need-returns
 unfolding widthOf
 returns c = let b = c .before .before .before .before .before in
-    legacy-there (now (b .args .a)) (b .args .code) _ (b .pre) (c .before .before .before .type-in .ensures) _ (c .before .before .has-kind .ensures) _ (c .before .if1 .taken) (c .legacy-why .ensures (now (b .args .a)))
+    legacy-there (now (b .args .a)) (b .args .code) _ (b .pre) (c .before .before .before .type-in .ensures) _ (c .before .before .has-kind .ensures) _
+    (c .before .if1 .taken) (c .legacy-why .ensures (now (b .args .a)))
 
 carried-why-requires : tie.Need-carried-why-requires
 carried-why-requires c κs = search needs
@@ -26,7 +27,8 @@ carried-why-requires c κs = search needs
 returns-2 : tie.Need-returns-2
 unfolding widthOf
 returns-2 c = let b = c .before .before .before .before .before in
-    legacy-absent (now (b .args .a)) (b .args .code) _ (b .pre) (c .before .before .before .type-in .ensures) _ (c .before .before .has-kind .ensures) _ (c .before .if1 .left) (c .carried-why .ensures)
+    legacy-absent (now (b .args .a)) (b .args .code) _ (b .pre) (c .before .before .before .type-in .ensures) _ (c .before .before .has-kind .ensures) _
+    (c .before .if1 .left) (c .carried-why .ensures)
 
 pub legacy-first-why-spec : {M : Type 1} → statement M
 legacy-first-why-spec =

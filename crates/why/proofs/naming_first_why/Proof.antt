@@ -23,7 +23,8 @@ returns c = let b = c .before .before .before .before .before in
 
 returns-2 : tie.Need-returns-2
 returns-2 c = let b = c .before .before .before .before in
-    naming-first-held (b .args .run) (now (b .args .s)) (b .args .code) (b .pre) _ (c .before .before .holder-of .ensures) (sym (c .before .is-found .ensures) ∙ not-false _ (c .if1 .left))
+    naming-first-held (b .args .run) (now (b .args .s)) (b .args .code) (b .pre) _ (c .before .before .holder-of .ensures)
+    (sym (c .before .is-found .ensures) ∙ not-false _ (c .if1 .left))
 
 pub naming-first-why-spec : {M : Type 1} → statement M
 naming-first-why-spec =

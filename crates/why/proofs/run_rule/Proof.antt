@@ -35,7 +35,8 @@ returns-2 c = let b = c .before .before .before .before .before in
     rule-standard _ (runSide (now (b .args .r))) _ _ (c .before .before .whom .given .1) (b .pre .2) (c .named-rule .ensures)
 
 returns-3 : tie.Need-returns-3
-returns-3 c = rule-user _ (runSide (now (c .before .before .before .before .before .args .r))) _ _ (c .before .before .whom2 .given .1) (c .named-rule2 .ensures)
+returns-3 c =
+    rule-user _ (runSide (now (c .before .before .before .before .before .args .r))) _ _ (c .before .before .whom2 .given .1) (c .named-rule2 .ensures)
 
 pub run-rule-spec : {M : Type 1} → statement M
 run-rule-spec =

@@ -41,8 +41,12 @@ why-of-run-requires : tie.Need-why-of-run-requires
 why-of-run-requires c κs =
     let a = c .before .before .before .before .before .before .before .args in
     let s = runSource (now (a .r)) in
-    let q = sym (c .before .before .before .before .before .check-question .ensures) ∙ ap toldChecked (c .before .before .before .enum-told .given .1) in
-    (sym (c .before .before .check-run .ensures) ∙ ap toldChecked (c .enum-told2 .given .1), question-low s (subjectOf (a .whom)) (a .code) q, question-known s (subjectOf (a .whom)) (a .code) q)
+    let q = sym (c .before .before .before .before .before .check-question .ensures) ∙ ap toldChecked (c .before .before .before .enum-told .given .1) in (
+      sym (c .before .before .check-run .ensures) ∙ ap toldChecked (c .enum-told2 .given .1),
+      question-low s (subjectOf (a .whom))
+          (a .code) q,
+      question-known s (subjectOf (a .whom)) (a .code) q,
+    )
 
 returns-2 : tie.Need-returns-2
 unfolding runSource runWhy runAnswer

@@ -47,19 +47,23 @@ returns c = let b = c .before .before .before .before .before in
 
 returns-2 : tie.Need-returns-2
 returns-2 c = let b = c .before .before .before .before .before in
-    by-naming (b .args .rule) (subjectOf (b .args .whom)) (b .args .code) (standing (b .args .run) (now (b .args .s))) _ _ (c .before .before .rule .given .1) (c .naming-why .ensures)
+    by-naming (b .args .rule) (subjectOf (b .args .whom)) (b .args .code) (standing (b .args .run) (now (b .args .s))) _ _ (c .before .before .rule .given .1)
+    (c .naming-why .ensures)
 
 returns-3 : tie.Need-returns-3
 returns-3 c = let b = c .before .before .before .before .before in
-    by-general (b .args .rule) (subjectOf (b .args .whom)) (b .args .code) (standing (b .args .run) (now (b .args .s))) (c .before .before .enum-told2 .given .1) _ _ (c .before .general-rule .ensures) (c .holder-of .ensures)
+    by-general (b .args .rule) (subjectOf (b .args .whom)) (b .args .code) (standing (b .args .run) (now (b .args .s)))
+    (c .before .before .enum-told2 .given .1) _ _ (c .before .general-rule .ensures) (c .holder-of .ensures)
 
 returns-4 : tie.Need-returns-4
 returns-4 c = let b = c .before .before .before .before in
-    by-naming-first (b .args .rule) (subjectOf (b .args .whom)) (b .args .code) (standing (b .args .run) (now (b .args .s))) _ (c .before .enum-told3 .given .1) (c .naming-first-why .ensures)
+    by-naming-first (b .args .rule) (subjectOf (b .args .whom)) (b .args .code) (standing (b .args .run) (now (b .args .s))) _
+    (c .before .enum-told3 .given .1) (c .naming-first-why .ensures)
 
 returns-5 : tie.Need-returns-5
 returns-5 c = let b = c .before .before .before in
-    by-else (b .args .rule) (subjectOf (b .args .whom)) (b .args .code) (standing (b .args .run) (now (b .args .s))) _ (c .before .match .keys5) (c .legacy-why .ensures (now (b .args .s)))
+    by-else (b .args .rule) (subjectOf (b .args .whom)) (b .args .code) (standing (b .args .run) (now (b .args .s))) _ (c .before .match .keys5)
+    (c .legacy-why .ensures (now (b .args .s)))
 
 pub why-by-spec : {M : Type 1} → statement M
 why-by-spec =

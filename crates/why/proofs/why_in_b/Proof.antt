@@ -17,7 +17,8 @@ why-by-requires c κs = ((c .before .before .pre .0, refl), c .before .before .p
 
 returns : tie.Need-returns
 returns c = let b = c .before .before .before in
-    λ a d. link-in-b a (now (b .args .b)) d (subjectOf (b .args .whom)) _ _ (c .before .decide .ensures .1 (sideB (now (b .args .b)) []) (b .pre .2)) (c .why-by .ensures)
+    λ a d. link-in-b a (now (b .args .b)) d (subjectOf (b .args .whom)) _ _ (c .before .decide .ensures .1 (sideB (now (b .args .b)) []) (b .pre .2))
+    (c .why-by .ensures)
 
 pub why-in-b-spec : {M : Type 1} → statement M
 why-in-b-spec = tie.close (tie.spec decide-requires why-by-requires returns)

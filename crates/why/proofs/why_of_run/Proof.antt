@@ -15,7 +15,8 @@ top-why-requires c κs = search needs
 
 returns : tie.Need-returns
 returns c = let b = c .before .before .before .before in
-    run-bandwidth (now (b .args .r)) (subjectOf (b .args .whom)) (b .args .code) _ (sym (c .before .before .is-link-code .ensures) ∙ c .before .if1 .taken) (c .top-why .ensures)
+    run-bandwidth (now (b .args .r)) (subjectOf (b .args .whom)) (b .args .code) _ (sym (c .before .before .is-link-code .ensures) ∙ c .before .if1 .taken)
+    (c .top-why .ensures)
 
 is-rsvp-te-requires : tie.Need-is-rsvp-te-requires
 is-rsvp-te-requires c κs = search needs
@@ -25,7 +26,8 @@ top-why-requires-2 c κs = search needs
 
 returns-2 : tie.Need-returns-2
 returns-2 c = let b = c .before .before .before .before .before .before in
-    run-rsvp-te (now (b .args .r)) (subjectOf (b .args .whom)) (b .args .code) _ (sym (c .before .before .before .before .is-link-code .ensures) ∙ c .before .before .before .if1 .left)
+    run-rsvp-te (now (b .args .r)) (subjectOf (b .args .whom)) (b .args .code) _
+    (sym (c .before .before .before .before .is-link-code .ensures) ∙ c .before .before .before .if1 .left)
     (sym (c .before .before .is-rsvp-te .ensures) ∙ c .before .if2 .taken) (c .top-why2 .ensures)
 
 run-rule-requires : tie.Need-run-rule-requires
@@ -36,7 +38,8 @@ why-by-requires c κs = let b = c .before .before .before .before .before .befor
 
 returns-3 : tie.Need-returns-3
 returns-3 c = let b = c .before .before .before .before .before .before .before in
-    run-other (now (b .args .r)) (subjectOf (b .args .whom)) (b .args .code) _ (sym (c .before .before .before .before .before .is-link-code .ensures) ∙ c .before .before .before .before .if1 .left)
+    run-other (now (b .args .r)) (subjectOf (b .args .whom)) (b .args .code) _
+    (sym (c .before .before .before .before .before .is-link-code .ensures) ∙ c .before .before .before .before .if1 .left)
     (sym (c .before .before .before .is-rsvp-te .ensures) ∙ c .before .before .if2 .left) _ (c .before .run-rule .ensures) (c .why-by .ensures)
 
 pub why-of-run-spec : {M : Type 1} → statement M
