@@ -28,7 +28,7 @@
 //! assert_eq!(run.ask(Subject::Standard(1), code::TE_METRIC, &mut []), Answer::Found(Reading::Number(20)));
 //! ```
 //!
-//! [`BgpLs::ask`] takes up to 1.6 MiB of stack where a run has more than 512 SRLGs for the subject, [`Link::export`]
+//! [`BgpLs::ask`] takes up to 776 KiB of stack where a run has more than 512 SRLGs for the subject, [`Link::export`]
 //! 48 KiB, every other call less than 16 KiB.
 #![warn(missing_docs)]
 
