@@ -34,10 +34,6 @@ type-unknown b n3 n9 n10 n11 n14 n16 n18 out =
     let away : (k : ℕ) → 33 ≤ k → k < 40 → eqb b k ≡ false = λ k h g. ne-eqb b k (out k h g) in
     simp (ne-eqb b 3 n3, ne-eqb b 9 n9, ne-eqb b 10 n10, ne-eqb b 11 n11, ne-eqb b 14 n14, ne-eqb b 16 n16, ne-eqb b 18 n18, away 33 (omega arith) (omega arith), away 34 (omega arith) (omega arith), away 35 (omega arith) (omega arith), away 36 (omega arith) (omega arith), away 37 (omega arith) (omega arith), away 38 (omega arith) (omega arith), away 39 (omega arith) (omega arith))
 
--- the range with the length that an inner test picked
-pub type-at : (b n : ℕ) → 33 ≤ b → b < 40 → n ≡ cond (eqb b 34) 8 4 → rule (Application (b - 31)) (Exactly n) (b + 1081) ≡ ruleOfType b
-type-at b n h g e = ap (λ (k : ℕ). rule (Application (b - 31)) (Exactly k) (b + 1081)) e ∙ type-range b h g
-
 -- No type stands twice in the table.
 types-once : (t : ℕ) → Once (hasType t) types
 unfolding computing alone

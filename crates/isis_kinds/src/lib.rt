@@ -10,50 +10,14 @@ pub fn classify_type(b: u8) -> Rule
     ensures { λ r. ⌜ r ≡ ruleOfType b ⌝ }
 {
     match b {
-        3 => Rule {
-            kind: Kind::Application(0),
-            size: Size::Exactly(4),
-            code: 1088,
-        },
-        9 => Rule {
-            kind: Kind::Link(0),
-            size: Size::Exactly(4),
-            code: 1089,
-        },
-        10 => Rule {
-            kind: Kind::Link(1),
-            size: Size::Exactly(4),
-            code: 1090,
-        },
-        11 => Rule {
-            kind: Kind::Link(2),
-            size: Size::Exactly(32),
-            code: 1091,
-        },
-        14 => Rule {
-            kind: Kind::Application(9),
-            size: Size::FoursWithin(4, 252),
-            code: 1173,
-        },
-        16 => Rule {
-            kind: Kind::Asla,
-            size: Size::Any,
-            code: 1122,
-        },
-        18 => Rule {
-            kind: Kind::Application(1),
-            size: Size::Exactly(3),
-            code: 1092,
-        },
-        33..=39 => Rule {
-            kind: Kind::Application((b - 31) as usize),
-            size: Size::Exactly(if b == 34 { 8 } else { 4 }),
-            code: (b as u16) + 1081,
-        },
-        _ => Rule {
-            kind: Kind::Unknown,
-            size: Size::Any,
-            code: 0,
-        },
+        3 => kinds::rule_of(Kind::Application(0), Size::Exactly(4), 1088),
+        9 => kinds::rule_of(Kind::Link(0), Size::Exactly(4), 1089),
+        10 => kinds::rule_of(Kind::Link(1), Size::Exactly(4), 1090),
+        11 => kinds::rule_of(Kind::Link(2), Size::Exactly(32), 1091),
+        14 => kinds::rule_of(Kind::Application(9), Size::FoursWithin(4, 252), 1173),
+        16 => kinds::rule_of(Kind::Asla, Size::Any, 1122),
+        18 => kinds::rule_of(Kind::Application(1), Size::Exactly(3), 1092),
+        33..=39 => kinds::range_rule((b - 31) as usize, b == 34, (b as u16) + 1081),
+        _ => kinds::rule_of(Kind::Unknown, Size::Any, 0),
     }
 }

@@ -4,7 +4,7 @@ use mathlib.Core.Bool.{Bool, true, false, cond, _&&_, _||_, not}
 use mathlib.Core.List.{List, [], _∷_}
 use Prim.Native.Nat.{ℕ, zero, suc, _+_, _-_, _%_, _≤_, _<_}
 use native.Mathlib.Omega.{arith}
-use borrow.Author.Tests.{eqb-true, ne-eqb, eq-eqb, le-leb, lt-leb}
+use borrow.Author.Tests.{eqb-true, ne-eqb, le-leb, lt-leb}
 use lib.Dec.{eqb, leb, lit<}
 use Rattle.linkstate.specs.Lists.{any, keep, lookup}
 use Rattle.linkstate.specs.Kinds as T
@@ -44,16 +44,6 @@ unfolding computing
 code-unknown c n88 n89 n90 n91 n92 n96 n122 n173 out =
     let away : (k : ℕ) → 1114 ≤ k → k < 1121 → eqb c k ≡ false = λ k h g. ne-eqb c k (out k h g) in
     simp (ne-eqb c 1088 n88, ne-eqb c 1089 n89, ne-eqb c 1090 n90, ne-eqb c 1091 n91, ne-eqb c 1092 n92, ne-eqb c 1096 n96, ne-eqb c 1122 n122, ne-eqb c 1173 n173, away 1114 (omega arith) (omega arith), away 1115 (omega arith) (omega arith), away 1116 (omega arith) (omega arith), away 1117 (omega arith) (omega arith), away 1118 (omega arith) (omega arith), away 1119 (omega arith) (omega arith), away 1120 (omega arith) (omega arith))
-
--- the range with the length that an inner test picked
-pub code-at : (c n : ℕ) → 1114 ≤ c → c < 1121 → n ≡ cond (eqb c 1115) 8 4 → rule (Application (c - 1112)) (Exactly n) c ≡ ruleOfCode c
-code-at c n h g e = ap (λ (k : ℕ). rule (Application (c - 1112)) (Exactly k) c) e ∙ code-range c h g
-
-pub eight : (b k n : ℕ) → b ≡ k → n ≡ 8 → n ≡ cond (eqb b k) 8 4
-eight b k n h e = rw (eq-eqb b k h) e
-
-pub four : (b k n : ℕ) → (b ≡ k → ⊥) → n ≡ 4 → n ≡ cond (eqb b k) 8 4
-four b k n h e = rw (ne-eqb b k h) e
 
 -- lengths, test by test
 module _ (s : Size) (n least : ℕ) where

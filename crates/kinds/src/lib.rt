@@ -1,7 +1,10 @@
 // What a type or a code says of an element: its kind, the lengths that its value may have, and its BGP-LS code.
 ghost use mathlib.Core.Path.{_≡_};
+ghost use mathlib.Core.Bool.{cond};
 ghost use Rattle.linkstate.specs.Kinds.{formOf};
-ghost use Rattle.kinds.specs.Rules.{ruleOfCode, fitsIn, toldForm};
+ghost use Rattle.kinds.specs.Rules.{rule, ruleOfCode, fitsIn, toldForm};
+ghost use Rattle.kinds.specs.declared.Kind.the-variants.{Application};
+ghost use Rattle.kinds.specs.declared.Size.the-variants.{Exactly};
 
 // A kind by its row: one of the link's three bandwidths, or one of the ten kinds of an application other than SRLG, both ascending by code.
 pub enum Kind {
@@ -35,61 +38,40 @@ pub struct Rule {
     pub code: u16,
 }
 
+// A rule by its kind, the lengths of its values, and its code.
+pub fn rule_of(kind: Kind, size: Size, code: u16) -> Rule
+    ensures { λ r. ⌜ r ≡ rule kind size code ⌝ }
+{
+    Rule { kind, size, code }
+}
+
+// The rule of a kind of codes 1114 to 1120 by its row: two numbers in eight bytes, or one number in four.
+pub fn range_rule(row: usize, two: bool, code: u16) -> Rule
+    ensures { λ r. ⌜ r ≡ rule (Application row) (Exactly (cond two 8 4)) code ⌝ }
+{
+    let bytes = if two { 8 } else { 4 };
+    Rule {
+        kind: Kind::Application(row),
+        size: Size::Exactly(bytes),
+        code,
+    }
+}
+
 // The rule of a BGP-LS code.
 pub fn classify_code(c: usize) -> Rule
     ensures { λ r. ⌜ r ≡ ruleOfCode c ⌝ }
 {
     match c {
-        1088 => Rule {
-            kind: Kind::Application(0),
-            size: Size::Exactly(4),
-            code: 1088,
-        },
-        1089 => Rule {
-            kind: Kind::Link(0),
-            size: Size::Exactly(4),
-            code: 1089,
-        },
-        1090 => Rule {
-            kind: Kind::Link(1),
-            size: Size::Exactly(4),
-            code: 1090,
-        },
-        1091 => Rule {
-            kind: Kind::Link(2),
-            size: Size::Exactly(32),
-            code: 1091,
-        },
-        1092 => Rule {
-            kind: Kind::Application(1),
-            size: Size::Exactly(4),
-            code: 1092,
-        },
-        1096 => Rule {
-            kind: Kind::Srlg,
-            size: Size::FoursFrom(0),
-            code: 1096,
-        },
-        1122 => Rule {
-            kind: Kind::Asla,
-            size: Size::Any,
-            code: 1122,
-        },
-        1173 => Rule {
-            kind: Kind::Application(9),
-            size: Size::FoursFrom(4),
-            code: 1173,
-        },
-        1114..=1120 => Rule {
-            kind: Kind::Application(c - 1112),
-            size: Size::Exactly(if c == 1115 { 8 } else { 4 }),
-            code: c as u16,
-        },
-        _ => Rule {
-            kind: Kind::Unknown,
-            size: Size::Any,
-            code: 0,
-        },
+        1088 => rule_of(Kind::Application(0), Size::Exactly(4), 1088),
+        1089 => rule_of(Kind::Link(0), Size::Exactly(4), 1089),
+        1090 => rule_of(Kind::Link(1), Size::Exactly(4), 1090),
+        1091 => rule_of(Kind::Link(2), Size::Exactly(32), 1091),
+        1092 => rule_of(Kind::Application(1), Size::Exactly(4), 1092),
+        1096 => rule_of(Kind::Srlg, Size::FoursFrom(0), 1096),
+        1122 => rule_of(Kind::Asla, Size::Any, 1122),
+        1173 => rule_of(Kind::Application(9), Size::FoursFrom(4), 1173),
+        1114..=1120 => range_rule(c - 1112, c == 1115, c as u16),
+        _ => rule_of(Kind::Unknown, Size::Any, 0),
     }
 }
 

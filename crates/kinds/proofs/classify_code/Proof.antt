@@ -1,70 +1,71 @@
 -- The classifier answers with the table: each single code by computing, the range by its law, the rest by being none of them.
 use borrow.Author.Needs.{needs}
+use mathlib.Core.Path.{_∙_}
 use mathlib.Core.Logic.{⊎-elim}
 use native.Mathlib.Omega.{arith}
-use Prim.Native.Nat.{ℕ, _<_, _-_}
-use mir.Val.{Fits}
-use mir.Syntax.{w64}
 use Rattle.kinds.proofs.Computing.{computing}
-use Rattle.kinds.proofs.Laws.{code-at, code-unknown, eight, four}
+use Rattle.kinds.proofs.Laws.{code-range, code-unknown}
 use Rattle.kinds.proofs.classify_code.Statement.{statement}
 use Rattle.kinds.proofs.classify_code.Tie as tie
 
-sub-t22 : tie.Need-sub-t22
-sub-t22 c = search needs
-
-cast-t30 : tie.Need-cast-t30
-cast-t30 c = search needs
-
 returns : tie.Need-returns
 unfolding computing
-returns c = rw (c .match .keys1)
+returns c = rw (c .before .match .keys1) (c .rule-of .ensures)
 
 returns-2 : tie.Need-returns-2
 unfolding computing
-returns-2 c = rw (c .match .keys2)
+returns-2 c = rw (c .before .match .keys2) (c .rule-of2 .ensures)
 
 returns-3 : tie.Need-returns-3
 unfolding computing
-returns-3 c = rw (c .match .keys3)
+returns-3 c = rw (c .before .match .keys3) (c .rule-of3 .ensures)
 
 returns-4 : tie.Need-returns-4
 unfolding computing
-returns-4 c = rw (c .match .keys4)
+returns-4 c = rw (c .before .match .keys4) (c .rule-of4 .ensures)
 
 returns-5 : tie.Need-returns-5
 unfolding computing
-returns-5 c = rw (c .match .keys5)
+returns-5 c = rw (c .before .match .keys5) (c .rule-of5 .ensures)
 
 returns-6 : tie.Need-returns-6
 unfolding computing
-returns-6 c = rw (c .match .keys6)
+returns-6 c = rw (c .before .match .keys6) (c .rule-of6 .ensures)
 
 returns-7 : tie.Need-returns-7
 unfolding computing
-returns-7 c = rw (c .match .keys7)
+returns-7 c = rw (c .before .match .keys7) (c .rule-of7 .ensures)
 
 returns-8 : tie.Need-returns-8
 unfolding computing
-returns-8 c = rw (c .match .keys8)
+returns-8 c = rw (c .before .match .keys8) (c .rule-of8 .ensures)
 
 returns-9 : tie.Need-returns-9
-returns-9 c =
-    code-at _ _ (c .before .before .if1 .left) (c .before .if2 .taken)
-    (⊎-elim (λ w. eight _ 1115 _ (w .0 .taken) (w .1)) (λ w. four _ 1115 _ (w .0 .left) (w .1)) (c .if3 .came))
+returns-9 c = c .range-rule .ensures ∙ code-range _ (c .before .before .if1 .left) (c .before .if2 .taken)
 
 returns-10 : tie.Need-returns-10
-returns-10 c = let m = c .before .match in code-unknown _ (m .rest .0 .0 .0 .0 .0 .0 .0 .1) (m .rest .0 .0 .0 .0 .0 .0 .1) (m .rest .0 .0 .0 .0 .0 .1) (m .rest .0 .0 .0 .0 .1) (m .rest .0 .0 .0 .1) (m .rest .0 .0 .1) (m .rest .0 .1) (m .rest .1) (λ k h g e. omega (arith, c .if1 .taken, e))
-
-returns-11 : tie.Need-returns-11
-returns-11 c = let m = c .before .before .match in code-unknown _ (m .rest .0 .0 .0 .0 .0 .0 .0 .1) (m .rest .0 .0 .0 .0 .0 .0 .1) (m .rest .0 .0 .0 .0 .0 .1) (m .rest .0 .0 .0 .0 .1) (m .rest .0 .0 .0 .1) (m .rest .0 .0 .1) (m .rest .0 .1) (m .rest .1) (λ k h g e. omega (arith, c .if2 .left, e))
+returns-10 c =
+    let r = c .before .before .match .rest in
+    c .rule-of9 .ensures
+    ∙ code-unknown _ (r .0 .0 .0 .0 .0 .0 .0 .1) (r .0 .0 .0 .0 .0 .0 .1) (r .0 .0 .0 .0 .0 .1) (r .0 .0 .0 .0 .1) (r .0 .0 .0 .1) (r .0 .0 .1) (r .0 .1) (r .1)
+    (⊎-elim (λ w k h g e. omega (arith, w .taken, e)) (λ w k h g e. omega (arith, w .1 .left, e)) (c .before .if1 .came))
 
 pub classify-code-spec : {M : Type 1} → statement M
 classify-code-spec =
     tie.close
     (tie.spec
-    sub-t22
-    cast-t30
+    (λ c κs. search needs)
+    (λ c κs. search needs)
+    (λ c κs. search needs)
+    (λ c κs. search needs)
+    (λ c κs. search needs)
+    (λ c κs. search needs)
+    (λ c κs. search needs)
+    (λ c κs. search needs)
+    (λ c. search needs)
+    (λ c. search needs)
+    (λ c κs. search needs)
+    (λ c κs. search needs)
     returns
     returns-2
     returns-3
@@ -74,5 +75,4 @@ classify-code-spec =
     returns-7
     returns-8
     returns-9
-    returns-10
-    returns-11)
+    returns-10)
