@@ -86,8 +86,13 @@ module _ {run : List ℕ} {sets own owned : List (List ℕ)} {p : ℕ → Bool} 
         ∙ ap (λ (x : List ℕ). getD x 2 0) (headed-at groups count first (filled .some) (filled .room) i l h)
 
     pub entered : Entered sets counted headed
-    entered = record { some = omega (arith, size, filled .some); most = omega (arith, size, filled .most); slot = λ i h. slot i
-        (omega (arith, size)); class = λ i h. class i (omega (arith, size)) }
+    entered = record {
+      some = omega (arith, size, filled .some);
+      most = omega (arith, size, filled .most);
+      slot = λ i h. slot i
+          (omega (arith, size));
+      class = λ i h. class i (omega (arith, size));
+    }
       where
         slot : (i : ℕ) → i < count → IsSet sets (slotIn (word headed i))
         slot zero h = rw (first-word, general-word (k .general) general-low .0) general
@@ -110,7 +115,7 @@ module _ {run : List ℕ} {sets own owned : List (List ℕ)} {p : ℕ → Bool} 
             named = so .named;
             set = λ n h.
                 ap₂ (λ (i : ℕ) (xs : List ℕ). row (setOf run (slotGrid sets i) xs)) (slot-kept n)
-                    (has (classOf owned n) (srlgs (applicationSet n side)) (of .application n (h .low) (h .high) (h .passes)))
+                (has (classOf owned n) (srlgs (applicationSet n side)) (of .application n (h .low) (h .high) (h .passes)))
                 ∙ so .set n h;
           }
 
@@ -121,7 +126,7 @@ module _ {run : List ℕ} {sets own owned : List (List ℕ)} {p : ℕ → Bool} 
                 ∙ so .top;
             general =
                 ap₂ (λ (i : ℕ) (c : ℕ). row (setOf run (slotGrid sets i) (numbers c))) (ap slotIn first-word ∙ general-word (k .general) general-low .0)
-                    (ap classIn first-word ∙ general-word (k .general) general-low .1)
+                (ap classIn first-word ∙ general-word (k .general) general-low .1)
                 ∙ ap (λ (xs : List ℕ). row (setOf run (slotGrid sets 0) xs)) (has (k .general) (srlgs (generalSet side)) (of .general))
                 ∙ so .general;
             nobody = (ap (λ (h : List ℕ). getD h 0 0) first-entry, ap (λ (h : List ℕ). getD h 1 0) first-entry);

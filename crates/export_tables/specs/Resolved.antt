@@ -76,7 +76,7 @@ pub record Ready (run : List ℕ) (n : Plan) (rows : List (List ℕ)) (values : 
 abbrev pub AnswersAll : List ℕ → Plan → List (List ℕ) → List ℕ → List (List ℕ) → List (List ℕ) → List ℕ → Exported → Type 0
 AnswersAll run n rows values sets own buffer x =
     (m : Meaning) (side : Side) → Listed values rows (n .used) (n .names) side → Resolves m run sets own (asked n) (n .slot) side
-        → x ≡ answered (n .measuring) (export m) buffer
+    → x ≡ answered (n .measuring) (export m) buffer
 
 -- Tables of which so many classes and groups are filled, and an export can be written from these. Nothing is written yet.
 pub record Filled (run : List ℕ) (t : Parts) (rows : List (List ℕ)) (values : List ℕ) (sets classes groups : List (List ℕ)) (places : List ℕ) : Type 0 where
@@ -91,4 +91,4 @@ pub record Filled (run : List ℕ) (t : Parts) (rows : List (List ℕ)) (values 
 abbrev pub AnswersDescribed : List ℕ → Parts → List (List ℕ) → List ℕ → List (List ℕ) → List (List ℕ) → List (List ℕ) → List ℕ → Exported → Type 0
 AnswersDescribed run t rows values sets classes groups buffer x =
     (m : Meaning) → Describes m run sets (numbersIn values rows (take (t .classes) classes)) (take (t .groups) groups) (t .slot) (t .class)
-        → x ≡ answered (t .measuring) (export m) buffer
+    → x ≡ answered (t .measuring) (export m) buffer

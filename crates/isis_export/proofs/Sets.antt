@@ -101,15 +101,15 @@ module _ (a b c : List ℕ) {sets own : List (List ℕ)} {r : ℕ} (of : Indexed
       reserved : row (setOf a (slotGrid sets r) (srlgs (rsvpTeKind 1096 (sideB b c)))) ≡ row (λ k. valueOf k (rsvpTeKind k (sideOf a b c k)))
       reserved =
           set-row a sets r (λ k. rsvpTeKind k (sideA a)) (rsvpTeKind 1096 (sideB b c)) (of .rsvpTe) (λ k. rsvpTeKind k (sideOf a b c k))
-              (λ k e. ap (rsvpTeKind k) (side-a k e)) (ap (rsvpTeKind 1096) side-b)
+          (λ k e. ap (rsvpTeKind k) (side-a k e)) (ap (rsvpTeKind 1096) side-b)
 
       go : (k : ℕ) → List·Memᴰ k codes → (t : Bool) → isLinkCode k ≡ t
           → cond t (bandwidthOf a (linkRows sets) k) (setOf a (slotGrid sets r) (srlgs (rsvpTeKind 1096 (sideB b c))) k)
-              ≡ cond t (valueOf k (bandwidthKind k (sideA a))) (valueOf k (rsvpTeKind k (sideOf a b c k)))
+          ≡ cond t (valueOf k (bandwidthKind k (sideA a))) (valueOf k (rsvpTeKind k (sideOf a b c k)))
       go k i true e = map-at (bandwidthOf a (linkRows sets)) (λ c. valueOf c (bandwidthKind c (sideA a))) linkCodes (of .link .1) (link-mem i e)
       go k i false e =
           map-at (setOf a (slotGrid sets r) (srlgs (rsvpTeKind 1096 (sideB b c)))) (λ k. valueOf k (rsvpTeKind k (sideOf a b c k))) applicationCodes reserved
-              (application-mem i e)
+          (application-mem i e)
 
   pub resolves : (p : ℕ → Bool) → ((n : ℕ) → p n ≡ named n (sideA a) || named n (sideB b c)) → Resolves m a sets own p r (sideB b c)
   unfolding meaning linkSource
@@ -119,11 +119,11 @@ module _ (a b c : List ℕ) {sets own : List (List ℕ)} {r : ℕ} (of : Indexed
         named = λ n l h. ap (λ (t : Bool). t && (named n (sideA a) || named n (sideB b c))) (low-other n l h) ∙ sym (e n);
         set = λ n h.
             set-row a sets (slotOf own n) (λ k. applicationSet n (sideA a)) (applicationSet n (sideB b c)) (of .application n (h .low) (h .high))
-                (λ k. applicationSet n (sideOf a b c k))
+            (λ k. applicationSet n (sideOf a b c k))
             (λ k e. ap (applicationSet n) (side-a k e)) (ap (applicationSet n) side-b);
         general =
             set-row a sets 0 (λ k. generalSet (sideA a)) (generalSet (sideB b c)) (of .general) (λ k. generalSet (sideOf a b c k))
-                (λ k e. ap generalSet (side-a k e)) (ap generalSet side-b);
+            (λ k e. ap generalSet (side-a k e)) (ap generalSet side-b);
         top = top-row;
       }
 

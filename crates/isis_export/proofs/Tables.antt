@@ -54,13 +54,13 @@ module _ {a b c : List ℕ} {n : Link} {rows : List (List ℕ)} {values : List �
   -- Tables for k named applications, g of them other than RSVP-TE.
   room-for : (k g : ℕ) → k ≤ 128 → Few (n .standard) (n .user) k → left p 1 ≤ g → (sets classes groups : List (List ℕ)) (places : List ℕ)
       → length sets ≡ 3 + k → (3 + k ≤ length classes) × (length classes ≤ 131) → length groups ≡ 1 + g → places ≡ replicate (length classes) 0
-          → length places ≡ length classes
+      → length places ≡ length classes
       → Roomy n sets classes groups places
   room-for k g most f h sets classes groups places x y z w v =
       let i : Few (n .a .standard) (n .a .user) k = few-among (n .a .standard) (n .a .user) (n .standard) (n .user) k
-          (λ m e. of .joined m ∙ or-first (pa m) (pb m) e) f in
+      (λ m e. of .joined m ∙ or-first (pa m) (pb m) e) f in
       let j : Few (n .b .standard) (n .b .user) k = few-among (n .b .standard) (n .b .user) (n .standard) (n .user) k
-          (λ m e. of .joined m ∙ or-second (pa m) (pb m) e) f in
+      (λ m e. of .joined m ∙ or-second (pa m) (pb m) e) f in
       record {
         slots = (omega (arith, i .numbers), omega arith);
         classed = (omega (arith, j .bits), y .1);
@@ -71,14 +71,14 @@ module _ {a b c : List ℕ} {n : Link} {rows : List (List ℕ)} {values : List �
 
   pub few-room : howMany (inPair (n .standard) (n .user)) 128 ≤ 12 → (sets classes groups : List (List ℕ)) (places : List ℕ)
       → length sets ≡ 15 → length classes ≡ 16 → length groups ≡ 13 → places ≡ replicate (length classes) 0 → length places ≡ length classes
-          → Roomy n sets classes groups places
+      → Roomy n sets classes groups places
   few-room h sets classes groups places x y z w v =
       let f = few-named (n .standard) (n .user) 12 h in
       room-for 12 12 (omega arith) f (f .others) sets classes groups places x (omega arith, omega arith) z w v
 
   pub all-room : (sets classes groups : List (List ℕ)) (places : List ℕ)
       → length sets ≡ 131 → length classes ≡ 131 → length groups ≡ 128 → places ≡ replicate (length classes) 0 → length places ≡ length classes
-          → Roomy n sets classes groups places
+      → Roomy n sets classes groups places
   all-room sets classes groups places x y z w v = room-for 128 127 (omega arith) (few-all (n .standard) (n .user)) (left-most p) sets classes groups places x
       (omega arith, omega arith) z w v
 

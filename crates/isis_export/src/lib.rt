@@ -21,8 +21,6 @@ use replies::Written;
 use rules::Names;
 use srlg_table::Used;
 
-
-
 // Whom the sides of a link name, and whom either does, in masks as sent; how much of the sources of its SRLGs is used; and whether the length alone is asked for.
 struct Link {
     a: Names,

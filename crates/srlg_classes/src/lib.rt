@@ -154,13 +154,7 @@ fn rsvp_class(named: Names, own: &[[u8; 2]; 128], legacy: usize) -> usize
 }
 
 // The applications that nothing names get the general numbers, and those that are named with L the legacy ones.
-fn give_firsts(
-    standard: u64,
-    user: u64,
-    named: Names,
-    first: First,
-    own: &mut [[u8; 2]; 128],
-)
+fn give_firsts(standard: u64, user: u64, named: Names, first: First, own: &mut [[u8; 2]; 128])
     requires { ⌜ (length (now own) ≡ 128) × (first .legacy < 256) × (first .general < 256) ⌝ }
     ensures { λ _. ⌜ FirstOwn standard user named first (now (own .entry)) (now (own .exit)) ⌝ }
 {

@@ -183,8 +183,14 @@ module _ (standard user : ℕ) (blocks after : List (List ℕ)) (k n x y i : ℕ
                 one-home l o a m v w (laid .alone (home l v) (home o w) a (home-low l v) (home-low o w) m (was l a m v e) (was o a m w f)) e f;
             some = λ l h. size-at l (which k n l h);
             most =
-                omega (arith, laid .most, both, size-rest, size-part,
-                total-set blocks after k n low (λ l h e. ap (λ (b : List ℕ). sizeOf (inBlock b)) (others l h e)));
+                omega (
+                  arith,
+                  laid .most,
+                  both,
+                  size-rest,
+                  size-part,
+                  total-set blocks after k n low (λ l h e. ap (λ (b : List ℕ). sizeOf (inBlock b)) (others l h e)),
+                );
           }
         where
           size-rest : sizeOf (inBlock (getD after k [])) ≡ sizeOf (λ a. inBlock (getD blocks k []) a && not (inWords (x ∷ y ∷ []) a))

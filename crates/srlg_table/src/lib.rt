@@ -72,7 +72,14 @@ fn split(blocks: &mut [[u64; 4]], k: usize, n: usize, x: u64, y: u64, i: usize) 
 }
 
 // The blocks by the sources below i, with source i: how many there are then.
-fn refine(rows: &[[u64; 18]], i: usize, standard: u64, user: u64, blocks: &mut [[u64; 4]], count: usize) -> usize
+fn refine(
+    rows: &[[u64; 18]],
+    i: usize,
+    standard: u64,
+    user: u64,
+    blocks: &mut [[u64; 4]],
+    count: usize,
+) -> usize
     requires { ⌜ (1 < i) × (i < 128) × (i < length (now rows)) × (sizeOf (inWords (standard ∷ user ∷ [])) ≤ length (now blocks)) × Blocks (now rows) standard user (now blocks) count i ⌝ }
     ensures { λ r. ⌜ Blocks (now (rows .entry)) standard user (now (blocks .exit)) r (suc i) ⌝ }
 {
@@ -94,7 +101,13 @@ fn refine(rows: &[[u64; 18]], i: usize, standard: u64, user: u64, blocks: &mut [
 }
 
 // The blocks of the applications of two masks, by all sources of advertisements; how many there are.
-pub fn blocks_of(rows: &[[u64; 18]], sources: usize, standard: u64, user: u64, blocks: &mut [[u64; 4]]) -> usize
+pub fn blocks_of(
+    rows: &[[u64; 18]],
+    sources: usize,
+    standard: u64,
+    user: u64,
+    blocks: &mut [[u64; 4]],
+) -> usize
     requires { ⌜ (2 ≤ sources) × (sources ≤ 128) × (sources ≤ length (now rows)) × (0 < sizeOf (inWords (standard ∷ user ∷ []))) × (sizeOf (inWords (standard ∷ user ∷ [])) ≤ length (now blocks)) ⌝ }
     ensures { λ r. ⌜ Blocks (now (rows .entry)) standard user (now (blocks .exit)) r sources ⌝ }
 {
@@ -254,7 +267,16 @@ pub fn class_of(
     if i != 0 {
         return i;
     }
-    new_class(&x, used.words, sources, mark, classes, heads, buckets, count)
+    new_class(
+        &x,
+        used.words,
+        sources,
+        mark,
+        classes,
+        heads,
+        buckets,
+        count,
+    )
 }
 
 // How many classes there are with class c, which may be a new one.

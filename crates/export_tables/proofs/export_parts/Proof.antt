@@ -33,8 +33,12 @@ export-sets-requires c κs =
     let s = start (c .before .before .before .before .before .before .before) in
     let t = s .args .t in
     let p = s .pre in
-    rw (front-is (t .classes) (now (s .args .classes)), front-is (t .groups) (now (s .args .groups)), length-take-le (t .classes) (now (s .args .classes))
-        (p .room .0))
+    rw (
+      front-is (t .classes) (now (s .args .classes)),
+      front-is (t .groups) (now (s .args .groups)),
+      length-take-le (t .classes) (now (s .args .classes))
+          (p .room .0),
+    )
     (p .tables, p .entered, p .top .0, p .top .1, p .placed, p .unwritten)
 
 same-length : tie.Need-same-length

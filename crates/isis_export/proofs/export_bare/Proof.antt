@@ -30,7 +30,7 @@ returns c =
     let k = q .before .before .before .before in
     let p = k .before .before .before .pre in
     as-asked (k .link-of .ensures .of .3) _ _ _
-        (q .export-listed .ensures [] [] (ready p (k .link-of .ensures) (listed-none (p .names)) (λ h. absurd (omega arith))))
+    (q .export-listed .ensures [] [] (ready p (k .link-of .ensures) (listed-none (p .names)) (λ h. absurd (omega arith))))
 
 pub export-bare-spec : {M : Type 1} → statement M
 export-bare-spec =

@@ -23,7 +23,7 @@ returns c =
     let g = c .before in
     let a = g .before .before .before .before .before .before .before .args in
     link-refused (a .measuring) (now (a .a)) (now (a .b)) (now (a .c)) (now (a .out)) _
-        (verdict-refused (g .before .before .check-sides .ensures) _ (g .r .given .1))
+    (verdict-refused (g .before .before .check-sides .ensures) _ (g .r .given .1))
 
 same-length : tie.Need-same-length
 same-length c = search needs

@@ -41,9 +41,12 @@ index-slots-requires c κs =
     let t = turns k in
     let s = start t in
     let p = s .pre in
-    let e = k .assign-slots .ensures in
-    (p .0, room k, begun-started (s .args .named) _ _ (t .before .turned .ensures) (t .turned2 .ensures) (p .1) (e .1) (e .0) (room k)
-        (omega (arith, e .2, p .3)))
+    let e = k .assign-slots .ensures in (
+      p .0,
+      room k,
+      begun-started (s .args .named) _ _ (t .before .turned .ensures) (t .turned2 .ensures) (p .1) (e .1) (e .0) (room k)
+          (omega (arith, e .2, p .3)),
+    )
 
 same-length : tie.Need-same-length
 same-length c = search needs

@@ -39,7 +39,7 @@ returns c =
     let sets = now (s .args .sets) in
     let e = q .index-a .kept .1 .1 .0 ∙ ap length (front-is n sets) ∙ length-take-le n sets (s .pre .1) in
     subst (λ (x : List (List ℕ)). Indexed (now (s .args .a)) x (q .index-a .last .1 .1 .1 .0) (q .index-a .result))
-        (sym (take-at (q .index-a .last .1 .1 .0) _ n e)) (q .index-a .ensures)
+    (sym (take-at (q .index-a .last .1 .1 .0) _ n e)) (q .index-a .ensures)
 
 pub index-slots-spec : {M : Type 1} → statement M
 index-slots-spec =

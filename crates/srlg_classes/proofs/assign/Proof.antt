@@ -13,7 +13,7 @@ use Rattle.srlg_classes.proofs.assign.Statement.{statement}
 use Rattle.srlg_classes.proofs.assign.Tie as tie
 
 abbrev Inv-loop : tie.InvT-loop
-Inv-loop rows used blocks m classes₀ heads₀ buckets₀ own₀ first count₀ k₀ classes heads buckets own count k = 
+Inv-loop rows used blocks m classes₀ heads₀ buckets₀ own₀ first count₀ k₀ classes heads buckets own count k =
     (k ≤ m) × (length classes ≡ length classes₀) × (length heads ≡ length heads₀) × (length buckets ≡ length buckets₀)
     × Assigned rows (used .sources) (used .words) blocks k classes₀ own₀ classes heads buckets own first count
 
@@ -21,7 +21,7 @@ abbrev μ-loop : tie.MeasureT-loop
 μ-loop rows used blocks m classes₀ heads₀ buckets₀ own₀ first count₀ k₀ classes heads buckets own count k = m - k
 
 loop-holds : tie.Need-loop-holds Inv-loop μ-loop
-loop-holds c = 
+loop-holds c =
     let s = c .before in
     let a = s .args in
     (omega arith, refl, refl, refl, assigned-start (now (a .rows)) (a .used .sources) (a .used .words) (now (a .blocks)) (now (a .classes)) (now (a .own)) (a .first) (now (a .heads)) (now (a .buckets)) (s .pre .7) (s .pre .9))
@@ -43,7 +43,7 @@ array-read-give-both-2 : tie.Need-array-read-give-both-2 Inv-loop μ-loop
 array-read-give-both-2 c = search needs
 
 class-of-requires : tie.Need-class-of-requires Inv-loop μ-loop
-class-of-requires c κs = 
+class-of-requires c κs =
     let l = c .before .before .before .before .before .loop in
     let s = c .before .before .before .before .before .before .before in
     let so = l .inv .4 in (
@@ -58,7 +58,7 @@ class-of-requires c κs =
     )
 
 with-class-requires : tie.Need-with-class-requires Inv-loop μ-loop
-with-class-requires c κs = 
+with-class-requires c κs =
     let t = turn (c .before .before .before .before) in
     omega (arith, t .before .before .before .pre .5, t .before .loop .inv .4 .few .1)
 
@@ -69,7 +69,7 @@ array-read-give-both-4 : tie.Need-array-read-give-both-4 Inv-loop μ-loop
 array-read-give-both-4 c = search needs
 
 cast-give-both : tie.Need-cast-give-both Inv-loop μ-loop
-cast-give-both c = 
+cast-give-both c =
     let p = c .before .before .before .before .before in
     let t = turn p in
     let l = t .before .loop in
@@ -85,7 +85,7 @@ loop-less : tie.Need-loop-less Inv-loop μ-loop
 loop-less c = search needs
 
 loop-again : tie.Need-loop-again Inv-loop μ-loop
-loop-again c = 
+loop-again c =
     let p = c .before .before .before .before .before .before .before in
     let t = turn p in
     let l = t .before .loop in
@@ -97,8 +97,8 @@ loop-again c =
       k .kept .1 .1 .1 .1 .0 ∙ l .inv .2,
       k .kept .1 .1 .1 .1 .1 .0 ∙ l .inv .3,
       rw (c .before .before .with-class .ensures)
-      (assigned-next (now (a .rows)) (a .used .sources) (a .used .words) (now (a .blocks)) (now (a .classes)) (now (a .own)) (a .first) (l .classes) (l .heads) (l .own) _ _ _ (l .buckets) _ (l .k) (l .count) (k .result)
-      (l .inv .4) (k .ensures) (c .give-both .ensures)),
+          (assigned-next (now (a .rows)) (a .used .sources) (a .used .words) (now (a .blocks)) (now (a .classes)) (now (a .own)) (a .first) (l .classes) (l .heads) (l .own) _ _ _ (l .buckets) _ (l .k) (l .count) (k .result)
+          (l .inv .4) (k .ensures) (c .give-both .ensures)),
     )
 
 same-length : tie.Need-same-length Inv-loop μ-loop
@@ -111,7 +111,7 @@ same-length-3 : tie.Need-same-length-3 Inv-loop μ-loop
 same-length-3 c = search needs
 
 returns : tie.Need-returns Inv-loop μ-loop
-returns c = 
+returns c =
     let l = c .before .loop in
     let s = c .before .before .before in
     let z : l .k ≡ s .args .m = omega (arith, l .inv .0) in

@@ -22,13 +22,13 @@ slice-aggregate-first-classes : tie.Need-slice-aggregate-first-classes
 slice-aggregate-first-classes c = search needs
 
 first-classes-requires : tie.Need-first-classes-requires
-first-classes-requires c κs = 
+first-classes-requires c κs =
     let s = c .before .before .before in
     let p = s .pre .0 in
     (p .words, p .sources .0, p .sources .2, omega (arith, p .room), omega (arith, s .pre .1), refl, λ i h. getD-replicate {A = ℕ} 128 i 0 0 h)
 
 give-firsts-requires : tie.Need-give-firsts-requires
-give-firsts-requires c κs = 
+give-firsts-requires c κs =
     let w = c .before .before .before .before .first-classes .ensures in
     let s = start (c .before .before .before .before) in
     (s .pre .0 .whole, omega (arith, w .few, w .legacy .low), omega (arith, w .few, w .general .low))
@@ -37,7 +37,7 @@ slice-aggregate-give-named : tie.Need-slice-aggregate-give-named
 slice-aggregate-give-named c = search needs
 
 give-named-requires : tie.Need-give-named-requires
-give-named-requires c κs = 
+give-named-requires c κs =
     let q = c .before .before .before .before .before .before .before .before .before .before in
     let k = q .first-classes in
     let w = k .ensures in
@@ -69,7 +69,7 @@ same-length-3 : tie.Need-same-length-3
 same-length-3 c = search needs
 
 returns : tie.Need-returns
-returns c = 
+returns c =
     let n = c .before .before .before .before .before .before in
     let q = firsts n in
     let s = start q in

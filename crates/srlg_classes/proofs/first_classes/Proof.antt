@@ -21,7 +21,7 @@ slice-set-from-none : tie.Need-slice-set-from-none
 slice-set-from-none c = search needs
 
 class-of-requires : tie.Need-class-of-requires
-class-of-requires c κs = 
+class-of-requires c κs =
     let s = c .before .before .before .before in
     let a = s .args in
     let z = length-set (now (a .classes)) 0 none-row in (
@@ -39,7 +39,7 @@ with-class-requires : tie.Need-with-class-requires
 with-class-requires c κs = search needs
 
 class-of-requires-2 : tie.Need-class-of-requires-2
-class-of-requires-2 c κs = 
+class-of-requires-2 c κs =
     let w = c .before .before .before .with-class in
     let p = c .before .before .before .before .before .before .before .before in
     let k = p .class-of in
@@ -57,13 +57,13 @@ class-of-requires-2 c κs =
     )
 
 with-class-requires-2 : tie.Need-with-class-requires-2
-with-class-requires-2 c κs = 
+with-class-requires-2 c κs =
     let w = c .before .before .before .before .before .before .before .before .with-class in
     let k = c .before .before .before .before .before .before .before .before .before .before .before .before .before .class-of in
     omega (arith, w .ensures, with-more 1 (k .result) .1)
 
 same-length : tie.Need-same-length
-same-length c = 
+same-length c =
     let q = c .before .before .before .before .before in
     let p = first q in
     q .class-of2 .kept .1 .1 .1 .0 ∙ p .class-of .kept .1 .1 .1 .0 ∙ length-set (now (start p .args .classes)) 0 none-row
@@ -75,7 +75,7 @@ same-length-3 : tie.Need-same-length-3
 same-length-3 c = search needs
 
 returns : tie.Need-returns
-returns c = 
+returns c =
     let q = c .before .before .before .before .before in
     let p = first q in
     let s = start p in

@@ -51,14 +51,14 @@ loop-less c = lowest (c .before) .less
 
 loop-again : tie.Need-loop-again Inv-loop μ-loop
 unfolding slotAt
-loop-again c = 
+loop-again c =
     let l = c .before .before .loop in
     let s = c .before .before .before in
     let a = s .args in
     (omega (arith, lowest (c .before) .less, l .inv .0), giving-next (a .bits) (a .base) (a .c) (l .x) (now (a .own)) (l .own) (s .pre .0) (omega arith) (l .inv .0) (l .inv .1))
 
 returns : tie.Need-returns Inv-loop μ-loop
-returns c = 
+returns c =
     let l = c .before .loop in
     let a = c .before .before .args in
     giving-end (a .bits) (a .base) (a .c) (l .x) (now (a .own)) (l .own) (omega arith) (l .inv .1)

@@ -25,7 +25,7 @@ give-both-requires-2 : tie.Need-give-both-requires-2
 give-both-requires-2 c κs = search needs
 
 returns : tie.Need-returns
-returns c = 
+returns c =
     let s = c .before .before .before .before .before .before .before .before in
     let a = s .args in
     first-own (a .standard) (a .user) (a .named) (a .first) (now (a .own)) _ _ _ _ (c .before .before .before .before .before .before .before .without .ensures) (c .before .before .before .before .before .before .without2 .ensures) (c .before .before .before .give-both .ensures) (c .give-both2 .ensures)

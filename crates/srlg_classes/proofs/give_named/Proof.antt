@@ -31,7 +31,7 @@ are : (c : tie.After-meets) → (a : ℕ) → a < 128 → inWords (c .before .be
 are c = plain-pair (start c .args .named) _ _ (c .before .before .without .ensures) (c .before .without2 .ensures)
 
 returns : tie.Need-returns
-returns c = 
+returns c =
     let p = c .before in
     let s = start p in
     let a = s .args in
@@ -39,13 +39,13 @@ returns c =
     named-none (now (a .rows)) (a .used .sources) (a .used .words) (a .named) (now (a .classes)) (now (a .heads)) (now (a .buckets)) (now (a .own)) (a .count) (λ i h. sym (are p i h) ∙ none i h) (s .pre .9) (s .pre .10)
 
 blocks-of-requires : tie.Need-blocks-of-requires
-blocks-of-requires c κs = 
+blocks-of-requires c κs =
     let p = c .before .before in
     let s = start p in
     (s .pre .1, s .pre .2, s .pre .3, p .meets .ensures .0 (not-false _ (c .before .if1 .left)), omega (arith, s .pre .4, plain-few (s .args .named) _ _ (are p)))
 
 assign-requires : tie.Need-assign-requires
-assign-requires c κs = 
+assign-requires c κs =
     let w = c .before .before .before .before .before .before .blocks-of in
     let p = c .before .before .before .before .before .before .before .before .before in
     let s = start p in
@@ -77,7 +77,7 @@ same-length-4 : tie.Need-same-length-4
 same-length-4 c = search needs
 
 returns-2 : tie.Need-returns-2
-returns-2 c = 
+returns-2 c =
     let w = c .before .before .before .before .before .before .before .before .before .before .before .blocks-of in
     let p = c .before .before .before .before .before .before .before .before .before .before .before .before .before .before in
     let a = start p .args in

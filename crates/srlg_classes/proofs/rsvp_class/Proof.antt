@@ -32,13 +32,13 @@ wide-requires c κs = search needs
 
 returns-3 : tie.Need-returns-3
 unfolding rsvpClass classAt
-returns-3 c = 
+returns-3 c =
     let w = c .before .wide .ensures in
     rw (sym (c .before .before .before .before .before .before .has .ensures) ∙ c .before .before .before .before .before .if1 .left, sym (c .before .before .before .before .has2 .ensures) ∙ not-false _ (c .before .before .before .if2 .left), eq-eqb _ 0 (sym w ∙ c .if3 .taken))
 
 returns-4 : tie.Need-returns-4
 unfolding rsvpClass classAt
-returns-4 c = 
+returns-4 c =
     let w = c .before .wide .ensures in
     rw (sym (c .before .before .before .before .before .before .has .ensures) ∙ c .before .before .before .before .before .if1 .left, sym (c .before .before .before .before .has2 .ensures) ∙ not-false _ (c .before .before .before .if2 .left), ne-eqb _ 0 (λ e. c .if3 .left (w ∙ e))) w
 

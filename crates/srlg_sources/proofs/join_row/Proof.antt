@@ -41,13 +41,13 @@ loop-less : tie.Need-loop-less Inv-loop μ-loop
 loop-less c = search needs
 
 loop-again : tie.Need-loop-again Inv-loop μ-loop
-loop-again c = 
+loop-again c =
     let l = c .before .before .before .loop in
     let s = c .before .before .before .before in
     (omega arith, joined-next (now (s .args .x)) (now (s .args .row)) (l .x) (l .i) (omega (arith, s .pre .1)) (l .inv .1))
 
 returns : tie.Need-returns Inv-loop μ-loop
-returns c = 
+returns c =
     let l = c .before .loop in
     let s = c .before .before in
     (l .inv .1 .size, λ i h. joined-all (now (s .args .x)) (now (s .args .row)) (l .x) (l .i) (l .inv .1) i (omega arith))

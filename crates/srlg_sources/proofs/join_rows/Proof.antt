@@ -54,7 +54,7 @@ loop-less : tie.Need-loop-less Inv-loop μ-loop
 loop-less c = lowest (c .before .before .before) .less
 
 loop-again : tie.Need-loop-again Inv-loop μ-loop
-loop-again c = 
+loop-again c =
     let n = lowest (c .before .before .before) in
     let l = c .before .before .before .before .loop in
     let s = c .before .before .before .before .before in
@@ -70,13 +70,15 @@ loop-again c =
     )
 
 returns : tie.Need-returns Inv-loop μ-loop
-returns c = 
+returns c =
     let l = c .before .loop in
     let s = c .before .before in
-    let z : l .y ≡ 0 = omega arith in
-    (l .inv .0, λ i h.
-    sym (or-false (inWords (l .x) i)) ∙ ap (λ (b : Bool). inWords (l .x) i || b) (sym (ap (λ (y : ℕ). inSome (now (s .args .rows)) (s .args .base) y i) z ∙ some-none (now (s .args .rows)) (s .args .base) i))
-    ∙ l .inv .3 i h)
+    let z : l .y ≡ 0 = omega arith in (
+      l .inv .0,
+      λ i h.
+          sym (or-false (inWords (l .x) i)) ∙ ap (λ (b : Bool). inWords (l .x) i || b) (sym (ap (λ (y : ℕ). inSome (now (s .args .rows)) (s .args .base) y i) z ∙ some-none (now (s .args .rows)) (s .args .base) i))
+          ∙ l .inv .3 i h,
+    )
 
 pub join-rows-spec : {M : Type 1} → statement M
 join-rows-spec =

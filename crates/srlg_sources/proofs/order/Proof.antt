@@ -24,7 +24,7 @@ part-rank-end : tie.Need-part-rank-end
 part-rank-end c = search needs
 
 rank-requires : tie.Need-rank-requires
-rank-requires c κs = 
+rank-requires c κs =
     let w = c .before .before .before .before .before .before .before .before .sort-first in
     let s = c .before .before .before .before .before .before .before .before .before .before .before .before .before in
     let m = s .args .m in
@@ -45,7 +45,7 @@ same-length-3 : tie.Need-same-length-3
 same-length-3 c = search needs
 
 returns : tie.Need-returns
-returns c = 
+returns c =
     let k = c .before .before .before .rank in
     let w = c .before .before .before .before .before .before .before .before .before .before .before .before .sort-first in
     let s = c .before .before .before .before .before .before .before .before .before .before .before .before .before .before .before .before .before in

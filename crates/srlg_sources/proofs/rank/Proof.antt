@@ -64,7 +64,7 @@ sub-mark c = omega (arith, turned (c .before .before .before) .some)
 
 mark-requires : tie.Need-mark-requires Inv-loop μ-loop
 unfolding inRows sourceOf
-mark-requires c κs = 
+mark-requires c κs =
     let j = c .before .before .before in
     let l = j .before .before .before .loop in
     let s = j .before .before .before .before .before .before in
@@ -80,7 +80,7 @@ loop-less c = search needs
 
 loop-again : tie.Need-loop-again Inv-loop μ-loop
 unfolding sourceOf
-loop-again c = 
+loop-again c =
     let j = c .before .before .before .before .before in
     let l = j .before .before .before .loop in
     let s = j .before .before .before .before .before .before in
@@ -93,7 +93,7 @@ loop-again c =
       w .kept .0 ∙ l .inv .3,
       t .numbered,
       noted-next k (l .values) (j .if1 .values) (l .i) (l .count) (j .if1 .count) (l .last) (j .if1 .last) (l .inv .4) (omega arith) (s .pre .0) t
-      (omega (arith, t .size, l .inv .2, t .numbered .few)) _ refl (now (s .args .rows)) (l .rows) _ (w .ensures) (l .inv .5),
+          (omega (arith, t .size, l .inv .2, t .numbered .few)) _ refl (now (s .args .rows)) (l .rows) _ (w .ensures) (l .inv .5),
     )
 
 same-length : tie.Need-same-length Inv-loop μ-loop
@@ -103,7 +103,7 @@ same-length-2 : tie.Need-same-length-2 Inv-loop μ-loop
 same-length-2 c = search needs
 
 returns : tie.Need-returns Inv-loop μ-loop
-returns c = 
+returns c =
     let l = c .before .loop in
     let s = c .before .before .before .before in
     ranked (now (s .args .keys)) (l .values) (now (s .args .rows)) (l .rows) (l .i) (l .count) (l .last) (omega arith) (l .inv .4) (l .inv .5)

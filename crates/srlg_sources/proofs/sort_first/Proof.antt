@@ -33,7 +33,7 @@ same-length-2 : tie.Need-same-length-2
 same-length-2 c = search needs
 
 returns : tie.Need-returns
-returns c = 
+returns c =
     let w = c .before .before .before .before .sort-keys in
     let s = c .before .before .before .before .before .before .before .before .before in
     sorted-part (now (s .args .keys)) _ _ (s .args .m) (s .pre .0) (w .kept .0) (w .ensures)

@@ -22,12 +22,12 @@ slice-set-from-whole : tie.Need-slice-set-from-whole Inv-loop μ-loop
 slice-set-from-whole c = search needs
 
 loop-holds : tie.Need-loop-holds Inv-loop μ-loop
-loop-holds c = 
+loop-holds c =
     let a = c .args in
     (omega arith, omega (arith, c .pre .0), refl, blocks-first (now (a .rows)) (a .standard) (a .user) (now (a .blocks)) (omega (arith, c .pre .3, c .pre .4)) (c .pre .3))
 
 refine-requires : tie.Need-refine-requires Inv-loop μ-loop
-refine-requires c κs = 
+refine-requires c κs =
     let l = c .before .before .loop in
     let s = c .before .before .before in
     (omega (arith, l .inv .0), omega (arith, s .pre .1), omega (arith, s .pre .2), omega (arith, l .inv .2, s .pre .4, length-set (now (s .args .blocks)) 0 (s .args .standard ∷ s .args .user ∷ 0 ∷ 0 ∷ [])), l .inv .3)
@@ -39,7 +39,7 @@ loop-less : tie.Need-loop-less Inv-loop μ-loop
 loop-less c = search needs
 
 loop-again : tie.Need-loop-again Inv-loop μ-loop
-loop-again c = 
+loop-again c =
     let l = c .before .before .before .before .loop in
     let w = c .before .refine in
     (omega (arith, l .inv .0), omega arith, w .kept .1 .1 .1 .1 .0 ∙ l .inv .2, rw add-one (w .ensures))
@@ -48,7 +48,7 @@ same-length : tie.Need-same-length Inv-loop μ-loop
 same-length c = c .before .loop .inv .2 ∙ length-set (now (c .before .before .args .blocks)) 0 _
 
 returns : tie.Need-returns Inv-loop μ-loop
-returns c = 
+returns c =
     let l = c .before .loop in
     let s = c .before .before in
     let z : l .i ≡ s .args .sources = omega (arith, l .inv .1) in

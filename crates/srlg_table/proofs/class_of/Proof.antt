@@ -40,7 +40,7 @@ abbrev start : tie.After-find → tie.Start
 start c = c .before .before .before .before .before .before .before .before .before
 
 returns : tie.Need-returns
-returns c = 
+returns c =
     let f = c .before in
     let s = start f in
     let a = s .args in
@@ -60,7 +60,7 @@ same-length-6 : tie.Need-same-length-6
 same-length-6 c = search needs
 
 returns-2 : tie.Need-returns-2
-returns-2 c = 
+returns-2 c =
     let f = c .before .before .before .before .before .before .before .before .before .before in
     let s = start f in
     let a = s .args in

@@ -6,7 +6,7 @@ use Rattle.srlg_table.proofs.fills.Statement.{statement}
 use Rattle.srlg_table.proofs.fills.Tie as tie
 
 returns : tie.Need-returns
-returns c = 
+returns c =
     let a = c .args in
     let f = c .fits in
     (λ e. alike-is (a .x) (a .y) (f .x .fits) (f .y .fits) (a .standard) (a .user) (eqb-true _ 0 e), λ e. alike-not (a .x) (a .y) (f .x .fits) (f .y .fits) (a .standard) (a .user) (f .standard .fits) (f .user .fits) (eqb-false _ 0 e))

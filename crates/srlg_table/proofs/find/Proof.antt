@@ -28,7 +28,7 @@ cast-i : tie.Need-cast-i Inv-loop μ-loop
 cast-i c = omega (arith, c .shared-slice-known2 .given (c .before .before .args .mark % 128))
 
 loop-holds : tie.Need-loop-holds Inv-loop μ-loop
-loop-holds c = 
+loop-holds c =
     let s = c .before .before in
     let a = s .args in
     λ count t. searching-start (now (a .rows)) (a .used .words) (now (a .x)) (now (a .classes)) (now (a .heads)) (now (a .buckets)) (a .mark) (s .pre .3) (a .used .sources) count t
@@ -54,14 +54,14 @@ shared-slice-element-has-bits-2 : tie.Need-shared-slice-element-has-bits-2 Inv-l
 shared-slice-element-has-bits-2 c = low (c .before) .1
 
 has-bits-requires : tie.Need-has-bits-requires Inv-loop μ-loop
-has-bits-requires c κs = 
+has-bits-requires c κs =
     let l = c .before .before .before .loop in
     let s = c .before .before .before .before .before .before in
     let (count, t) = s .pre .4 in
     (s .pre .0, λ j h e. omega (arith, s .pre .1, t .rowed (l .i) (l .inv count t .low) j h e))
 
 returns : tie.Need-returns Inv-loop μ-loop
-returns c = 
+returns c =
     let l = c .before .before .before .before .before .loop in
     let s = c .before .before .before .before .before .before .before .before in
     let a = s .args in
@@ -78,7 +78,7 @@ index-2-i c = search needs
 
 cast-i-2 : tie.Need-cast-i-2 Inv-loop μ-loop
 unfolding nextOf
-cast-i-2 c = 
+cast-i-2 c =
     let l = c .before .before .before .before .before .before .loop in
     let s = c .before .before .before .before .before .before .before .before .before in
     let (count, t) = s .pre .4 in
@@ -86,14 +86,14 @@ cast-i-2 c =
 
 loop-less : tie.Need-loop-less Inv-loop μ-loop
 unfolding nextOf
-loop-less c = 
+loop-less c =
     let l = c .before .before .before .before .before .before .loop in
     let s = c .before .before .before .before .before .before .before .before .before in
     let (count, t) = s .pre .4 in
     t .chain .nextLow (l .i) (omega arith) (l .inv count t .low)
 
 loop-again : tie.Need-loop-again Inv-loop μ-loop
-loop-again c = 
+loop-again c =
     let l = c .before .before .before .before .before .before .loop in
     let s = c .before .before .before .before .before .before .before .before .before in
     let a = s .args in
@@ -102,7 +102,7 @@ loop-again c =
     (c .before .before .has-bits .ensures .1 (c .before .if1 .left)) (l .inv count t)
 
 returns-2 : tie.Need-returns-2 Inv-loop μ-loop
-returns-2 c = 
+returns-2 c =
     let l = c .before .loop in
     let s = c .before .before .before .before in
     let a = s .args in

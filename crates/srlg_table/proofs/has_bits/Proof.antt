@@ -22,7 +22,7 @@ element-copy-out-bits-of-2 : tie.Need-element-copy-out-bits-of-2
 element-copy-out-bits-of-2 c = search needs
 
 bits-of-requires : tie.Need-bits-of-requires
-bits-of-requires c κs = 
+bits-of-requires c κs =
     let s = c .before .before .before .before in
     (s .pre .0, λ j h e. s .pre .1 j h (source-words (now (s .args .class)) j h ∙ e))
 
@@ -30,7 +30,7 @@ same-bits-requires : tie.Need-same-bits-requires
 same-bits-requires c κs = search needs
 
 returns-2 : tie.Need-returns-2
-returns-2 c = 
+returns-2 c =
     let s = c .before .before .before .before .before .before .before in
     let k = now (s .args .class) in
     let bits = c .before .before .bits-of .ensures in

@@ -35,7 +35,7 @@ loop-less : tie.Need-loop-less Inv-loop μ-loop
 loop-less c = search needs
 
 loop-again : tie.Need-loop-again Inv-loop μ-loop
-loop-again c = 
+loop-again c =
     let l = c .before .before .before .loop in
     let s = c .before .before .before .before in
     (omega arith, mark-next (now (s .args .x)) (l .i) (l .h) _ (l .inv .1) (c .mix .ensures))
@@ -44,7 +44,7 @@ fold-requires : tie.Need-fold-requires Inv-loop μ-loop
 fold-requires c κs = search needs
 
 returns : tie.Need-returns Inv-loop μ-loop
-returns c = 
+returns c =
     let l = c .before .before .loop in
     let s = c .before .before .before in
     mark-is (now (s .args .x)) (s .args .words) (l .i) (l .h) _ (omega arith) (l .inv .1) (c .fold .ensures)

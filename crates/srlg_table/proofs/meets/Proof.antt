@@ -8,7 +8,7 @@ use Rattle.srlg_table.proofs.meets.Statement.{statement}
 use Rattle.srlg_table.proofs.meets.Tie as tie
 
 returns : tie.Need-returns
-returns c = 
+returns c =
     let a = c .args in
     (λ e. masks-some (a .x) (a .y) (c .fits .x .fits) (c .fits .y .fits) (eqb-false _ 0 (not-true _ e)), λ e. masks-none (a .x) (a .y) (eqb-true _ 0 (not-false _ e)))
 

@@ -13,7 +13,7 @@ count-of-requires : tie.Need-count-of-requires
 count-of-requires c κs = search needs
 
 returns : tie.Need-returns
-returns c = 
+returns c =
     let s = c .before .before .before in
     nothing (rw (c .if1 .taken) at (c .before .count-of .ensures)) refl refl refl refl
 

@@ -39,7 +39,7 @@ index-2-u : tie.Need-index-2-u Inv-loop μ-loop
 index-2-u c = search needs
 
 loop-holds : tie.Need-loop-holds Inv-loop μ-loop
-loop-holds c = 
+loop-holds c =
     let s = c .before .before in
     let a = s .args in
     let b = s .pre .4 in (
@@ -70,7 +70,7 @@ meets-requires : tie.Need-meets-requires Inv-loop μ-loop
 meets-requires c κs = search needs
 
 split-requires : tie.Need-split-requires Inv-loop μ-loop
-split-requires c κs = 
+split-requires c κs =
     let l = c .before .before .before .before .before .before .before .loop in
     let s = c .before .before .before .before .before .before .before .before .before .before in
     let a = s .args in
@@ -79,10 +79,14 @@ split-requires c κs =
       s .pre .1,
       omega (arith, so .few),
       l .inv .1,
-      λ no. omega (arith, l .inv .0, s .pre .3,
-      split-room (a .standard) (a .user) (l .blocks) (l .blocks) (l .k) (l .n) _ _ (a .i) (so .laid) (omega (arith, so .few)) (λ o h e. refl)
-      (in-block (now (a .rows)) (a .i) (a .standard) (a .user) (l .blocks) (s .pre .0) (a .count) (l .n) (l .k) (l .s) (l .u) _ _ so (omega arith) part) no
-      (c .before .before .meets .ensures .0 (c .before .if2 .taken))),
+      λ no. omega (
+        arith,
+        l .inv .0,
+        s .pre .3,
+        split-room (a .standard) (a .user) (l .blocks) (l .blocks) (l .k) (l .n) _ _ (a .i) (so .laid) (omega (arith, so .few)) (λ o h e. refl)
+            (in-block (now (a .rows)) (a .i) (a .standard) (a .user) (l .blocks) (s .pre .0) (a .count) (l .n) (l .k) (l .s) (l .u) _ _ so (omega arith) part) no
+            (c .before .before .meets .ensures .0 (c .before .if2 .taken)),
+      ),
     )
 
 without-requires : tie.Need-without-requires Inv-loop μ-loop
@@ -98,7 +102,7 @@ loop-less : tie.Need-loop-less Inv-loop μ-loop
 loop-less c = search needs
 
 loop-again : tie.Need-loop-again Inv-loop μ-loop
-loop-again c = 
+loop-again c =
     let l = c .before .before .before .before .before .before .loop in
     let s = c .before .before .before .before .before .before .before .before .before in
     let a = s .args in
@@ -112,19 +116,22 @@ loop-again c =
     let z : length (c .if2 .blocks) ≡ length (now (a .blocks)) = ap length (w .6) ∙ w .2 .kept .0 ∙ l .inv .0 in
     let next = refining-split rows (a .i) (a .standard) (a .user) (l .blocks) (s .pre .0) (a .count) (l .n) (l .k) (l .s) (l .u) _ _ so (omega arith) part _ _ _ _ some (w .2 .ensures) less-of in
     let room = still-room rows (a .i) (a .standard) (a .user) (l .blocks) (s .pre .0) (a .count) (l .n) (l .k) (l .s) (l .u) _ _ so (omega arith) part _ _ _ _ some (w .2 .ensures) less-of
-        (length (now (a .blocks))) (s .pre .3) in
+    (length (now (a .blocks))) (s .pre .3) in
     (z, omega (arith, z, w .7, room), rw (w .6, w .7, w .8, w .9) next))
     (λ w.
-    let none = c .before .meets .ensures .1 (w .0 .left) in
-    (ap length (w .1) ∙ l .inv .0, omega (arith, ap length (w .1), w .2, l .inv .1), rw (w .1, w .2, w .3, w .4)
-    (refining-pass rows (a .i) (a .standard) (a .user) (l .blocks) (s .pre .0) (a .count) (l .n) (l .k) (l .s) (l .u) _ _ so (omega arith) part none)))
+    let none = c .before .meets .ensures .1 (w .0 .left) in (
+      ap length (w .1) ∙ l .inv .0,
+      omega (arith, ap length (w .1), w .2, l .inv .1),
+      rw (w .1, w .2, w .3, w .4)
+          (refining-pass rows (a .i) (a .standard) (a .user) (l .blocks) (s .pre .0) (a .count) (l .n) (l .k) (l .s) (l .u) _ _ so (omega arith) part none),
+    ))
     (c .if2 .came)
 
 same-length : tie.Need-same-length Inv-loop μ-loop
 same-length c = search needs
 
 returns : tie.Need-returns Inv-loop μ-loop
-returns c = 
+returns c =
     let l = c .before .before .loop in
     let s = c .before .before .before .before .before in
     let a = s .args in
@@ -134,7 +141,7 @@ same-length-2 : tie.Need-same-length-2 Inv-loop μ-loop
 same-length-2 c = search needs
 
 returns-2 : tie.Need-returns-2 Inv-loop μ-loop
-returns-2 c = 
+returns-2 c =
     let l = c .before .loop in
     let s = c .before .before .before .before in
     let a = s .args in

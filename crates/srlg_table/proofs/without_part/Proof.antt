@@ -24,7 +24,7 @@ element-copy-out-t16 : tie.Need-element-copy-out-t16
 element-copy-out-t16 c = search needs
 
 returns : tie.Need-returns
-returns c = 
+returns c =
     let a = c .before .before .before .before .before .before .args in
     rest-is (now (a .b)) (a .x) (a .y) 0 _ _ (c .before .before .before .before .without .ensures) (c .before .before .without2 .ensures)
 
