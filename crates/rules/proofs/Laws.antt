@@ -11,7 +11,7 @@ use Rattle.linkstate.specs.Bytes.{words, distinct, bytesOfWords}
 use Rattle.linkstate.specs.Masks.{user, others}
 use Rattle.linkstate.specs.Kinds.{isLinkCode}
 use Rattle.linkstate.specs.Attributes.{Attribute, ofKind, srlgs, firstValue, valueOf}
-use Rattle.linkstate.specs.Sides.{Advertisement, Side, names, named, namedWithL, ofLive, generalSet, applicationSet, rsvpTeKind, rsvpTeAlone, maximumBandwidth, reservableBandwidth, bandwidthKind}
+use Rattle.linkstate.specs.Sides.{Advertisement, Side, names, named, namedWithL, ofLive, generalSet, applicationSet, hasLegacy, takesGeneral, rsvpTeKind, rsvpTeAlone, maximumBandwidth, reservableBandwidth, bandwidthKind}
 use Rattle.linkstate.specs.Questions.{Subject, generally, standardNo, userNo, numberTooHigh}
 use Rattle.replies.specs.declared.Subject.{Subject as Whom}
 use Rattle.replies.specs.declared.Subject.the-variants as W
@@ -85,19 +85,21 @@ never : (s : Side) → namedWithL 0 s ≡ true → named 0 s ≡ false → ⊥
 unfolding namedWithL named
 never s e f = let g = named-by-l 0 (s .live) e in let z : _≡_ {A = ℕ} 0 1 = cc in omega arith
 
-pub rsvp-te-taken : (k : ℕ) (s : Side) → takenBy (rsvpTeRule (namedWithL 0 s) (named 0 s)) k s ≡ rsvpTeKind k s
-unfolding takenBy rsvpTeRule rsvpTeKind
-rsvp-te-taken k s = go (namedWithL 0 s) refl (named 0 s) refl
+pub rsvp-te-taken : (k : ℕ) (s : Side) → takenBy (rsvpTeRule (namedWithL 0 s) (named 0 s) (hasLegacy s)) k s ≡ rsvpTeKind k s
+unfolding takenBy rsvpTeRule rsvpTeKind takesGeneral
+rsvp-te-taken k s = go (namedWithL 0 s) refl (named 0 s) refl (hasLegacy s)
   where
     live : List Attribute
     live = ofLive (names 0) s
 
-    go : (x : Bool) → namedWithL 0 s ≡ x → (y : Bool) → named 0 s ≡ y
-        → takenBy (cond x ByL (cond y NamingFirst Legacy)) k s ≡ cond (x || empty (valueOf k live)) (s .legacy) live
-    go true e true f = refl
-    go true e false f = absurd (never s e f)
-    go false e true f = refl
-    go false e false f = let z : empty (valueOf k live) ≡ true = ap (λ (ts : List Attribute). empty (valueOf k ts)) (none-naming s f) ∙ no-value k in rw z
+    go : (x : Bool) → namedWithL 0 s ≡ x → (y : Bool) → named 0 s ≡ y → (z : Bool)
+        → takenBy (cond x ByL (cond y NamingFirst (cond z Legacy General))) k s
+        ≡ cond (not (y || z)) (generalSet s) (cond (x || empty (valueOf k live)) (s .legacy) live)
+    go true e true f z = refl
+    go true e false f z = absurd (never s e f)
+    go false e true f z = refl
+    go false e false f false = refl
+    go false e false f true = let z : empty (valueOf k live) ≡ true = ap (λ (ts : List Attribute). empty (valueOf k ts)) (none-naming s f) ∙ no-value k in rw z
 
 pub bandwidth-taken : (k : ℕ) (s : Side) → takenBy (bandwidthRule k (namedWithL 0 s) (named 0 s)) k s ≡ bandwidthKind k s
 unfolding takenBy bandwidthRule bandwidthKind maximumBandwidth reservableBandwidth
@@ -121,7 +123,7 @@ subject-taken generally k s = general-taken k s
 subject-taken (standardNo n) k s = go (eqb n 0)
   where
     go : (b : Bool)
-        → takenBy (cond b (rsvpTeRule (namedWithL 0 s) (named 0 s)) (applicationRule n (namedWithL n s) (named n s))) k s ≡ cond b (rsvpTeKind k s) (applicationSet n s)
+        → takenBy (cond b (rsvpTeRule (namedWithL 0 s) (named 0 s) (hasLegacy s)) (applicationRule n (namedWithL n s) (named n s))) k s ≡ cond b (rsvpTeKind k s) (applicationSet n s)
     go true = rsvp-te-taken k s
     go false = application-taken k n s
 subject-taken (userNo n) k s = application-taken k (user n) s
@@ -157,8 +159,8 @@ module _ (s : Side) (m : Names) (t : Tells (s .live) m) (n : ℕ) (l y : Bool) (
     te-named : y ≡ named 0 s
     te-named = is-named ∙ ap (λ (i : ℕ). named i s) z
 
-    pub told-rsvp-te : r ≡ rsvpTeRule l y → r ≡ rsvpTeRule (namedWithL 0 s) (named 0 s)
-    told-rsvp-te e = e ∙ ap₂ rsvpTeRule te-l te-named
+    pub told-rsvp-te : (x : Bool) → x ≡ hasLegacy s → r ≡ rsvpTeRule l y x → r ≡ rsvpTeRule (namedWithL 0 s) (named 0 s) (hasLegacy s)
+    told-rsvp-te x h e = e ∙ ap₂ (λ (a b : Bool). rsvpTeRule a b x) te-l te-named ∙ ap (rsvpTeRule (namedWithL 0 s) (named 0 s)) h
 
     pub told-bandwidth : (k : ℕ) → r ≡ bandwidthRule k l y → r ≡ bandwidthRule k (namedWithL 0 s) (named 0 s)
     told-bandwidth k e = e ∙ ap₂ (bandwidthRule k) te-l te-named
@@ -171,7 +173,7 @@ module _ (s : Side) (r : Rule) where
   of-general e = e
 
   module _ (n : ℕ) where
-    pub of-rsvp-te : n ≡ 0 → r ≡ rsvpTeRule (namedWithL 0 s) (named 0 s) → r ≡ subjectRule (standardNo n) s
+    pub of-rsvp-te : n ≡ 0 → r ≡ rsvpTeRule (namedWithL 0 s) (named 0 s) (hasLegacy s) → r ≡ subjectRule (standardNo n) s
     unfolding subjectRule
     of-rsvp-te z e = rw (eq-eqb n 0 z) e
 
@@ -207,8 +209,9 @@ as-whom s r w v e = subst (λ (x : Whom). r ≡ subjectRule (subjectOf x) s) (sy
 
 -- ---- the rule, with what it takes
 
-abbrev pub Decides : Subject → ℕ → Names → Rule → Type 0
-Decides whom k m r = ((s : Side) → Tells (s .live) m → takenBy r k s ≡ givenOn whom k s) × ((s : Side) → Tells (s .live) m → r ≡ ruleOn whom k s)
+abbrev pub Decides : Subject → ℕ → Names → Bool → Rule → Type 0
+Decides whom k m x r =
+    ((s : Side) → Tells (s .live) m → x ≡ hasLegacy s → takenBy r k s ≡ givenOn whom k s) × ((s : Side) → Tells (s .live) m → x ≡ hasLegacy s → r ≡ ruleOn whom k s)
 
-pub both-of : (whom : Subject) (k : ℕ) (m : Names) (r : Rule) → ((s : Side) → Tells (s .live) m → r ≡ ruleOn whom k s) → Decides whom k m r
-both-of whom k m r e = (λ s t. rule-takes whom k s r (e s t), e)
+pub both-of : (whom : Subject) (k : ℕ) (m : Names) (x : Bool) (r : Rule) → ((s : Side) → Tells (s .live) m → x ≡ hasLegacy s → r ≡ ruleOn whom k s) → Decides whom k m x r
+both-of whom k m x r e = (λ s t h. rule-takes whom k s r (e s t h), e)

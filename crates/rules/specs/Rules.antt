@@ -7,7 +7,7 @@ use Rattle.linkstate.specs.Lists.{empty}
 use Rattle.linkstate.specs.Kinds.{isLinkCode}
 use Rattle.linkstate.specs.Masks.{user}
 use Rattle.linkstate.specs.Attributes.{Attribute, valueOf}
-use Rattle.linkstate.specs.Sides.{Side, names, named, namedWithL, ofLive, generalSet, applicationSet, rsvpTeKind, rsvpTeAlone, bandwidthKind}
+use Rattle.linkstate.specs.Sides.{Side, names, named, namedWithL, ofLive, generalSet, applicationSet, hasLegacy, rsvpTeKind, rsvpTeAlone, bandwidthKind}
 use Rattle.linkstate.specs.Questions.{Subject, generally, standardNo, userNo}
 use Rattle.rules.specs.declared.Rule.{Rule}
 use Rattle.rules.specs.declared.Rule.the-variants.{ByL, Naming, General, Legacy, NamingFirst, AloneFirst, LegacyFirst}
@@ -16,18 +16,19 @@ use Rattle.rules.specs.declared.Rule.the-variants.{ByL, Naming, General,
 unfoldable pub applicationRule : ℕ → Bool → Bool → Rule
 applicationRule n l named = cond l ByL (cond named (Naming n) General)
 
--- W8, W9, W10. RSVP-TE, by the same two; where nothing names it there is nothing but legacy.
-unfoldable pub rsvpTeRule : Bool → Bool → Rule
-rsvpTeRule l named = cond l ByL (cond named NamingFirst Legacy)
+-- W8, W9, W10, E2a. RSVP-TE, by the same two and by whether legacy has a value of the eleven kinds; where nothing names it there is nothing but legacy, and the
+-- general set where that has none.
+unfoldable pub rsvpTeRule : Bool → Bool → Bool → Rule
+rsvpTeRule l named legacy = cond l ByL (cond named NamingFirst (cond legacy Legacy General))
 
 -- W11, W12. A bandwidth of the link, by how RSVP-TE is named.
 unfoldable pub bandwidthRule : ℕ → Bool → Bool → Rule
 bandwidthRule k l named = cond (eqb k 1089) LegacyFirst (cond l ByL (cond named AloneFirst Legacy))
 
--- W2 to W13. The rule of a subject on a side, by how it is named there; and of a kind: of a bandwidth of the link by how RSVP-TE is named, whoever asks.
+-- W2 to W13, E2a. The rule of a subject on a side, by how it is named there; and of a kind: of a bandwidth of the link by how RSVP-TE is named, whoever asks.
 unfoldable pub subjectRule : Subject → Side → Rule
 subjectRule generally s = General
-subjectRule (standardNo n) s = cond (eqb n 0) (rsvpTeRule (namedWithL 0 s) (named 0 s)) (applicationRule n (namedWithL n s) (named n s))
+subjectRule (standardNo n) s = cond (eqb n 0) (rsvpTeRule (namedWithL 0 s) (named 0 s) (hasLegacy s)) (applicationRule n (namedWithL n s) (named n s))
 subjectRule (userNo n) s = applicationRule (user n) (namedWithL (user n) s) (named (user n) s)
 
 unfoldable pub ruleOn : Subject → ℕ → Side → Rule

@@ -1,9 +1,10 @@
-// By which rule a subject gets a kind, from whom a side names and whom it names with L (document 01, "Who gets what"). No byte of any format is read here.
+// By which rule a subject gets a kind, from whom a side names, whom it names with L (document 01, "Who gets what"), and whether its legacy attributes have a
+// value for RSVP-TE (document 02, E2). No byte of any format is read here.
 ghost use mathlib.Core.Path.{_≡_};
 ghost use mathlib.Core.List.{List, []};
 ghost use Prim.Native.Nat.{_<_};
 ghost use Rattle.linkstate.specs.Replies.{fault};
-ghost use Rattle.linkstate.specs.Sides.{Advertisement, Side};
+ghost use Rattle.linkstate.specs.Sides.{Advertisement, Side, hasLegacy};
 ghost use Rattle.replies.specs.Told.{toldRun, subjectOf};
 ghost use Rattle.rules.specs.Names.{Tells, Joins, Checks, ChecksBehind};
 ghost use Rattle.masks.specs.Applications.{inBoth};
@@ -122,9 +123,10 @@ fn application_rule(n: u32, l: bool, named: bool) -> Rule
     Rule::General
 }
 
-// RSVP-TE, by whether it is named with L and named: it takes nothing from the general ones.
-pub fn rsvp_te_rule(l: bool, named: bool) -> Rule
-    ensures { λ r. ⌜ r ≡ rsvpTeRule l named ⌝ }
+// RSVP-TE, by whether it is named with L and named, and whether legacy has a value of the kinds of applications: it takes the general ones only where there is
+// nothing else.
+pub fn rsvp_te_rule(l: bool, named: bool, legacy: bool) -> Rule
+    ensures { λ r. ⌜ r ≡ rsvpTeRule l named legacy ⌝ }
 {
     if l {
         return Rule::ByL;
@@ -132,7 +134,10 @@ pub fn rsvp_te_rule(l: bool, named: bool) -> Rule
     if named {
         return Rule::NamingFirst;
     }
-    Rule::Legacy
+    if legacy {
+        return Rule::Legacy;
+    }
+    Rule::General
 }
 
 // A bandwidth of the link, by how RSVP-TE is named.
@@ -152,9 +157,9 @@ fn bandwidth_rule(code: usize, l: bool, named: bool) -> Rule
 }
 
 // A subject, for a kind that is no bandwidth of the link.
-fn subject_rule(whom: Subject, m: Names) -> Rule
+fn subject_rule(whom: Subject, m: Names, legacy: bool) -> Rule
     requires { ⌜ numberTooHigh (subjectOf whom) ≡ false ⌝ }
-    ensures { λ r. ⌜ ((s : Side) → Tells (s .live) m → r ≡ subjectRule (subjectOf whom) s) ⌝ }
+    ensures { λ r. ⌜ ((s : Side) → Tells (s .live) m → legacy ≡ hasLegacy s → r ≡ subjectRule (subjectOf whom) s) ⌝ }
 {
     match whom {
         Subject::General => Rule::General,
@@ -162,7 +167,7 @@ fn subject_rule(whom: Subject, m: Names) -> Rule
             let l = is_named_with_l(m, n);
             let named = is_named(m, n);
             if n == 0 {
-                return rsvp_te_rule(l, named);
+                return rsvp_te_rule(l, named, legacy);
             }
             return application_rule(n, l, named);
         }
@@ -175,16 +180,17 @@ fn subject_rule(whom: Subject, m: Names) -> Rule
     }
 }
 
-// The rule by which a subject gets a kind on a side with these names; what it takes there is what the subject gets.
-pub fn decide(whom: Subject, code: usize, m: Names) -> Rule
+// The rule by which a subject gets a kind on a side with these names, and with a legacy value of the kinds of applications or without; what it takes there is
+// what the subject gets.
+pub fn decide(whom: Subject, code: usize, m: Names, legacy: bool) -> Rule
     requires { ⌜ numberTooHigh (subjectOf whom) ≡ false ⌝ }
-    ensures { λ r. ⌜ ((s : Side) → Tells (s .live) m → takenBy r code s ≡ givenOn (subjectOf whom) code s) ⌝ }
-    ensures { λ r. ⌜ ((s : Side) → Tells (s .live) m → r ≡ ruleOn (subjectOf whom) code s) ⌝ }
+    ensures { λ r. ⌜ ((s : Side) → Tells (s .live) m → legacy ≡ hasLegacy s → takenBy r code s ≡ givenOn (subjectOf whom) code s) ⌝ }
+    ensures { λ r. ⌜ ((s : Side) → Tells (s .live) m → legacy ≡ hasLegacy s → r ≡ ruleOn (subjectOf whom) code s) ⌝ }
 {
     if answering::is_link_code(code) {
         let l = is_named_with_l(m, 0);
         let named = is_named(m, 0);
         return bandwidth_rule(code, l, named);
     }
-    subject_rule(whom, m)
+    subject_rule(whom, m, legacy)
 }

@@ -21,8 +21,8 @@ bandwidth-rule-requires c κs = search needs
 returns : tie.Need-returns
 returns c =
     let q = c .before .before .before .before .before .args in
-    both-of _ _ _ _
-    (λ s t. on-link (subjectOf (q .whom)) (q .code) s _ (sym (c .before .before .before .before .is-link-code .ensures) ∙ c .before .before .before .if1 .taken)
+    both-of _ _ _ _ _
+    (λ s t h. on-link (subjectOf (q .whom)) (q .code) s _ (sym (c .before .before .before .before .is-link-code .ensures) ∙ c .before .before .before .if1 .taken)
     (told-bandwidth s _ t 0 _ _ (c .before .before .is-named-with-l .ensures) (c .before .is-named .ensures) _ refl (q .code) (c .bandwidth-rule .ensures)))
 
 subject-rule-requires : tie.Need-subject-rule-requires
@@ -31,8 +31,8 @@ subject-rule-requires c κs = search needs
 returns-2 : tie.Need-returns-2
 returns-2 c =
     let q = c .before .before .before .args in
-    both-of _ _ _ _ (λ s t. on-subject (subjectOf (q .whom)) (q .code) s _ (sym (c .before .before .is-link-code .ensures) ∙ c .before .if1 .left)
-    (c .subject-rule .ensures s t))
+    both-of _ _ _ _ _ (λ s t h. on-subject (subjectOf (q .whom)) (q .code) s _ (sym (c .before .before .is-link-code .ensures) ∙ c .before .if1 .left)
+    (c .subject-rule .ensures s t h))
 
 pub decide-spec : {M : Type 1} → statement M
 decide-spec =

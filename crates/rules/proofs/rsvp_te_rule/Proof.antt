@@ -13,7 +13,11 @@ returns-2 c = rw (c .before .if1 .left, c .if2 .taken)
 
 returns-3 : tie.Need-returns-3
 unfolding rsvpTeRule
-returns-3 c = rw (c .before .if1 .left, c .if2 .left)
+returns-3 c = rw (c .before .before .if1 .left, c .before .if2 .left, c .if3 .taken)
+
+returns-4 : tie.Need-returns-4
+unfolding rsvpTeRule
+returns-4 c = rw (c .before .before .if1 .left, c .before .if2 .left, c .if3 .left)
 
 pub rsvp-te-rule-spec : {M : Type 1} → statement M
-rsvp-te-rule-spec = tie.close (tie.spec returns returns-2 returns-3)
+rsvp-te-rule-spec = tie.close (tie.spec returns returns-2 returns-3 returns-4)

@@ -22,17 +22,17 @@ rsvp-te-rule-requires : tie.Need-rsvp-te-rule-requires
 rsvp-te-rule-requires c κs = search needs
 
 returns : tie.Need-returns
-returns c = λ s t. let n = c .before .before .before .before .before .whom in
+returns c = λ s t h. let n = c .before .before .before .before .before .whom in
     as-whom s _ _ _ (n .given .1)
     (of-rsvp-te s _ _ (omega arith)
-    (told-rsvp-te s _ t _ _ _ (c .before .before .before .is-named-with-l .ensures) (c .before .before .is-named .ensures) _ (omega arith)
+    (told-rsvp-te s _ t _ _ _ (c .before .before .before .is-named-with-l .ensures) (c .before .before .is-named .ensures) _ (omega arith) _ h
     (c .rsvp-te-rule .ensures)))
 
 application-rule-requires : tie.Need-application-rule-requires
 application-rule-requires c κs = search needs
 
 returns-2 : tie.Need-returns-2
-returns-2 c = λ s t. let n = c .before .before .before .before .before .whom in
+returns-2 c = λ s t h. let n = c .before .before .before .before .before .whom in
     as-whom s _ _ _ (n .given .1)
     (of-standard s _ _ (λ e. omega (arith, e))
     (told-application s _ t _ _ _ (c .before .before .before .is-named-with-l .ensures) (c .before .before .is-named .ensures) _
@@ -54,13 +54,13 @@ application-rule-requires-2 : tie.Need-application-rule-requires-2
 application-rule-requires-2 c κs = search needs
 
 returns-3 : tie.Need-returns-3
-returns-3 c = λ s t. let n = c .before .before .before .before .whom2 in
+returns-3 c = λ s t h. let n = c .before .before .before .before .whom2 in
     as-whom s _ _ _ (n .given .1)
     (of-user s _ _ (told-application s _ t _ _ _ (c .before .before .is-named-with-l2 .ensures) (c .before .is-named2 .ensures) _
     (c .application-rule2 .ensures)))
 
 returns-4 : tie.Need-returns-4
-returns-4 c = λ s t. as-whom s _ _ _ (c .enum-told .given .1) (of-general s _ refl)
+returns-4 c = λ s t h. as-whom s _ _ _ (c .enum-told .given .1) (of-general s _ refl)
 
 pub subject-rule-spec : {M : Type 1} → statement M
 subject-rule-spec =
