@@ -6,9 +6,10 @@ ghost use lib.ListN.{length, drop};
 ghost use Rattle.linkstate.specs.Replies.{runA, fault};
 ghost use Rattle.linkstate.specs.Elements.{element, elements, faults};
 ghost use Rattle.replies.specs.Told.{toldRun, toldChecked};
-ghost use Rattle.rules.specs.Names.{Adds, Checks, ChecksBehind};
+ghost use Rattle.rules.specs.Names.{Adds, ChecksBehind, ChecksSide};
 ghost use Rattle.isis.specs.Types.{wrongInA};
 ghost use Rattle.isis.specs.RunA.{checkAttribute, checkAsla, checkA, aslaAdvertisements, sideA};
+ghost use Rattle.isis_check_a.specs.Legacy.{forApplications};
 ghost use Rattle.isis_check_a.specs.Headers.{headerOf, tooLong, forNobody, bytesBefore, masksIn, advertisedAt, valueIn};
 use frames::Frame;
 use frames::frame_one;
@@ -16,6 +17,7 @@ use replies::Checked;
 use replies::Run;
 use rules::Checking;
 use rules::Names;
+use rules::SideChecked;
 
 // The first bytes of an ASLA, and of what follows the neighbour in a TLV 238: the L-flag, and how many bytes each mask has.
 pub struct Header {
@@ -191,30 +193,42 @@ fn check_asla(a: &[u8], at: usize, end: usize, names: Names) -> Checking
     }
 }
 
-// Run A whole: its refusal, or the applications that it names, and those that it names with L.
-pub fn check_a(a: &[u8]) -> Checking
+// Whether a type carries a kind of applications: 3, 14, 18 or 33 to 39, each a bit of the number.
+fn for_applications(t: u8) -> bool
+    ensures { λ r. ⌜ r ≡ forApplications t ⌝ }
+{
+    if 40 <= t {
+        return false;
+    }
+    masks::has(0xFE00044008, t as u32)
+}
+
+// Run A whole: its refusal, or the applications that it names, those that it names with L, and whether a kind of applications stands outside its ASLA sub-TLVs.
+pub fn check_a(a: &[u8]) -> SideChecked
     requires { ⌜ length (now a) < 4294967296 ⌝ }
-    ensures { λ r. ⌜ Checks (faults runA checkA (elements 1 0 (now (a .entry)))) ((sideA (now (a .entry))) .live) r ⌝ }
+    ensures { λ r. ⌜ ChecksSide (faults runA checkA (elements 1 0 (now (a .entry)))) (sideA (now (a .entry))) r ⌝ }
 {
     let mut names = rules::nobody();
+    let mut legacy = false;
     let mut at = 0;
     loop {
         match frame_one(a, at) {
-            Frame::End => return Checking::Accepted(names),
-            Frame::Cut => return rules::refuse(3, Run::A, at),
+            Frame::End => return SideChecked::Accepted { names, legacy },
+            Frame::Cut => return SideChecked::Refused(replies::refuse_at(3, Run::A, at)),
             Frame::Whole { kind: _, len } => {
                 let next = at + 2 + len;
                 if a[at] == 16 {
                     match check_asla(a, at, next, names) {
-                        Checking::Refused(r) => return Checking::Refused(r),
+                        Checking::Refused(r) => return SideChecked::Refused(r),
                         Checking::Accepted(all) => {
                             names = all;
                         }
                     }
                 } else {
                     if wrong_length(a[at], len) {
-                        return rules::refuse(4, Run::A, at);
+                        return SideChecked::Refused(replies::refuse_at(4, Run::A, at));
                     }
+                    legacy = legacy | for_applications(a[at]);
                 }
                 at = next;
             }

@@ -6,12 +6,14 @@ use Prim.Native.Nat.{ℕ, _-_}
 use lib.Dec.{ltb}
 use Rattle.linkstate.specs.Lists.{any}
 use Rattle.linkstate.specs.Replies.{Verdict, accepted, refused}
-use Rattle.linkstate.specs.Sides.{Advertisement, names}
+use Rattle.linkstate.specs.Sides.{Advertisement, Side, names, hasLegacy}
 use Rattle.masks.specs.Sets.{inSent}
 use Rattle.replies.specs.Told.{toldRefusal}
 use Rattle.rules.specs.declared.Names.{Names}
 use Rattle.rules.specs.declared.Checking.{Checking}
 use Rattle.rules.specs.declared.Checking.the-variants.{Refused, Accepted}
+use Rattle.rules.specs.declared.SideChecked.{SideChecked}
+use Rattle.rules.specs.declared.SideChecked.the-variants as Checked
 use Rattle.masks.specs.Applications.{inBoth}
 
 -- The advertisement of an L-flag and two masks; whom it names does not depend on its attributes.
@@ -46,6 +48,19 @@ Named (Accepted m) ds = Tells ds m
 pub record Checks (v : Verdict) (ds : List Advertisement) (r : Checking) : Type 0 where
   pub told : toldChecking r ≡ v
   pub names : Named r ds
+
+-- R9, W2, W3, E2a. The answer of the checks of a side: their refusal, or what the rule asks of the side.
+abbrev pub toldSide : SideChecked → Verdict
+toldSide (Checked.Refused r) = refused (toldRefusal r)
+toldSide (Checked.Accepted m legacy) = accepted
+
+abbrev pub Asked : SideChecked → Side → Type 0
+Asked (Checked.Refused r) s = Unit {0}
+Asked (Checked.Accepted m legacy) s = Tells (s .live) m × (legacy ≡ hasLegacy s)
+
+pub record ChecksSide (v : Verdict) (s : Side) (r : SideChecked) : Type 0 where
+  pub told : toldSide r ≡ v
+  pub asked : Asked r s
 
 -- The same of a part, behind bytes that name m: the refusal, or m with those that the part names.
 abbrev pub Added : Names → Checking → List Advertisement → Type 0

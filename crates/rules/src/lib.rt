@@ -30,6 +30,12 @@ pub enum Checking {
     Accepted(Names),
 }
 
+// What the checks of a side found: the first refusal, or whom the side names, and whether its legacy attributes have a value of the kinds of applications.
+pub enum SideChecked {
+    Refused(Refusal),
+    Accepted { names: Names, legacy: bool },
+}
+
 pub fn nobody() -> Names
     ensures { λ r. ⌜ Tells [] r ⌝ }
 {
