@@ -1,15 +1,16 @@
 -- The verdict on a link, check by check: the refusals of the call, then run A, then run B.
 use mathlib.Core.Path.{_≡_, refl, sym, ap, _∙_, subst}
-use mathlib.Core.Bool.{Bool, true, false, _||_}
+use mathlib.Core.Bool.{Bool, true, false, _||_, not}
 use mathlib.Core.List.{List, [], _∷_}
 use Prim.Native.Nat.{ℕ, _%_, _≤_}
 use native.Mathlib.Omega.{arith}
 use borrow.Author.Tests.{ne-eqb, eq-eqb, ltb-false}
-use lib.Dec.{ltb}
+use lib.Dec.{ltb, eqb}
 use lib.ListN.{length}
 use Rattle.linkstate.specs.Lists.{each}
 use Rattle.linkstate.specs.Replies.{refused, refusalAt, fault, faultOfCall, refusedIf, _then_, runA, runB}
 use Rattle.linkstate.specs.Elements.{elements, faults}
+use Rattle.linkstate.specs.Sides.{hasLegacy}
 use Rattle.linkstate.proofs.ElementLaws.{none-left}
 use Rattle.linkstate.proofs.ListLaws.{or-l, or-r}
 use Rattle.linkstate.proofs.WalkLaws.{then-passed, then-refused}
@@ -21,10 +22,13 @@ use Rattle.replies.specs.Told.{toldRefusal}
 use Rattle.rules.specs.declared.Names.{Names}
 use Rattle.rules.specs.declared.Checking.{Checking}
 use Rattle.rules.specs.declared.Checking.the-variants as Run
-use Rattle.rules.specs.Names.{Tells, toldChecking, Named, Checks}
+use Rattle.rules.specs.declared.SideChecked.{SideChecked}
+use Rattle.rules.specs.declared.SideChecked.the-variants as Side
+use Rattle.rules.specs.Names.{Tells, toldChecking, Named, Checks, toldSide, Asked, ChecksSide}
 use Rattle.isis_check.specs.declared.Sides.{Sides}
 use Rattle.isis_check.specs.declared.LinkChecked.the-variants.{Refused, Accepted}
-use Rattle.isis_check.specs.Sides.{ChecksLink}
+use Rattle.isis_check.specs.Sides.{OfSides, ChecksLink}
+use Rattle.isis_check.proofs.Legacy.{c-legacy}
 
 module _ (a b c : List ℕ) where
   abbrev pub long : Bool
@@ -49,26 +53,27 @@ module _ (a b c : List ℕ) where
     link-runs e = rw (t, eq-eqb (length c % 4) 0 e)
 
     -- by what the checks of the two runs answer
-    module _ (e : length c % 4 ≡ 0) (x : Checking) (p : Checks (faults runA checkA (elements 1 0 a)) ((sideA a) .live) x) where
-      pub refused-a : (r : Fault) → x ≡ Run.Refused r → ChecksLink a b c (Refused r)
+    module _ (e : length c % 4 ≡ 0) (x : SideChecked) (p : ChecksSide (faults runA checkA (elements 1 0 a)) (sideA a) x) where
+      pub refused-a : (r : Fault) → x ≡ Side.Refused r → ChecksLink a b c (Refused r)
       refused-a r g =
-          record { told = sym (then-refused (faults runA checkA (elements 1 0 a)) (faults runB checkB (elements 1 0 b)) (toldRefusal r) (sym (p .told) ∙ ap toldChecking g)) ∙ link-runs e; names = tt }
+          record { told = sym (then-refused (faults runA checkA (elements 1 0 a)) (faults runB checkB (elements 1 0 b)) (toldRefusal r) (sym (p .told) ∙ ap toldSide g)) ∙ link-runs e; names = tt }
 
-      module _ (m : Names) (g : x ≡ Run.Accepted m) (y : Checking) (q : Checks (faults runB checkB (elements 1 0 b)) ((sideB b c) .live) y) where
+      module _ (m : Names) (l : Bool) (g : x ≡ Side.Accepted m l) (y : Checking) (q : Checks (faults runB checkB (elements 1 0 b)) ((sideB b c) .live) y) where
         by-b : toldChecking y ≡ linkVerdict a b c
         by-b =
-            q .told ∙ sym (then-passed (faults runA checkA (elements 1 0 a)) (faults runB checkB (elements 1 0 b)) (sym (p .told) ∙ ap toldChecking g)) ∙ link-runs e
+            q .told ∙ sym (then-passed (faults runA checkA (elements 1 0 a)) (faults runB checkB (elements 1 0 b)) (sym (p .told) ∙ ap toldSide g)) ∙ link-runs e
 
         pub refused-b : (r : Fault) → y ≡ Run.Refused r → ChecksLink a b c (Refused r)
         refused-b r h = record { told = sym (ap toldChecking h) ∙ by-b; names = tt }
 
-        pub accepted-both : (n : Names) → y ≡ Run.Accepted n → (s : Sides) → s ≡ record { a = m; b = n } → ChecksLink a b c (Accepted s)
+        pub accepted-both : (n : Names) → y ≡ Run.Accepted n → (s : Sides) → s ≡ record { a = m; b = n; legacya = l; legacyb = not (eqb (length c) 0) }
+            → ChecksLink a b c (Accepted s)
         accepted-both n h s z =
+            let in-a : Tells ((sideA a) .live) m × (l ≡ hasLegacy (sideA a)) = subst (λ (w : SideChecked). Asked w (sideA a)) g (p .asked) in
+            let in-b : Tells ((sideB b c) .live) n = subst (λ (w : Checking). Named w ((sideB b c) .live)) h (q .names) in
             record {
               told = sym (ap toldChecking h) ∙ by-b;
-              names =
-                  subst (λ (w : Sides). Tells ((sideA a) .live) (w .a) × Tells ((sideB b c) .live) (w .b)) (sym z)
-                  (subst (λ (w : Checking). Named w ((sideA a) .live)) g (p .names), subst (λ (w : Checking). Named w ((sideB b c) .live)) h (q .names));
+              names = subst (λ (w : Sides). OfSides w a b c) (sym z) (record { inA = in-a .0; inB = in-b; oldA = in-a .1; oldB = c-legacy b c e });
             }
 
 -- a run B of no bytes names nobody

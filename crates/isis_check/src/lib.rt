@@ -22,6 +22,7 @@ use replies::Refusal;
 use replies::Run;
 use rules::Checking;
 use rules::Names;
+use rules::SideChecked;
 
 // A type of link identifier: the length of its value, and its weight in a tally of types, 0 where the type is none of the five known ones.
 pub struct Known {
@@ -329,13 +330,15 @@ fn too_long(a: usize, b: usize, c: usize) -> bool
     1024 < c
 }
 
-// Whom the two sides of a link name.
+// Whom the two sides of a link name, and whether their legacy attributes have a value of the kinds of applications.
 pub struct Sides {
     pub a: Names,
     pub b: Names,
+    pub legacya: bool,
+    pub legacyb: bool,
 }
 
-// What the checks of a link found: the first refusal, or whom its sides name.
+// What the checks of a link found: the first refusal, or what the rule asks of its sides.
 pub enum LinkChecked {
     Refused(Refusal),
     Accepted(Sides),
@@ -354,7 +357,7 @@ fn check_side_b(b: &[u8]) -> Checking
 
 // Checks a link before anything is read from it. `a` holds the sub-TLVs of its neighbour entry, `b` its TLVs 238, `c` its legacy SRLG values.
 // Takes any bytes, walks each run once, and keeps nothing.
-// Accepted, with whom its sides name: every question to the link and its export can be answered from these runs, and the rule of a question is known by the names
+// Accepted, with whom its sides name and whether their legacy has a value: every question to the link and its export can be answered from these runs, and the rule of a question is known by the names
 // before a value is looked for.
 // Refused: the first fault by its number, 1 a run too long, 2 run C no multiple of 4 bytes, 3 an element, mask or list cut off, 4 a wrong length;
 // 1 and 2 name run A and offset 0, 3 and 4 the run and the first byte of the innermost element at fault.
@@ -368,10 +371,15 @@ pub fn check_sides(a: &[u8], b: &[u8], c: &[u8]) -> LinkChecked
         return LinkChecked::Refused(replies::refuse_call(2));
     }
     match isis_check_a::check_a(a) {
-        Checking::Refused(r) => return LinkChecked::Refused(r),
-        Checking::Accepted(x) => match check_side_b(b) {
+        SideChecked::Refused(r) => return LinkChecked::Refused(r),
+        SideChecked::Accepted { names, legacy } => match check_side_b(b) {
             Checking::Refused(r) => return LinkChecked::Refused(r),
-            Checking::Accepted(y) => return LinkChecked::Accepted(Sides { a: x, b: y }),
+            Checking::Accepted(m) => return LinkChecked::Accepted(Sides {
+                a: names,
+                b: m,
+                legacya: legacy,
+                legacyb: c.len() != 0,
+            }),
         },
     }
 }

@@ -33,8 +33,8 @@ enum-known-r c = search needs
 returns-3 : tie.Need-returns-3
 returns-3 c = refused-a _ _ _ (sym (c .before .before .before .before .before .before .too-long .ensures) ∙ c .before .before .before .before .before .if1 .left) (omega arith) _ (c .before .before .before .check-a .ensures) _ (c .before .r .given .1)
 
-enum-known-x : tie.Need-enum-known-x
-enum-known-x c = search needs
+enum-known-names : tie.Need-enum-known-names
+enum-known-names c = search needs
 
 check-side-b-requires : tie.Need-check-side-b-requires
 check-side-b-requires c κs = let q = c .before .before .before .before .before .before .before .before .before .before .args in
@@ -45,16 +45,16 @@ enum-known-r-2 c = search needs
 
 returns-4 : tie.Need-returns-4
 returns-4 c =
-    refused-b _ _ _ (sym (c .before .before .before .before .before .before .before .before .before .before .too-long .ensures) ∙ c .before .before .before .before .before .before .before .before .before .if1 .left) (omega arith) _ (c .before .before .before .before .before .before .before .check-a .ensures) _ (c .before .before .before .before .before .x .given .1)
+    refused-b _ _ _ (sym (c .before .before .before .before .before .before .before .before .before .before .too-long .ensures) ∙ c .before .before .before .before .before .before .before .before .before .if1 .left) (omega arith) _ (c .before .before .before .before .before .before .before .check-a .ensures) _ _ (c .before .before .before .before .before .names .given .1)
     _ (c .before .before .before .check-side-b .ensures _) _ (c .before .r2 .given .1)
 
-enum-known-y : tie.Need-enum-known-y
-enum-known-y c = search needs
+enum-known-m : tie.Need-enum-known-m
+enum-known-m c = search needs
 
 returns-5 : tie.Need-returns-5
 returns-5 c =
-    accepted-both _ _ _ (sym (c .before .before .before .before .before .before .before .before .before .before .too-long .ensures) ∙ c .before .before .before .before .before .before .before .before .before .if1 .left) (omega arith) _ (c .before .before .before .before .before .before .before .check-a .ensures) _ (c .before .before .before .before .before .x .given .1)
-    _ (c .before .before .before .check-side-b .ensures _) _ (c .before .y .given .1) _ refl
+    accepted-both _ _ _ (sym (c .before .before .before .before .before .before .before .before .before .before .too-long .ensures) ∙ c .before .before .before .before .before .before .before .before .before .if1 .left) (omega arith) _ (c .before .before .before .before .before .before .before .check-a .ensures) _ _ (c .before .before .before .before .before .names .given .1)
+    _ (c .before .before .before .check-side-b .ensures _) _ (c .before .m .given .1) _ refl
 
 pub check-sides-spec : {M : Type 1} → statement M
 check-sides-spec =
@@ -68,9 +68,9 @@ check-sides-spec =
     check-a-requires
     enum-known-r
     returns-3
-    enum-known-x
+    enum-known-names
     check-side-b-requires
     enum-known-r-2
     returns-4
-    enum-known-y
+    enum-known-m
     returns-5)
