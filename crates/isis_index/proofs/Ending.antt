@@ -13,7 +13,7 @@ use Rattle.linkstate.specs.Replies.{accepted, runA}
 use Rattle.linkstate.specs.Elements.{Element, elements, faults}
 use Rattle.linkstate.specs.Kinds.{linkCodes}
 use Rattle.linkstate.specs.Attributes.{Attribute, valueOf}
-use Rattle.linkstate.specs.Sides.{Side, names, named, namedWithL, ofLive, generalSet, applicationSet, rsvpTeKind, rsvpTeAlone, maximumBandwidth, reservableBandwidth, bandwidthKind}
+use Rattle.linkstate.specs.Sides.{Side, names, named, namedWithL, ofLive, generalSet, applicationSet, hasLegacy, rsvpTeKind, rsvpTeAlone, maximumBandwidth, reservableBandwidth, bandwidthKind}
 use Rattle.masks.specs.Sets.{turnedPlace}
 use Rattle.kinds.specs.Rules.{gridCodes}
 use Rattle.rules.specs.declared.Names.{Names}
@@ -37,7 +37,7 @@ use Rattle.isis_grids.proofs.Aslas.{live-all}
 use Rattle.isis_index.specs.Index as I
 use Rattle.isis_index.specs.Index.{cellIn, legacy, live, takes, inRun}
 use Rattle.isis_index.specs.Started.{Started}
-use Rattle.isis_index.specs.Settled.{settled, Settled, fromOld, slotBy, ruleBy, rsvpTeSlot}
+use Rattle.isis_index.specs.Settled.{settled, Settled, fromOld, slotBy, ruleBy, rsvpTeSlot, filledBy, filledSlot}
 use Rattle.isis_index.specs.Indexed.{Holds, Indexed}
 use Rattle.isis_index.proofs.Codes.{link-first, link-same}
 use Rattle.isis_index.proofs.Cells.{cell-append, place-low}
@@ -82,15 +82,16 @@ module _ (s : Side) where
 
 -- ---- all that was done
 
-pub record Done (a : List ℕ) (named : Names) (begun own middle ended given : List (List ℕ)) (r : ℕ) : Type 0 where
+pub record Done (a : List ℕ) (named : Names) (x : Bool) (begun own middle ended given : List (List ℕ)) (r : ℕ) : Type 0 where
   pub ok : faults runA checkA (elements 1 0 a) ≡ accepted
   pub small : length a < 65536
   pub tells : Tells ((sideA a) .live) named
   pub started : Started named begun own
   pub walk : Settled a own begun middle (inBoth (named .lstandard) (named .luser) 0)
-  pub rsvpTe : r ≡ rsvpTeSlot named own
+  pub old : x ≡ hasLegacy (sideA a)
+  pub rsvpTe : r ≡ rsvpTeSlot named x own
   pub holds : Table a ended
-  pub gets : Given middle ended (fromOld middle r)
+  pub gets : Given middle ended (fromOld middle (filledSlot named x own))
   pub gives : Gave own given (inPair (named .lstandard) (named .luser)) 1
 
 -- Attributes by another name.
@@ -101,33 +102,47 @@ filled-as {a} e y = record {
   stands = λ c. subst (All (Stands a)) (e c) (y .stands c);
 }
 
--- Where RSVP-TE's slot is: legacy's, or its own, since those that name it come first.
-data Slot (named : Names) (own : List (List ℕ)) (r : ℕ) : Type 0 where
-  old : r ≡ 1
-      → ((k : ℕ) (s : Side) → takenBy (ruleBy named) k s ≡ s .legacy)
-      → Slot named own r
-  first-own : r ≡ slotAt own 7 → inBoth (named .standard) (named .user) 0 ≡ true
-      → ((k : ℕ) (s : Side) → takenBy (ruleBy named) k s ≡ cond (empty (valueOf k (ofLive (names 0) s))) (s .legacy) (ofLive (names 0) s))
-      → Slot named own r
+-- Where RSVP-TE's slot is, and which one is filled up: legacy's; the general set's, and none is; or its own, since those that name it come first.
+data Slot (named : Names) (x : Bool) (own : List (List ℕ)) (filled r : ℕ) : Type 0 where
+  old : filled ≡ 1 → r ≡ 1 → ((k : ℕ) (s : Side) → takenBy (ruleBy named x) k s ≡ s .legacy) → Slot named x own filled r
+  bare : filled ≡ 1 → r ≡ 0 → ((k : ℕ) (s : Side) → takenBy (ruleBy named x) k s ≡ generalSet s) → Slot named x own filled r
+  first-own : filled ≡ slotAt own 7 → r ≡ slotAt own 7 → inBoth (named .standard) (named .user) 0 ≡ true
+      → ((k : ℕ) (s : Side) → takenBy (ruleBy named x) k s ≡ cond (empty (valueOf k (ofLive (names 0) s))) (s .legacy) (ofLive (names 0) s))
+      → Slot named x own filled r
 
-slot-is : (named : Names) (own : List (List ℕ)) (r : ℕ) → r ≡ rsvpTeSlot named own → Slot named own r
+slot-is : (named : Names) (x : Bool) (own : List (List ℕ)) (r : ℕ) → r ≡ rsvpTeSlot named x own → Slot named x own (filledSlot named x own) r
 unfolding rsvpTeRule takenBy
-slot-is named own r e = go (inBoth (named .lstandard) (named .luser) 0) refl (inBoth (named .standard) (named .user) 0) refl
+slot-is named x own r e = go (inBoth (named .lstandard) (named .luser) 0) refl (inBoth (named .standard) (named .user) 0) refl x refl
   where
-    -- by whether it is named with L and named
-    rule : Bool → Bool → Rule
-    rule l n = cond l ByL (cond n NamingFirst Legacy)
+    -- by whether it is named with L and named, and whether legacy has a value
+    rule : Bool → Bool → Bool → Rule
+    rule l n y = cond l ByL (cond n NamingFirst (cond y Legacy General))
 
-    go : (l : Bool) → inBoth (named .lstandard) (named .luser) 0 ≡ l → (n : Bool) → inBoth (named .standard) (named .user) 0 ≡ n → Slot named own r
-    go true i n j = old (e ∙ ap₂ (λ (b d : Bool). slotBy (rule b d) (slotAt own 7)) i j) (λ k s. ap₂ (λ (b d : Bool). takenBy (rule b d) k s) i j)
-    go false i true j = first-own (e ∙ ap₂ (λ (b d : Bool). slotBy (rule b d) (slotAt own 7)) i j) j (λ k s. ap₂ (λ (b d : Bool). takenBy (rule b d) k s) i j)
-    go false i false j = old (e ∙ ap₂ (λ (b d : Bool). slotBy (rule b d) (slotAt own 7)) i j) (λ k s. ap₂ (λ (b d : Bool). takenBy (rule b d) k s) i j)
+    go : (l : Bool) → inBoth (named .lstandard) (named .luser) 0 ≡ l → (n : Bool) → inBoth (named .standard) (named .user) 0 ≡ n → (y : Bool) → x ≡ y
+        → Slot named x own (filledSlot named x own) r
+    go true i n j y h = old (ap (λ (q : Rule). filledBy q (slotAt own 7)) is) (e ∙ ap (λ (q : Rule). slotBy q (slotAt own 7)) is) (λ k s. ap (λ (q : Rule). takenBy q k s) is)
+      where
+        is : rule (inBoth (named .lstandard) (named .luser) 0) (inBoth (named .standard) (named .user) 0) x ≡ ByL
+        is = rw i
+    go false i true j y h =
+        first-own (ap (λ (q : Rule). filledBy q (slotAt own 7)) is) (e ∙ ap (λ (q : Rule). slotBy q (slotAt own 7)) is) j (λ k s. ap (λ (q : Rule). takenBy q k s) is)
+      where
+        is : rule (inBoth (named .lstandard) (named .luser) 0) (inBoth (named .standard) (named .user) 0) x ≡ NamingFirst
+        is = rw (i, j)
+    go false i false j true h = old (ap (λ (q : Rule). filledBy q (slotAt own 7)) is) (e ∙ ap (λ (q : Rule). slotBy q (slotAt own 7)) is) (λ k s. ap (λ (q : Rule). takenBy q k s) is)
+      where
+        is : rule (inBoth (named .lstandard) (named .luser) 0) (inBoth (named .standard) (named .user) 0) x ≡ Legacy
+        is = rw (i, j, h)
+    go false i false j false h = bare (ap (λ (q : Rule). filledBy q (slotAt own 7)) is) (e ∙ ap (λ (q : Rule). slotBy q (slotAt own 7)) is) (λ k s. ap (λ (q : Rule). takenBy q k s) is)
+      where
+        is : rule (inBoth (named .lstandard) (named .luser) 0) (inBoth (named .standard) (named .user) 0) x ≡ General
+        is = rw (i, j, h)
 
 zero-place : turnedPlace 0 ≡ 7
 unfolding turnedPlace
 zero-place = refl
 
-module _ {a : List ℕ} {m : Names} {begun own middle ended given : List (List ℕ)} {r : ℕ} (d : Done a m begun own middle ended given r) where
+module _ {a : List ℕ} {m : Names} {x : Bool} {begun own middle ended given : List (List ℕ)} {r : ℕ} (d : Done a m x begun own middle ended given r) where
   abbrev side : Side
   side = sideA a
 
@@ -153,32 +168,39 @@ module _ {a : List ℕ} {m : Names} {begun own middle ended given : List (List �
   long : length ended ≡ length begun
   long = d .gets .same ∙ middle-long ∙ d .walk .same
 
-  where-is : Slot m own r
-  where-is = slot-is m own r (d .rsvpTe)
+  -- the slot that is filled up
+  abbrev filled : ℕ
+  filled = filledSlot m x own
 
-  -- RSVP-TE's slot is no slot below 3 but legacy's, and no other application's.
-  r-low : (s : ℕ) → s < 3 → (s ≡ 1 → ⊥) → s ≡ r → ⊥
+  where-is : Slot m x own filled r
+  where-is = slot-is m x own r (d .rsvpTe)
+
+  -- It is no slot below 3 but legacy's, and no other application's.
+  r-low : (s : ℕ) → s < 3 → (s ≡ 1 → ⊥) → s ≡ filled → ⊥
   r-low s h n e = go where-is
     where
-      go : Slot m own r → ⊥
-      go (old i f) = n (e ∙ i)
-      go (first-own i j f) = omega (arith, d .started .slots 0 (omega arith) j .0, ap (slotAt own) zero-place)
+      go : Slot m x own filled r → ⊥
+      go (old i z f) = n (e ∙ i)
+      go (bare i z f) = n (e ∙ i)
+      go (first-own i z j f) = omega (arith, d .started .slots 0 (omega arith) j .0, ap (slotAt own) zero-place)
 
-  r-inside : IsSet ended r
+  r-inside : IsSet ended filled
   r-inside = go where-is
     where
-      go : Slot m own r → IsSet ended r
-      go (old i f) = record { inside = omega (arith, long, d .started .three); other = λ z. omega arith }
-      go (first-own i j f) =
+      go : Slot m x own filled r → IsSet ended filled
+      go (old i z f) = record { inside = omega (arith, long, d .started .three); other = λ z. omega arith }
+      go (bare i z f) = record { inside = omega (arith, long, d .started .three); other = λ z. omega arith }
+      go (first-own i z j f) =
           let s = d .started .slots 0 (omega arith) j in
           record { inside = omega (arith, long, s .1, ap (slotAt own) zero-place); other = λ z. omega (arith, s .0, ap (slotAt own) zero-place) }
 
-  r-other : (n : ℕ) → 0 < n → n < 128 → isNamed n ≡ true → slot n ≡ r → ⊥
+  r-other : (n : ℕ) → 0 < n → n < 128 → isNamed n ≡ true → slot n ≡ filled → ⊥
   r-other n p h e i = go where-is
     where
-      go : Slot m own r → ⊥
-      go (old j f) = omega (arith, d .started .slots n h e .0)
-      go (first-own j k f) = omega (arith, d .started .apart n 0 h (omega arith) e k (i ∙ j ∙ sym (ap (slotAt own) zero-place)))
+      go : Slot m x own filled r → ⊥
+      go (old j z f) = omega (arith, d .started .slots n h e .0)
+      go (bare j z f) = omega (arith, d .started .slots n h e .0)
+      go (first-own j z k f) = omega (arith, d .started .apart n 0 h (omega arith) e k (i ∙ j ∙ sym (ap (slotAt own) zero-place)))
 
   -- ---- the cells of the slots
 
@@ -186,13 +208,13 @@ module _ {a : List ℕ} {m : Names} {begun own middle ended given : List (List �
   middle-cell s k n = ap (λ (table : List (List ℕ)). cell table s k) middle-is
       ∙ ap (λ (row : List ℕ). getD row k 0) (getD-set-other walked 2 s (settled (getD walked 2 []) l) [] n)
 
-  end-cell : (s k : ℕ) → IsSet ended s → k < 10 → cell ended s k ≡ first (cell walked s k) (cond (eqb s r) (cell walked 1 k) 0)
+  end-cell : (s k : ℕ) → IsSet ended s → k < 10 → cell ended s k ≡ first (cell walked s k) (cond (eqb s filled) (cell walked 1 k) 0)
   end-cell s k i h =
       d .gets .cells s k (let b = i .inside in omega (arith, d .gets .same)) h
-      ∙ ap₂ (λ (x y : ℕ). first x (cond (eqb s r) y 0)) (middle-cell s k (i .other)) (middle-cell 1 k (λ z. omega arith))
+      ∙ ap₂ (λ (x y : ℕ). first x (cond (eqb s filled) y 0)) (middle-cell s k (i .other)) (middle-cell 1 k (λ z. omega arith))
 
-  kept-cell : (s k : ℕ) → IsSet ended s → k < 10 → (s ≡ r → ⊥) → cell ended s k ≡ cell walked s k
-  kept-cell s k i h n = end-cell s k i h ∙ ap (λ (b : Bool). first (cell walked s k) (cond b (cell walked 1 k) 0)) (ne-eqb s r n)
+  kept-cell : (s k : ℕ) → IsSet ended s → k < 10 → (s ≡ filled → ⊥) → cell ended s k ≡ cell walked s k
+  kept-cell s k i h n = end-cell s k i h ∙ ap (λ (b : Bool). first (cell walked s k) (cond b (cell walked 1 k) 0)) (ne-eqb s filled n)
       ∙ first-none (cell walked s k) 0 0
 
   all-live : (w : Which) → All (Stands a) (ofLive (selects w) side)
@@ -219,7 +241,7 @@ module _ {a : List ℕ} {m : Names} {begun own middle ended given : List (List �
   filled-old : Filled a ended 1 (λ c. side .legacy)
   filled-old = record {
     is = low-set 1 (omega arith);
-    cells = λ k h. end-cell 1 k (low-set 1 (omega arith)) h ∙ twice (eqb 1 r) (cell walked 1 k) ∙ old-cell k h;
+    cells = λ k h. end-cell 1 k (low-set 1 (omega arith)) h ∙ twice (eqb 1 filled) (cell walked 1 k) ∙ old-cell k h;
     stands = λ c. all-old;
   }
     where
@@ -238,17 +260,17 @@ module _ {a : List ℕ} {m : Names} {begun own middle ended given : List (List �
   all-naming : (n : ℕ) → All (Stands a) (ofLive (names n) side)
   all-naming n = subst (All (Stands a)) (of-naming side n) (all-live (Naming n))
 
-  filled-own : (n : ℕ) → n < 128 → isNamed n ≡ true → (slot n ≡ r → ⊥) → Filled a ended (slot n) (λ c. ofLive (names n) side)
+  filled-own : (n : ℕ) → n < 128 → isNamed n ≡ true → (slot n ≡ filled → ⊥) → Filled a ended (slot n) (λ c. ofLive (names n) side)
   filled-own n h e i = record { is = own-set n h e; cells = λ k g. kept-cell (slot n) k (own-set n h e) g i ∙ own-cell n h e k g; stands = λ c. all-naming n }
 
   -- RSVP-TE's: those that name it, and legacy's where they have none.
-  filled-first : r ≡ slotAt own 7 → isNamed 0 ≡ true
-      → Filled a ended r (λ c. cond (empty (valueOf c (ofLive (names 0) side))) (side .legacy) (ofLive (names 0) side))
+  filled-first : filled ≡ slotAt own 7 → isNamed 0 ≡ true
+      → Filled a ended filled (λ c. cond (empty (valueOf c (ofLive (names 0) side))) (side .legacy) (ofLive (names 0) side))
   filled-first i j = record {
     is = r-inside;
     cells = λ k h.
-        end-cell r k r-inside h
-        ∙ ap (λ (b : Bool). first (cell walked r k) (cond b (cell walked 1 k) 0)) (eq-eqb r r refl)
+        end-cell filled k r-inside h
+        ∙ ap (λ (b : Bool). first (cell walked filled k) (cond b (cell walked 1 k) 0)) (eq-eqb filled filled refl)
         ∙ ap₂ first (ap (λ (s : ℕ). cell walked s k) (i ∙ sym (ap (slotAt own) zero-place)) ∙ own-cell 0 (omega arith) j k h) (old-cell k h)
         ∙ both k h;
     stands = λ c. pick (empty (valueOf c (ofLive (names 0) side)));
@@ -273,22 +295,38 @@ module _ {a : List ℕ} {m : Names} {begun own middle ended given : List (List �
       pick true = all-old
       pick false = all-naming 0
 
-  by-rule : (k : ℕ) → takenBy (rsvpTeRule l (isNamed 0)) k side ≡ rsvpTeKind k side
-  by-rule k = ap₂ (λ (x y : Bool). takenBy (rsvpTeRule x y) k side) (side-flagged side m (d .tells) 0) (side-named side m (d .tells) 0) ∙ rsvp-te-taken k side
+  by-rule : (k : ℕ) → takenBy (ruleBy m x) k side ≡ rsvpTeKind k side
+  by-rule k =
+      ap₂ (λ (y z : Bool). takenBy (rsvpTeRule y z x) k side) (side-flagged side m (d .tells) 0) (side-named side m (d .tells) 0)
+      ∙ ap (λ (z : Bool). takenBy (rsvpTeRule (namedWithL 0 side) (named 0 side) z) k side) (d .old)
+      ∙ rsvp-te-taken k side
 
   filled-rsvp-te : Filled a ended r (λ c. rsvpTeKind c side)
   filled-rsvp-te = go where-is
     where
-      go : Slot m own r → Filled a ended r (λ c. rsvpTeKind c side)
-      go (old i f) = subst (λ (s : ℕ). Filled a ended s (λ c. rsvpTeKind c side)) (sym i) (filled-as (λ c. sym (f c side) ∙ by-rule c) filled-old)
-      go (first-own i j f) = filled-as (λ c. sym (f c side) ∙ by-rule c) (filled-first i j)
+      at : (s : ℕ) → r ≡ s → Filled a ended s (λ c. rsvpTeKind c side) → Filled a ended r (λ c. rsvpTeKind c side)
+      at s i y = subst (λ (t : ℕ). Filled a ended t (λ c. rsvpTeKind c side)) (sym i) y
+
+      go : Slot m x own filled r → Filled a ended r (λ c. rsvpTeKind c side)
+      go (old i z f) = at 1 z (filled-as (λ c. sym (f c side) ∙ by-rule c) filled-old)
+      go (bare i z f) = at 0 z (filled-as (λ c. sym (f c side) ∙ by-rule c) filled-general)
+      go (first-own i z j f) = at filled (z ∙ sym i) (filled-as (λ c. sym (f c side) ∙ by-rule c) (filled-first i j))
+
+  -- What is filled up is legacy's, or RSVP-TE's own.
+  filled-up : (f : ℕ → List Attribute) × Filled a ended filled f
+  filled-up = go where-is
+    where
+      go : Slot m x own filled r → (f : ℕ → List Attribute) × Filled a ended filled f
+      go (old i z f) = ((λ c. side .legacy), subst (λ (t : ℕ). Filled a ended t (λ c. side .legacy)) (sym i) filled-old)
+      go (bare i z f) = ((λ c. side .legacy), subst (λ (t : ℕ). Filled a ended t (λ c. side .legacy)) (sym i) filled-old)
+      go (first-own i z j f) = ((λ c. cond (empty (valueOf c (ofLive (names 0) side))) (side .legacy) (ofLive (names 0) side)), filled-first i j)
 
   -- ---- every slot is somebody's
 
   any-slot : (s : ℕ) → IsSet ended s → (f : ℕ → List Attribute) × Filled a ended s f
-  any-slot s i = go (eqb s r) refl
+  any-slot s i = go (eqb s filled) refl
     where
-      of-named : (n : ℕ) → n < 128 → isNamed n ≡ true → slot n ≡ s → (s ≡ r → ⊥) → (f : ℕ → List Attribute) × Filled a ended s f
+      of-named : (n : ℕ) → n < 128 → isNamed n ≡ true → slot n ≡ s → (s ≡ filled → ⊥) → (f : ℕ → List Attribute) × Filled a ended s f
       of-named n h e j o = ((λ c. ofLive (names n) side), subst (λ (t : ℕ). Filled a ended t (λ c. ofLive (names n) side)) j (filled-own n h e (λ z. o (sym j ∙ z))))
 
       low : (t : ℕ) → s ≡ t → t < 3 → (f : ℕ → List Attribute) × Filled a ended s f
@@ -296,13 +334,13 @@ module _ {a : List ℕ} {m : Names} {begun own middle ended given : List (List �
       low (suc zero) e h = ((λ c. side .legacy), subst (λ (t : ℕ). Filled a ended t (λ c. side .legacy)) (sym e) filled-old)
       low (suc (suc t)) e h = absurd (i .other (omega arith))
 
-      high : (b : Bool) → ltb s 3 ≡ b → (s ≡ r → ⊥) → (f : ℕ → List Attribute) × Filled a ended s f
+      high : (b : Bool) → ltb s 3 ≡ b → (s ≡ filled → ⊥) → (f : ℕ → List Attribute) × Filled a ended s f
       high true e o = low s refl (ltb-true s 3 e)
       high false e o = let t = d .started .taken s (ltb-false s 3 e) (let b = i .inside in omega (arith, long)) in of-named (t .0) (t .1) (t .2) (t .3) o
 
-      go : (b : Bool) → eqb s r ≡ b → (f : ℕ → List Attribute) × Filled a ended s f
-      go true e = ((λ c. rsvpTeKind c side), subst (λ (t : ℕ). Filled a ended t (λ c. rsvpTeKind c side)) (sym (eqb-true s r e)) filled-rsvp-te)
-      go false e = high (ltb s 3) refl (eqb-false s r e)
+      go : (b : Bool) → eqb s filled ≡ b → (f : ℕ → List Attribute) × Filled a ended s f
+      go true e = (filled-up .0, subst (λ (t : ℕ). Filled a ended t (filled-up .0)) (sym (eqb-true s filled e)) (filled-up .1))
+      go false e = high (ltb s 3) refl (eqb-false s filled e)
 
   -- ---- the link's bandwidths
 
@@ -318,7 +356,7 @@ module _ {a : List ℕ} {m : Names} {begun own middle ended given : List (List �
   link-cell : (k : ℕ) → k < 10 → cell ended 2 k ≡ getD (settled row l) k 0
   link-cell k h =
       d .gets .cells 2 k (omega (arith, two-inside, middle-long)) h
-      ∙ ap (λ (b : Bool). first (cell middle 2 k) (cond b (cell middle 1 k) 0)) (ne-eqb 2 r (r-low 2 (omega arith) (λ z. omega arith)))
+      ∙ ap (λ (b : Bool). first (cell middle 2 k) (cond b (cell middle 1 k) 0)) (ne-eqb 2 filled (r-low 2 (omega arith) (λ z. omega arith)))
       ∙ first-none (cell middle 2 k) 0 0 ∙ ap (λ (table : List (List ℕ)). cell table 2 k) middle-is
       ∙ ap (λ (x : List ℕ). getD x k 0) (getD-set-same walked 2 (settled row l) [] two-inside)
 

@@ -14,36 +14,46 @@ use Rattle.rules.specs.declared.Rule.the-variants.{ByL, Naming, General, Legacy
 use Rattle.rules.specs.Rules.{rsvpTeRule}
 use Rattle.rules.proofs.Rule.{the-type}
 use Rattle.set_table.specs.Tables.{slotAt}
-use Rattle.isis_index.specs.Settled.{slotBy, ruleBy, rsvpTeSlot}
+use Rattle.isis_index.specs.Settled.{slotBy, filledBy, ruleBy, rsvpTeSlot, filledSlot}
 
--- Every other rule takes legacy's.
-slot-other : (r : Rule) (s : ℕ) → OneOf (0 ∷ 1 ∷ 2 ∷ 3 ∷ 5 ∷ 6 ∷ []) (tagOf the-type r) → 1 ≡ slotBy r s
-slot-other ByL s h = refl
-slot-other (Naming n) s h = refl
-slot-other General s h = refl
-slot-other Legacy s h = refl
-slot-other NamingFirst s h =
-    absurd (⊎-elim (λ e. omega arith) (λ h. ⊎-elim (λ e. omega arith) (λ h. ⊎-elim (λ e. omega arith) (λ h. ⊎-elim (λ e. omega arith) (λ h. ⊎-elim (λ e. omega arith) (λ e. omega arith) h) h) h) h) h)
-slot-other AloneFirst s h = refl
-slot-other LegacyFirst s h = refl
+-- Every rule but two takes legacy's slot, and every rule but one leaves the slots as they are.
+slot-other : (r : Rule) (s : ℕ) → OneOf (0 ∷ 1 ∷ 3 ∷ 5 ∷ 6 ∷ []) (tagOf the-type r) → (1 ≡ slotBy r s) × (1 ≡ filledBy r s)
+slot-other ByL s h = (refl, refl)
+slot-other (Naming n) s h = (refl, refl)
+slot-other General s h = absurd (⊎-elim (λ e. omega arith) (λ h. ⊎-elim (λ e. omega arith) (λ h. ⊎-elim (λ e. omega arith) (λ h. ⊎-elim (λ e. omega arith) (λ e. omega arith) h) h) h) h)
+slot-other Legacy s h = (refl, refl)
+slot-other NamingFirst s h = absurd (⊎-elim (λ e. omega arith) (λ h. ⊎-elim (λ e. omega arith) (λ h. ⊎-elim (λ e. omega arith) (λ h. ⊎-elim (λ e. omega arith) (λ e. omega arith) h) h) h) h)
+slot-other AloneFirst s h = (refl, refl)
+slot-other LegacyFirst s h = (refl, refl)
 
 -- Who comes first by the rule is named.
-pub first-named : (l n : Bool) → rsvpTeRule l n ≡ NamingFirst → n ≡ true
+pub first-named : (l n x : Bool) → rsvpTeRule l n x ≡ NamingFirst → n ≡ true
 unfolding rsvpTeRule
-first-named true n e = let z : _≡_ {A = ℕ} 0 1 = cc in absurd (omega arith)
-first-named false true e = refl
-first-named false false e = let z : _≡_ {A = ℕ} 0 1 = cc in absurd (omega arith)
+first-named true n x e = let z : _≡_ {A = ℕ} 0 1 = cc in absurd (omega arith)
+first-named false true x e = refl
+first-named false false true e = let z : _≡_ {A = ℕ} 0 1 = cc in absurd (omega arith)
+first-named false false false e = let z : _≡_ {A = ℕ} 0 1 = cc in absurd (omega arith)
 
 -- As the code asks for the rule.
-module _ (named : Names) (owns : List (List ℕ)) (l n : Bool) (is : l ≡ inBoth (named .lstandard) (named .luser) 0) (iu : n ≡ inBoth (named .standard) (named .user) 0) (r : Rule) (e : r ≡ rsvpTeRule l n) where
-  rule-is : r ≡ ruleBy named
-  rule-is = e ∙ ap₂ rsvpTeRule is iu
+module _ (named : Names) (x : Bool) (owns : List (List ℕ)) (l n : Bool) (is : l ≡ inBoth (named .lstandard) (named .luser) 0) (iu : n ≡ inBoth (named .standard) (named .user) 0) (r : Rule) (e : r ≡ rsvpTeRule l n x) where
+  rule-is : r ≡ ruleBy named x
+  rule-is = e ∙ ap₂ (λ (y z : Bool). rsvpTeRule y z x) is iu
 
-  pub own-slot : r ≡ NamingFirst → slotAt owns 7 ≡ rsvpTeSlot named owns
-  own-slot i = ap (λ (x : Rule). slotBy x (slotAt owns 7)) (sym i ∙ rule-is)
+  -- the slot of RSVP-TE, and the one that is filled up
+  abbrev Told : ℕ → ℕ → Type 0
+  Told s f = (s ≡ rsvpTeSlot named x owns) × (f ≡ filledSlot named x owns)
+
+  by-rule : (q : Rule) → r ≡ q → Told (slotBy q (slotAt owns 7)) (filledBy q (slotAt owns 7))
+  by-rule q i = (ap (λ (y : Rule). slotBy y (slotAt owns 7)) (sym i ∙ rule-is), ap (λ (y : Rule). filledBy y (slotAt owns 7)) (sym i ∙ rule-is))
+
+  pub own-slot : r ≡ NamingFirst → Told (slotAt owns 7) (slotAt owns 7)
+  own-slot i = by-rule NamingFirst i
 
   pub own-named : r ≡ NamingFirst → inBoth (named .standard) (named .user) 0 ≡ true
-  own-named i = sym iu ∙ first-named l n (sym e ∙ i)
+  own-named i = sym iu ∙ first-named l n x (sym e ∙ i)
 
-  pub old-slot : OneOf (0 ∷ 1 ∷ 2 ∷ 3 ∷ 5 ∷ 6 ∷ []) (tagOf the-type r) → 1 ≡ rsvpTeSlot named owns
-  old-slot h = slot-other r (slotAt owns 7) h ∙ ap (λ (x : Rule). slotBy x (slotAt owns 7)) rule-is
+  pub general-slot : r ≡ General → Told 0 1
+  general-slot i = by-rule General i
+
+  pub old-slot : OneOf (0 ∷ 1 ∷ 3 ∷ 5 ∷ 6 ∷ []) (tagOf the-type r) → Told 1 1
+  old-slot h = let o = slot-other r (slotAt owns 7) h in let t = by-rule r refl in (o .0 ∙ t .0, o .1 ∙ t .1)

@@ -33,19 +33,32 @@ pub record Settled (a : List ℕ) (owns begun table : List (List ℕ)) (l : Bool
 abbrev pub fromOld : List (List ℕ) → ℕ → ℕ → ℕ → ℕ
 fromOld table s t k = cond (eqb t s) (cell table 1 k) 0
 
--- W8, W9, W10. The slot of RSVP-TE's set, by its rule: its own where those that name it come first, else legacy's. Its own is at place 7.
+-- W8, W9, W10, E2a. The slot of RSVP-TE's set, by its rule: its own where those that name it come first, the general set's, else legacy's. Its own is at place 7.
 abbrev pub slotBy : Rule → ℕ → ℕ
 slotBy ByL s = 1
 slotBy (Naming n) s = 1
-slotBy General s = 1
+slotBy General s = 0
 slotBy Legacy s = 1
 slotBy NamingFirst s = s
 slotBy AloneFirst s = 1
 slotBy LegacyFirst s = 1
 
--- RSVP-TE's rule, by four masks.
-abbrev pub ruleBy : Names → Rule
-ruleBy named = rsvpTeRule (inBoth (named .lstandard) (named .luser) 0) (inBoth (named .standard) (named .user) 0)
+-- W9. The slot that is filled up from legacy's: RSVP-TE's own where those that name it come first, else legacy's, which stays as it is.
+abbrev pub filledBy : Rule → ℕ → ℕ
+filledBy ByL s = 1
+filledBy (Naming n) s = 1
+filledBy General s = 1
+filledBy Legacy s = 1
+filledBy NamingFirst s = s
+filledBy AloneFirst s = 1
+filledBy LegacyFirst s = 1
 
-abbrev pub rsvpTeSlot : Names → List (List ℕ) → ℕ
-rsvpTeSlot named owns = slotBy (ruleBy named) (slotAt owns 7)
+-- RSVP-TE's rule, by four masks and by whether legacy has a value.
+abbrev pub ruleBy : Names → Bool → Rule
+ruleBy named x = rsvpTeRule (inBoth (named .lstandard) (named .luser) 0) (inBoth (named .standard) (named .user) 0) x
+
+abbrev pub rsvpTeSlot : Names → Bool → List (List ℕ) → ℕ
+rsvpTeSlot named x owns = slotBy (ruleBy named x) (slotAt owns 7)
+
+abbrev pub filledSlot : Names → Bool → List (List ℕ) → ℕ
+filledSlot named x owns = filledBy (ruleBy named x) (slotAt owns 7)

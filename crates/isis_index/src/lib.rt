@@ -7,6 +7,7 @@ ghost use lib.ListN.{length, getD, set};
 ghost use Rattle.linkstate.specs.Lists.{each};
 ghost use Rattle.linkstate.specs.Replies.{accepted, runA};
 ghost use Rattle.linkstate.specs.Elements.{elements, faults};
+ghost use Rattle.linkstate.specs.Sides.{hasLegacy};
 ghost use Rattle.rules.specs.Names.{Tells};
 ghost use Rattle.masks.specs.Applications.{inBoth, inPair};
 ghost use Rattle.isis.specs.RunA.{checkA, attributesOf, aslaAdvertisements, sideA};
@@ -14,7 +15,7 @@ ghost use Rattle.grids.specs.Slots.{cell, IsSet};
 ghost use Rattle.set_table.specs.Tables.{first, Table, Given, onlyAt, slotAt, Within, Owned, Gave};
 ghost use Rattle.isis_index.specs.Index.{owning, Right, Listed, attributeAt, Took, TookFor, Ready, fromLegacy, heardByAll, heard, takes, partOf, hereIn, Here, Ground, Owning, ReadAs, Gains, Empty, Walked};
 ghost use Rattle.isis_index.specs.Started.{Started};
-ghost use Rattle.isis_index.specs.Settled.{settled, Settled, fromOld, rsvpTeSlot};
+ghost use Rattle.isis_index.specs.Settled.{settled, Settled, fromOld, rsvpTeSlot, filledSlot};
 ghost use Rattle.isis_index.specs.Indexed.{Indexed};
 use kinds::Kind;
 use rules::Names;
@@ -270,19 +271,28 @@ fn wide(x: u8) -> usize
     x as usize
 }
 
-// The slot of RSVP-TE's set; its own is filled up from legacy's.
-fn rsvp_te_slot(a: &[u8], named: Names, sets: &mut [[u32; 12]], own: &[[u8; 2]; 128]) -> usize
+// The slot of RSVP-TE's set: the general set's, legacy's, or its own, which is filled up from legacy's.
+fn rsvp_te_slot(
+    a: &[u8],
+    named: Names,
+    legacy: bool,
+    sets: &mut [[u32; 12]],
+    own: &[[u8; 2]; 128],
+) -> usize
     requires { ⌜ Table (now a) (now sets) × (1 < length (now sets)) × (inBoth (named .standard) (named .user) 0 ≡ true → IsSet (now sets) (slotAt (now own) 7)) ⌝ }
-    ensures { λ r. ⌜ (r ≡ rsvpTeSlot named (now (own .entry))) × Table (now (a .entry)) (now (sets .exit)) × Given (now (sets .entry)) (now (sets .exit)) (fromOld (now (sets .entry)) r) ⌝ }
+    ensures { λ r. ⌜ (r ≡ rsvpTeSlot named legacy (now (own .entry))) × Table (now (a .entry)) (now (sets .exit)) × Given (now (sets .entry)) (now (sets .exit)) (fromOld (now (sets .entry)) (filledSlot named legacy (now (own .entry)))) ⌝ }
 {
     let l = rules::is_named_with_l(named, 0);
     let n = rules::is_named(named, 0);
-    if let Rule::NamingFirst = rules::rsvp_te_rule(l, n) {
-        let s = wide(own[7][0]);
-        add_all_old(a, sets, s);
-        return s;
+    match rules::rsvp_te_rule(l, n, legacy) {
+        Rule::NamingFirst => {
+            let s = wide(own[7][0]);
+            add_all_old(a, sets, s);
+            return s;
+        }
+        Rule::General => return 0,
+        _ => return 1,
     }
-    1
 }
 
 // Those that are named with L take legacy's slot.
@@ -303,13 +313,19 @@ fn walk_and_settle(a: &[u8], named: Names, sets: &mut [[u32; 12]], own: &[[u8; 2
     settle(sets, rules::is_named_with_l(named, 0));
 }
 
-// Run A, accepted, whose applications have their slots: the table of its sets, and the slot of every subject. The answer is the slot of RSVP-TE's set.
-pub fn index_a(a: &[u8], named: Names, sets: &mut [[u32; 12]], own: &mut [[u8; 2]; 128]) -> usize
-    requires { ⌜ (faults runA checkA (elements 1 0 (now a)) ≡ accepted) × (length (now a) < 65536) × Tells ((sideA (now a)) .live) named × Started named (now sets) (now own) ⌝ }
+// Run A, accepted, whose applications have their slots and of whose legacy it is known whether it has a value: the table of its sets, and the slot of every subject. The answer is the slot of RSVP-TE's set.
+pub fn index_a(
+    a: &[u8],
+    named: Names,
+    legacy: bool,
+    sets: &mut [[u32; 12]],
+    own: &mut [[u8; 2]; 128],
+) -> usize
+    requires { ⌜ (faults runA checkA (elements 1 0 (now a)) ≡ accepted) × (length (now a) < 65536) × Tells ((sideA (now a)) .live) named × (legacy ≡ hasLegacy (sideA (now a))) × Started named (now sets) (now own) ⌝ }
     ensures { λ r. ⌜ Indexed (now (a .entry)) (now (sets .exit)) (now (own .exit)) r ⌝ }
 {
     walk_and_settle(a, named, sets, own);
-    let r = rsvp_te_slot(a, named, sets, own);
+    let r = rsvp_te_slot(a, named, legacy, sets, own);
     give_old(named.lstandard, named.luser, own);
     r
 }

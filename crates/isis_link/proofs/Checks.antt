@@ -69,8 +69,7 @@ module _ (a b c : List ℕ) (whom : Subject) (k : ℕ) where
               link = sym (h .told);
               low = question-low (linkSource a b c) whom k (sym q);
               known = question-known (linkSource a b c) whom k (sym q);
-              inA = h .names .0;
-              inB = h .names .1;
+              sides = h .names;
             };
       }
 
@@ -86,5 +85,5 @@ module _ (a b c : List ℕ) (whom : Subject) (k : ℕ) where
       pub asked-with : Asked a b c whom k s
       asked-with = subst (λ (x : LinkChecked). AskedBy x a b c whom k) e (h .asked)
 
-pub asked-in-a : (a b c : List ℕ) (whom : Subject) (k : ℕ) (s : Sides) → Asked a b c whom k s → eqb k 1096 ≡ false → AskedInA a whom k (s .a)
-asked-in-a a b c whom k s q o = record { passed = a-passed a b c (q .link); low = q .low; known = q .known; other = o; tells = q .inA }
+pub asked-in-a : (a b c : List ℕ) (whom : Subject) (k : ℕ) (s : Sides) → Asked a b c whom k s → eqb k 1096 ≡ false → AskedInA a whom k (s .a) (s .legacya)
+asked-in-a a b c whom k s q o = record { passed = a-passed a b c (q .link); low = q .low; known = q .known; other = o; tells = q .sides .inA; old = q .sides .oldA }

@@ -29,7 +29,7 @@ use Rattle.rules.specs.Rules.{givenOn}
 use Rattle.isis_check.specs.declared.Sides.{Sides}
 use Rattle.isis_check.specs.declared.LinkChecked.{LinkChecked}
 use Rattle.isis_check.specs.declared.LinkChecked.the-variants.{Accepted}
-use Rattle.isis_check.specs.Sides.{NamedSides}
+use Rattle.isis_check.specs.Sides.{OfSides, NamedSides}
 use Rattle.isis_link.proofs.Checks.{b-passed, b-short, c-short}
 use Rattle.isis_link.proofs.Given.{given-in-b}
 use Rattle.isis_tlvs_238.specs.Runs.{Passed}
@@ -105,9 +105,9 @@ module _ (a b c : List ℕ) (standard users : ℕ) where
       (is-number users (λ n. member (user n) others && (named (user n) (sideA a) || named (user n) (sideB b c))) lu
       (λ n h. hu n h ∙ ap (λ (x : Bool). x && (named (user n) (sideA a) || named (user n) (sideB b c))) (sym (user-is n h)))))
 
--- Whom the sides name, as the checks tell it.
+-- What the sides tell, as the checks have it.
 pub told-names : (a b c : List ℕ) (r : LinkChecked) → NamedSides r a b c → (s : Sides) → r ≡ Accepted s
-    → Tells ((sideA a) .live) (s .a) × Tells ((sideB b c) .live) (s .b)
+    → OfSides s a b c
 told-names a b c r h s e = subst (λ (x : LinkChecked). NamedSides x a b c) e h
 
 -- What is in the numbers, from what each step says of them: m is whom either side names, with the bytes of masks.

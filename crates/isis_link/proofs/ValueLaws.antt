@@ -75,7 +75,7 @@ module _ (a : List ℕ) (ok : faults runA checkA (elements 1 0 a) ≡ accepted) 
   given-stands b c whom k s = subst (All (Stands a)) (rule-taken whom k (sideA a) ∙ sym (given-in-a a b c whom k s)) (taken-stands (ruleOn whom k (sideA a)) k)
 
 -- The row of a kind: absent, or where its first value stands.
-module _ (a : List ℕ) (whom : Subject) (k : ℕ) (m : Names) (q : AskedInA a whom k m) (b c row : List ℕ) (e : row ≡ rowOf k (given (linkSource a b c) whom k)) where
+module _ (a : List ℕ) (whom : Subject) (k : ℕ) (m : Names) (x : Bool) (q : AskedInA a whom k m x) (b c row : List ℕ) (e : row ≡ rowOf k (given (linkSource a b c) whom k)) where
   first : First a k (given (linkSource a b c) whom k)
   first = first-of a k (given (linkSource a b c) whom k) (given-stands a (q .passed) b c whom k (q .other))
 

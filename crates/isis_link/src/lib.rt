@@ -8,7 +8,7 @@ ghost use Rattle.linkstate.specs.Replies.{accepted, runA, place};
 ghost use Rattle.linkstate.specs.Elements.{elements, faults};
 ghost use Rattle.linkstate.specs.Kinds.{isCode};
 ghost use Rattle.linkstate.specs.Attributes.{ofKind, srlgs};
-ghost use Rattle.linkstate.specs.Sides.{ofLive};
+ghost use Rattle.linkstate.specs.Sides.{ofLive, hasLegacy};
 ghost use Rattle.linkstate.specs.Questions.{given, firstOf, bytesOfFirst, numberTooHigh, srlgAnswer, answer, ask, value, listNamed};
 ghost use Rattle.isis.specs.Types.{codeOfType};
 ghost use Rattle.isis.specs.RunA.{checkA, sideA};
@@ -35,7 +35,7 @@ use rules::Rule;
 
 // look-up in run A by that rule.
 
-// What comes before the answer to a question: its first refusal, or whom the sides of the link name.
+// What comes before the answer to a question: its first refusal, or what the sides of the link tell.
 pub fn check_asked(a: &[u8], b: &[u8], c: &[u8], whom: Subject, code: usize) -> LinkChecked
     ensures { λ r. ⌜ ChecksAsked (now (a .entry)) (now (b .entry)) (now (c .entry)) (subjectOf whom) code r ⌝ }
 {
@@ -86,32 +86,32 @@ fn row_by(a: &[u8], rule: Rule, t: u8) -> [usize; 2]
     }
 }
 
-// Place and length of the value that a question asks for, by whom side A names; place 0 where there is none.
-pub fn find_row(a: &[u8], whom: Subject, code: usize, m: Names) -> [usize; 2]
-    requires { ⌜ AskedInA (now a) (subjectOf whom) code m ⌝ }
+// Place and length of the value that a question asks for, by whom side A names and whether its legacy has a value; place 0 where there is none.
+pub fn find_row(a: &[u8], whom: Subject, code: usize, m: Names, legacy: bool) -> [usize; 2]
+    requires { ⌜ AskedInA (now a) (subjectOf whom) code m legacy ⌝ }
     ensures { λ r. ⌜ ((b c : List ℕ) → r ≡ rowOf code (given (linkSource (now (a .entry)) b c) (subjectOf whom) code)) ⌝ }
 {
-    let rule = rules::decide(whom, code, m);
+    let rule = rules::decide(whom, code, m, legacy);
     row_by(a, rule, isis_grids::type_of(code))
 }
 
 // The reply of a kind other than SRLG.
-pub fn answer_value(a: &[u8], whom: Subject, code: usize, m: Names) -> Answer
-    requires { ⌜ AskedInA (now a) (subjectOf whom) code m ⌝ }
+pub fn answer_value(a: &[u8], whom: Subject, code: usize, m: Names, legacy: bool) -> Answer
+    requires { ⌜ AskedInA (now a) (subjectOf whom) code m legacy ⌝ }
     ensures { λ x. ⌜ ((b c : List ℕ) → toldAnswer x ≡ firstOf (place runA) (ofKind code (given (linkSource (now (a .entry)) b c) (subjectOf whom) code))) ⌝ }
 {
-    let row = find_row(a, whom, code, m);
+    let row = find_row(a, whom, code, m, legacy);
     let place = row[0];
     let len = row[1];
     answering::answer_row(a, Run::A, code, place, len)
 }
 
 // The value's bytes as a part of run A.
-pub fn part_of(a: &[u8], whom: Subject, code: usize, m: Names) -> &[u8]
-    requires { ⌜ AskedInA (now a) (subjectOf whom) code m ⌝ }
+pub fn part_of(a: &[u8], whom: Subject, code: usize, m: Names, legacy: bool) -> &[u8]
+    requires { ⌜ AskedInA (now a) (subjectOf whom) code m legacy ⌝ }
     ensures { λ x. ⌜ ((b c : List ℕ) → now x ≡ bytesOfFirst (now (a .entry)) (ofKind code (given (linkSource (now (a .entry)) b c) (subjectOf whom) code))) ⌝ }
 {
-    let row = find_row(a, whom, code, m);
+    let row = find_row(a, whom, code, m, legacy);
     let place = row[0];
     let len = row[1];
     if place == 0 {
@@ -122,20 +122,27 @@ pub fn part_of(a: &[u8], whom: Subject, code: usize, m: Names) -> &[u8]
 
 // Any bytes, any subject and any code are taken; every refusal is document 01's, and after one nothing was written.
 
-// The reply of SRLG, by whom side B names. Without TLVs 238 and legacy values there is none.
-fn answer_srlg(b: &[u8], c: &[u8], whom: Subject, m: Names, list: &mut [u32]) -> Answer
-    requires { ⌜ Passed (now b) (now c) × (numberTooHigh (subjectOf whom) ≡ false) × Tells ((sideB (now b) (now c)) .live) m ⌝ }
+// The reply of SRLG, by whom side B names and whether run C has a value. Without TLVs 238 and legacy values there is none.
+fn answer_srlg(
+    b: &[u8],
+    c: &[u8],
+    whom: Subject,
+    m: Names,
+    legacy: bool,
+    list: &mut [u32],
+) -> Answer
+    requires { ⌜ Passed (now b) (now c) × (numberTooHigh (subjectOf whom) ≡ false) × Tells ((sideB (now b) (now c)) .live) m × (legacy ≡ hasLegacy (sideB (now b) (now c))) ⌝ }
     ensures { λ r. ⌜ toldAsked r (now (list .exit)) ≡ srlgAnswer (srlgs (givenOn (subjectOf whom) 1096 (sideB (now (b .entry)) (now (c .entry))))) (now (list .entry)) ⌝ }
 {
     if (b.len() == 0) & (c.len() == 0) {
         return Answer::Absent;
     }
     let mut ns = [0u32; 512];
-    let k = isis_tlvs_238::srlgs_of(b, c, whom, m, &mut ns);
+    let k = isis_tlvs_238::srlgs_of(b, c, whom, m, legacy, &mut ns);
     answering::answer_front(&ns, k, list)
 }
 
-// The answer to a question that nothing refuses but 5, by whom the sides name: the names of a kind's own side count.
+// The answer to a question that nothing refuses but 5, by what the sides tell: what a kind's own side tells counts.
 fn answer_accepted(
     a: &[u8],
     b: &[u8],
@@ -150,10 +157,10 @@ fn answer_accepted(
 {
     if code == 1096 {
         let m = names.b;
-        return answer_srlg(b, c, whom, m, list);
+        return answer_srlg(b, c, whom, m, names.legacyb, list);
     }
     let m = names.a;
-    answer_value(a, whom, code, m)
+    answer_value(a, whom, code, m, names.legacya)
 }
 
 // One kind of one subject: absent, found with its reading, or refused. SRLGs go ascending to the front of the lent list; for every other answer the list stays as it was.
@@ -186,7 +193,7 @@ pub fn value<'a, 'b, 'c>(
                 return &a[0..0];
             }
             let m = names.a;
-            return part_of(a, whom, code, m);
+            return part_of(a, whom, code, m, names.legacya);
         }
     }
 }

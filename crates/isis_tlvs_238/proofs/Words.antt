@@ -5,23 +5,24 @@ use mathlib.Core.List.{List, [], _∷_}
 use Prim.Native.Nat.{ℕ, _+_, _/_, _≤_, _<_}
 use native.Mathlib.Omega.{arith}
 use borrow.Author.Tests.{eqb-true}
-use lib.Dec.{eqb, ltb}
+use lib.Dec.{eqb}
 use lib.ListN.{length}
 use Rattle.linkstate.specs.Lists.{each, empty, put}
-use Rattle.linkstate.specs.Bytes.{words, insert, distinct, bytesOfWords}
+use Rattle.linkstate.specs.Bytes.{words, distinct, bytesOfWords}
 use Rattle.linkstate.specs.Attributes.{Attribute, ofKind, srlgs, valueOf}
-use Rattle.linkstate.specs.Sides.{Side, names, named, namedWithL, ofLive, applicationSet, rsvpTeKind}
+use Rattle.linkstate.specs.Sides.{Side, names, named, namedWithL, ofLive, applicationSet, hasLegacy, rsvpTeKind}
 use Rattle.linkstate.specs.Masks.{user}
 use Rattle.linkstate.specs.Kinds.{isLinkCode}
 use Rattle.linkstate.specs.Questions.{Subject, generally, standardNo, userNo}
 use Rattle.linkstate.proofs.ListLaws.{and-l, and-r}
 use Rattle.isis.proofs.Computing.{computing}
 use Rattle.octets.proofs.Laws.{put-nil}
-use Rattle.srlg.proofs.Laws.{length-words, length-bytesOfWords}
+use Rattle.srlg.proofs.Laws.{length-words}
 use Rattle.isis.specs.RunB.{sideB}
 use Rattle.rules.specs.declared.Rule.{Rule}
 use Rattle.rules.specs.declared.Rule.the-variants.{NamingFirst}
 use Rattle.rules.specs.Rules.{applicationRule, rsvpTeRule, bandwidthRule, subjectRule, ruleOn, takenBy, setOn, givenOn}
+use Rattle.isis_check.proofs.Legacy.{some-numbers}
 use Rattle.isis_tlvs_238.specs.declared.Which.the-variants as W
 use Rattle.isis_tlvs_238.specs.Selected.{selects, srlgWords}
 use Rattle.isis_tlvs_238.proofs.Tlvs.{words-one}
@@ -50,26 +51,6 @@ module _ (b c before after : List ℕ) (r : ℕ) (us : List Attribute) (same : u
 
 -- ---- those that name RSVP-TE, else legacy
 
-insert-some : (n : ℕ) (l : List ℕ) → 0 < length (insert n l)
-unfolding insert
-insert-some n [] = omega arith
-insert-some n (m ∷ l) = go (ltb n m) (ltb m n)
-  where
-    go : (a b : Bool) → 0 < length (cond a (n ∷ m ∷ l) (cond b (m ∷ insert n l) (m ∷ l)))
-    go true b = omega arith
-    go false true = omega arith
-    go false false = omega arith
-
-distinct-some : (ns : List ℕ) → 0 < length ns → 0 < length (distinct ns)
-unfolding distinct
-distinct-some [] h = h
-distinct-some (n ∷ ns) h = insert-some n (distinct ns)
-
-some-there : (l : List ℕ) → 0 < length l → empty l ≡ false
-unfolding empty
-some-there [] h = absurd (omega arith)
-some-there (x ∷ l) h = refl
-
 no-words : (l : List ℕ) → length l ≤ 0 → l ≡ []
 no-words [] h = refl
 no-words (x ∷ l) h = absurd (omega arith)
@@ -78,9 +59,7 @@ no-words (x ∷ l) h = absurd (omega arith)
 module _ (ts : List Attribute) where
   carries : 0 < length (srlgWords ts) → empty (valueOf 1096 ts) ≡ false
   unfolding valueOf srlgs srlgWords
-  carries h =
-      let ws = each (λ t. words (t .value)) (ofKind 1096 ts) in
-      some-there (bytesOfWords (distinct ws)) (omega (arith, length-bytesOfWords (distinct ws), distinct-some ws h))
+  carries h = some-numbers (each (λ t. words (t .value)) (ofKind 1096 ts)) h
 
   carries-none : srlgWords ts ≡ [] → empty (valueOf 1096 ts) ≡ true
   unfolding valueOf srlgs srlgWords distinct bytesOfWords each empty
@@ -117,19 +96,20 @@ of-application n true y = tt
 of-application n false true = tt
 of-application n false false = tt
 
-of-rsvp-te : (l y : Bool) → OnSideB (rsvpTeRule l y)
+of-rsvp-te : (l y x : Bool) → OnSideB (rsvpTeRule l y x)
 unfolding rsvpTeRule
-of-rsvp-te true y = tt
-of-rsvp-te false true = tt
-of-rsvp-te false false = tt
+of-rsvp-te true y x = tt
+of-rsvp-te false true x = tt
+of-rsvp-te false false true = tt
+of-rsvp-te false false false = tt
 
 of-subject : (whom : Subject) (s : Side) → OnSideB (subjectRule whom s)
 unfolding subjectRule
 of-subject generally s = tt
 of-subject (standardNo n) s = go (eqb n 0)
   where
-    go : (b : Bool) → OnSideB (cond b (rsvpTeRule (namedWithL 0 s) (named 0 s)) (applicationRule n (namedWithL n s) (named n s)))
-    go true = of-rsvp-te (namedWithL 0 s) (named 0 s)
+    go : (b : Bool) → OnSideB (cond b (rsvpTeRule (namedWithL 0 s) (named 0 s) (hasLegacy s)) (applicationRule n (namedWithL n s) (named n s)))
+    go true = of-rsvp-te (namedWithL 0 s) (named 0 s) (hasLegacy s)
     go false = of-application n (namedWithL n s) (named n s)
 of-subject (userNo n) s = of-application (user n) (namedWithL (user n) s) (named (user n) s)
 

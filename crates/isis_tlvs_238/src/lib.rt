@@ -17,7 +17,7 @@ ghost use mathlib.Core.List.{List, []};
 ghost use Rattle.linkstate.specs.Lists.{put};
 ghost use Rattle.linkstate.specs.Replies.{accepted, runB};
 ghost use Rattle.linkstate.specs.Elements.{element, elements, faults};
-ghost use Rattle.linkstate.specs.Sides.{ofLive};
+ghost use Rattle.linkstate.specs.Sides.{ofLive, hasLegacy};
 ghost use Rattle.isis.specs.MaskHeader.{sabmLength, udabmLength, headerLength, advertisement};
 ghost use Rattle.isis_check_a.specs.Headers.{headerOf};
 use isis_check_a::Header;
@@ -90,12 +90,19 @@ fn sort_front(out: &mut [u32], k: usize) -> usize
     sort_many(out, k)
 }
 
-// The SRLGs of a subject, ascending, at the front of the list, by whom side B names; how many there are. What stands behind them is of no meaning.
-pub fn srlgs_of(b: &[u8], c: &[u8], whom: Subject, m: Names, out: &mut [u32]) -> usize
-    requires { ⌜ Passed (now b) (now c) × (length (now b) / 4 ≤ length (now out)) × (length (now c) / 4 ≤ length (now out)) × (numberTooHigh (subjectOf whom) ≡ false) × Tells ((sideB (now b) (now c)) .live) m ⌝ }
+// The SRLGs of a subject, ascending, at the front of the list, by whom side B names and whether run C has a value; how many there are. What stands behind them is of no meaning.
+pub fn srlgs_of(
+    b: &[u8],
+    c: &[u8],
+    whom: Subject,
+    m: Names,
+    legacy: bool,
+    out: &mut [u32],
+) -> usize
+    requires { ⌜ Passed (now b) (now c) × (length (now b) / 4 ≤ length (now out)) × (length (now c) / 4 ≤ length (now out)) × (numberTooHigh (subjectOf whom) ≡ false) × Tells ((sideB (now b) (now c)) .live) m × (legacy ≡ hasLegacy (sideB (now b) (now c))) ⌝ }
     ensures { λ r. ⌜ (take r (now (out .exit)) ≡ srlgs (givenOn (subjectOf whom) 1096 (sideB (now (b .entry)) (now (c .entry))))) × (r ≤ 512) × (r ≤ length (now (out .entry))) ⌝ }
 {
-    let rule = rules::decide(whom, 1096, m);
+    let rule = rules::decide(whom, 1096, m, legacy);
     let k = words_by(b, c, rule, out);
     sort_front(out, k)
 }

@@ -81,7 +81,7 @@ application-taken k n s = go (namedWithL n s) (named n s)
     go false true = refl
     go false false = refl
 
-never : (s : Side) → namedWithL 0 s ≡ true → named 0 s ≡ false → ⊥
+pub never : (s : Side) → namedWithL 0 s ≡ true → named 0 s ≡ false → ⊥
 unfolding namedWithL named
 never s e f = let g = named-by-l 0 (s .live) e in let z : _≡_ {A = ℕ} 0 1 = cc in omega arith
 

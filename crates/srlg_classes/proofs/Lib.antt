@@ -1,5 +1,6 @@
 mod Gives
 mod Assigns
 mod Numbers
+mod Rsvp
 pub mod Siding
 pub mod Carrying

@@ -12,14 +12,16 @@ use Rattle.linkstate.specs.Lists.{any, keep, each, empty}
 use Rattle.linkstate.specs.Masks.{inNumber}
 use Rattle.linkstate.specs.Bytes.{distinct, words, bytesOfWords, four}
 use Rattle.linkstate.specs.Attributes.{Attribute, ofKind, srlgs, valueOf}
-use Rattle.linkstate.specs.Sides.{Side, names, named, namedWithL, ofLive, generalSet, applicationSet, rsvpTeKind}
+use Rattle.linkstate.specs.Sides.{Side, names, named, namedWithL, ofLive, generalSet, applicationSet, hasLegacy, takesGeneral, rsvpTeKind}
 use Rattle.linkstate.proofs.ListLaws.{any-keep, empty-nil}
 use Rattle.masks.specs.Sets.{turnedPlace}
 use Rattle.rules.specs.declared.Names.{Names}
 use Rattle.rules.specs.Names as naming
 use Rattle.rules.specs.Names.{Tells}
 use Rattle.masks.specs.Applications.{inBoth}
+use Rattle.rules.specs.Rules.{rsvpTeRule}
 use Rattle.rules.proofs.NameLaws.{side-named, side-flagged}
+use Rattle.rules.proofs.Laws.{never}
 use Rattle.srlg_ranks.specs.Ranks.{keepFrom, inWords, picked}
 use Rattle.srlg_sources.specs.Classes.{classNumbers, Classed, classOf}
 use Rattle.srlg_table.proofs.Sizes.{low-bit, high-bit}
@@ -27,7 +29,7 @@ use Rattle.srlg_table.specs.Tables.{Table}
 use Rattle.srlg_table.proofs.Tabling.{none-row}
 use Rattle.srlg_classes.specs.declared.First.{First}
 use Rattle.srlg_classes.specs.declared.Classes.{Classes}
-use Rattle.srlg_classes.specs.Owned.{classAt, Slots, Gave, without, plain, inNamed, HasBits, Firsts, NamedOwn, FirstOwn, rsvpClass}
+use Rattle.srlg_classes.specs.Owned.{classAt, Slots, Gave, without, plain, inNamed, HasBits, Firsts, NamedOwn, FirstOwn, classBy, rsvpClass}
 use Rattle.srlg_classes.specs.Sided.{Sourced, Has, Classified}
 use Rattle.srlg_classes.proofs.Numbers.{has-numbers, classed, classed-none, has-none}
 
@@ -126,19 +128,35 @@ module _ (values : List ℕ) (rows : List (List ℕ)) (n words : ℕ) (side : Si
     general-class c has = has-numbers rows words classes count c (inWords (getD rows 1 [])) values (srlgs (generalSet side)) short has (so .general)
 
     -- What RSVP-TE gets.
-    pub rsvp-legacy : (c : ℕ) → HasBits rows words classes count c (inWords (getD rows 0 [])) → (L 0 ≡ true) ⊎ (srlgs (ofLive (names 0) side) ≡ []) → Of c (rsvpTeKind 1096 side)
+    pub rsvp-legacy : (c : ℕ) → HasBits rows words classes count c (inWords (getD rows 0 [])) → takesGeneral side ≡ false → (L 0 ≡ true) ⊎ (srlgs (ofLive (names 0) side) ≡ []) → Of c (rsvpTeKind 1096 side)
     unfolding rsvpTeKind picked
-    rsvp-legacy c has (inl e) =
+    rsvp-legacy c has t (inl e) =
         let z : namedWithL 0 side ≡ true = sym (is-flagged 0 (omega arith)) ∙ e in
-        rw z (has-numbers rows words classes count c (inWords (getD rows 0 [])) values (srlgs (side .legacy)) short has (so .byL 0 z))
-    rsvp-legacy c has (inr e) =
-        rw (no-words (ofLive (names 0) side) e, or-true (namedWithL 0 side)) (has-numbers rows words classes count c (inWords (getD rows 0 [])) values (srlgs (side .legacy)) short has (so .bare e))
+        rw (t, z) (has-numbers rows words classes count c (inWords (getD rows 0 [])) values (srlgs (side .legacy)) short has (so .byL 0 z))
+    rsvp-legacy c has t (inr e) =
+        rw (t, no-words (ofLive (names 0) side) e, or-true (namedWithL 0 side)) (has-numbers rows words classes count c (inWords (getD rows 0 [])) values (srlgs (side .legacy)) short has (so .bare e))
 
-    pub rsvp-own : (c : ℕ) → HasBits rows words classes count c (inNamed rows n (turnedPlace 0)) → L 0 ≡ false → (srlgs (ofLive (names 0) side) ≡ [] → ⊥) → Of c (rsvpTeKind 1096 side)
+    pub rsvp-own : (c : ℕ) → HasBits rows words classes count c (inNamed rows n (turnedPlace 0)) → takesGeneral side ≡ false → L 0 ≡ false → (srlgs (ofLive (names 0) side) ≡ [] → ⊥) → Of c (rsvpTeKind 1096 side)
     unfolding rsvpTeKind
-    rsvp-own c has e some =
+    rsvp-own c has t e some =
         let z : namedWithL 0 side ≡ false = sym (is-flagged 0 (omega arith)) ∙ e in
-        rw (z, some-words (ofLive (names 0) side) some) (has-numbers rows words classes count c (inNamed rows n (turnedPlace 0)) values (srlgs (ofLive (names 0) side)) short has (so .naming 0 (omega arith)))
+        rw (t, z, some-words (ofLive (names 0) side) some) (has-numbers rows words classes count c (inNamed rows n (turnedPlace 0)) values (srlgs (ofLive (names 0) side)) short has (so .naming 0 (omega arith)))
+
+    pub rsvp-general : (c : ℕ) → HasBits rows words classes count c (inWords (getD rows 1 [])) → takesGeneral side ≡ true → Of c (rsvpTeKind 1096 side)
+    unfolding rsvpTeKind
+    rsvp-general c has t = rw t (general-class c has)
+
+    -- Whether it takes the general ones, by whether it is named and whether legacy has a value.
+    pub takes-by : (p x : Bool) → P 0 ≡ p → hasLegacy side ≡ x → takesGeneral side ≡ not (p || x)
+    unfolding takesGeneral
+    takes-by p x f h = ap₂ (λ (y z : Bool). not (y || z)) (sym (is-named 0 (omega arith)) ∙ f) h
+
+    pub flagged-named : L 0 ≡ true → P 0 ≡ true
+    flagged-named e = go (P 0) refl
+      where
+        go : (b : Bool) → P 0 ≡ b → b ≡ true
+        go true f = refl
+        go false f = absurd (never side (sym (is-flagged 0 (omega arith)) ∙ e) (sym (is-named 0 (omega arith)) ∙ f))
 
 -- ---- the classes, put together
 
@@ -168,9 +186,13 @@ by-name a side l o g = go (namedWithL a side) refl (named a side)
     go false e true = o
     go false e false = g
 
-rsvp-bare : (side : Side) → srlgs (ofLive (names 0) side) ≡ [] → srlgs (side .legacy) ≡ srlgs (rsvpTeKind 1096 side)
+rsvp-bare : (side : Side) → srlgs (ofLive (names 0) side) ≡ [] → [] ≡ srlgs (side .legacy) → [] ≡ srlgs (generalSet side) → [] ≡ srlgs (rsvpTeKind 1096 side)
 unfolding rsvpTeKind
-rsvp-bare side e = rw (no-words (ofLive (names 0) side) e, or-true (namedWithL 0 side))
+rsvp-bare side e l g = rw (no-words (ofLive (names 0) side) e, or-true (namedWithL 0 side)) (go (takesGeneral side))
+  where
+    go : (t : Bool) → [] ≡ srlgs (cond t (generalSet side) (side .legacy))
+    go true = g
+    go false = l
 
 seven : turnedPlace 0 ≡ 7
 unfolding turnedPlace
@@ -181,11 +203,14 @@ module _ (rows : List (List ℕ)) (n words standard user : ℕ) (names-of : Name
   stays : (c : ℕ) (p : ℕ → Bool) → HasBits rows words c₁ (first .count) c p → HasBits rows words c₂ count c p
   stays c p so = record { low = omega (arith, so .low, own .more); bits = rw (own .kept c (so .low)) (so .bits) }
 
+  general-bits : HasBits rows words c₂ count (first .general) (inWords (getD rows 1 []))
+  general-bits = stays (first .general) (inWords (getD rows 1 [])) (firsts .general)
+
   legacy-bits : HasBits rows words c₂ count (first .legacy) (inWords (getD rows 0 []))
   legacy-bits = stays (first .legacy) (inWords (getD rows 0 [])) (firsts .legacy)
 
-  module _ (values : List ℕ) (side : Side) (so : Sourced values rows n side) (tells : Tells (side .live) names-of) (short : length values ≤ 64 * words) (few : words ≤ 16) (in-rows : n ≤ length rows)
-      (r : Classes) (is-general : r .general ≡ first .general) (is-rsvp : r .rsvp ≡ rsvpClass names-of own₂ (first .legacy)) (is-count : r .count ≡ count) where
+  module _ (values : List ℕ) (side : Side) (so : Sourced values rows n side) (tells : Tells (side .live) names-of) (x : Bool) (old : x ≡ hasLegacy side) (short : length values ≤ 64 * words) (few : words ≤ 16) (in-rows : n ≤ length rows)
+      (r : Classes) (is-general : r .general ≡ first .general) (is-rsvp : r .rsvp ≡ rsvpClass names-of x own₂ first) (is-count : r .count ≡ count) where
     abbrev LL : ℕ → Bool
     LL a = inWords (names-of .lstandard ∷ names-of .luser ∷ []) (turnedPlace a)
 
@@ -223,15 +248,23 @@ module _ (rows : List (List ℕ)) (n words standard user : ℕ) (names-of : Name
         general e f =
             bits (first .general) (inWords (getD rows 1 []))
             (not-plain false false e f refl ∙ given .others at low e (nobody standard user (names-of .standard) (names-of .user) at (sym (both-words standard user a h) ∙ asked) f))
-            (stays (first .general) (inWords (getD rows 1 [])) (firsts .general))
+            general-bits
 
-    rsvp : (l p : Bool) → LL 0 ≡ l → PP 0 ≡ p → (z : Bool) → eqb (classAt own₂ 7) 0 ≡ z
-        → Has values rows c₂ count (cond l (first .legacy) (cond p (cond z (first .legacy) (classAt own₂ 7)) (first .legacy))) (srlgs (rsvpTeKind 1096 side))
-    rsvp true p e f z g = rsvp-legacy values rows n words side names-of so tells short c₂ count (first .legacy) legacy-bits (inl e)
-    rsvp false false e f z g =
+    -- whether RSVP-TE takes the general ones
+    takes : (p y : Bool) → PP 0 ≡ p → x ≡ y → takesGeneral side ≡ not (p || y)
+    takes p y f g = takes-by values rows n words side names-of so tells short c₂ count p y f (sym old ∙ g)
+
+    rsvp : (l p y : Bool) → LL 0 ≡ l → PP 0 ≡ p → x ≡ y
+        → Has values rows c₂ count (classBy (rsvpTeRule l p y) (classAt own₂ 7) first) (srlgs (rsvpTeKind 1096 side))
+    unfolding rsvpTeRule
+    rsvp true p y e f g =
         rsvp-legacy values rows n words side names-of so tells short c₂ count (first .legacy) legacy-bits
+        (takes true y (flagged-named values rows n words side names-of so tells short c₂ count e) g) (inl e)
+    rsvp false false true e f g =
+        rsvp-legacy values rows n words side names-of so tells short c₂ count (first .legacy) legacy-bits (takes false true f g)
         (inr (not-named 0 side (sym (is-named values rows n words side names-of so tells short 0 (omega arith)) ∙ f)))
-    rsvp false true e f z g = named-one z g
+    rsvp false false false e f g = rsvp-general values rows n words side names-of so tells short c₂ count (first .general) general-bits (takes false false f g)
+    rsvp false true y e f g = named-one (eqb (classAt own₂ 7) 0) refl
       where
         has : HasBits rows words c₂ count (classAt own₂ 7) (inNamed rows n (turnedPlace 0))
         has =
@@ -242,13 +275,13 @@ module _ (rows : List (List ℕ)) (n words standard user : ℕ) (names-of : Name
         own-numbers = has-numbers rows words c₂ count (classAt own₂ 7) (inNamed rows n (turnedPlace 0)) values (srlgs (ofLive (names 0) side)) short has (so .naming 0 (omega arith))
 
         named-one : (z : Bool) → eqb (classAt own₂ 7) 0 ≡ z → Has values rows c₂ count (cond z (first .legacy) (classAt own₂ 7)) (srlgs (rsvpTeKind 1096 side))
-        named-one true g =
-            let q = eqb-true (classAt own₂ 7) 0 g in
-            rsvp-legacy values rows n words side names-of so tells short c₂ count (first .legacy) legacy-bits
+        named-one true h =
+            let q = eqb-true (classAt own₂ 7) 0 h in
+            rsvp-legacy values rows n words side names-of so tells short c₂ count (first .legacy) legacy-bits (takes true y f g)
             (inr (sym (own-numbers .numbers) ∙ ap (λ (c : ℕ). classNumbers values rows (getD c₂ c [])) q ∙ table .none .1))
-        named-one false g =
-            rsvp-own values rows n words side names-of so tells short c₂ count (classAt own₂ 7) has e
-            (λ z. eqb-false (classAt own₂ 7) 0 g (table .different (classAt own₂ 7) 0 (own-numbers .low) (table .none .0) (own-numbers .numbers ∙ z ∙ sym (table .none .1))))
+        named-one false h =
+            rsvp-own values rows n words side names-of so tells short c₂ count (classAt own₂ 7) has (takes true y f g) e
+            (λ z. eqb-false (classAt own₂ 7) 0 h (table .different (classAt own₂ 7) 0 (own-numbers .low) (table .none .0) (own-numbers .numbers ∙ z ∙ sym (table .none .1))))
 
     pub settled : Classified values rows c₂ own₂ (inBoth standard user) side r
     unfolding rsvpClass
@@ -257,8 +290,8 @@ module _ (rows : List (List ℕ)) (n words standard user : ℕ) (names-of : Name
         record {
           table = table;
           application = λ a p h asked. application a h asked;
-          general = rw is-general (general-class values rows n words side names-of so tells short c₂ count (first .general) (stays (first .general) (inWords (getD rows 1 [])) (firsts .general)));
-          rsvp = rw (is-rsvp, seven-bit (names-of .lstandard) (names-of .luser), seven-bit (names-of .standard) (names-of .user)) (rsvp (LL 0) (PP 0) refl refl (eqb (classAt own₂ 7) 0) refl);
+          general = rw is-general (general-class values rows n words side names-of so tells short c₂ count (first .general) general-bits);
+          rsvp = rw (is-rsvp, seven-bit (names-of .lstandard) (names-of .luser), seven-bit (names-of .standard) (names-of .user)) (rsvp (LL 0) (PP 0) x refl refl refl);
         }
 
 -- ---- without numbers
@@ -285,4 +318,6 @@ settled-none rows classes own n standard user names-of r values side short room 
     applied a h = by-name a side (λ e. sym (nothing (inWords (getD rows 0 []))) ∙ so .byL a e) (no-own a h) (sym (nothing (inWords (getD rows 1 []))) ∙ so .general)
 
     reserved : [] ≡ srlgs (rsvpTeKind 1096 side)
-    reserved = sym (nothing (inWords (getD rows 0 []))) ∙ so .bare (sym (no-own 0 (omega arith))) ∙ rsvp-bare side (sym (no-own 0 (omega arith)))
+    reserved =
+        rsvp-bare side (sym (no-own 0 (omega arith))) (sym (nothing (inWords (getD rows 0 []))) ∙ so .bare (sym (no-own 0 (omega arith))))
+        (sym (nothing (inWords (getD rows 1 []))) ∙ so .general)

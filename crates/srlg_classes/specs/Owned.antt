@@ -9,6 +9,9 @@ use Rattle.linkstate.specs.Limits.{mostSources}
 use Rattle.linkstate.specs.Lists.{numbers, any}
 use Rattle.linkstate.specs.Masks.{inNumber}
 use Rattle.rules.specs.declared.Names.{Names}
+use Rattle.rules.specs.declared.Rule.{Rule}
+use Rattle.rules.specs.declared.Rule.the-variants.{ByL, Naming, General, Legacy, NamingFirst, AloneFirst, LegacyFirst}
+use Rattle.rules.specs.Rules.{rsvpTeRule}
 use Rattle.srlg_ranks.specs.Ranks.{inWords}
 use Rattle.srlg_sources.specs.Classes.{inClass}
 use Rattle.srlg_table.specs.Blocks.{sizeOf, naming, inBlock}
@@ -85,10 +88,19 @@ pub record FirstOwn (standard user : ℕ) (named : Names) (first : First) (own a
   pub flagged : (a : ℕ) → a < 128 → inWords (named .lstandard ∷ named .luser ∷ []) a ≡ true → classAt after a ≡ first .legacy
   pub others : (a : ℕ) → a < 128 → inWords (named .lstandard ∷ named .luser ∷ []) a ≡ false → without standard user (named .standard) (named .user) a ≡ true → classAt after a ≡ first .general
 
--- The class of RSVP-TE, whose bit is the eighth of a standard mask as sent.
-unfoldable pub rsvpClass : Names → List (List ℕ) → ℕ → ℕ
-rsvpClass named own legacy =
-    cond (inNumber (named .lstandard) 7) legacy (cond (inNumber (named .standard) 7) (cond (eqb (classAt own 7) 0) legacy (classAt own 7)) legacy)
+-- W8, W9, W10, E2a. The class of RSVP-TE, by its rule and the class of its own numbers: class 0 has none.
+abbrev pub classBy : Rule → ℕ → First → ℕ
+classBy ByL c first = first .legacy
+classBy (Naming n) c first = first .legacy
+classBy General c first = first .general
+classBy Legacy c first = first .legacy
+classBy NamingFirst c first = cond (eqb c 0) (first .legacy) c
+classBy AloneFirst c first = first .legacy
+classBy LegacyFirst c first = first .legacy
+
+-- By four masks, and by whether legacy has a value. RSVP-TE's bit is the eighth of a standard mask as sent.
+unfoldable pub rsvpClass : Names → Bool → List (List ℕ) → First → ℕ
+rsvpClass named x own first = classBy (rsvpTeRule (inNumber (named .lstandard) 7) (inNumber (named .standard) 7) x) (classAt own 7) first
 
 -- What the tables must have room for: three classes, and one for each application that is named.
 pub record Roomy (rows : List (List ℕ)) (used : Used) (named : Names) (classes own : List (List ℕ)) : Type 0 where

@@ -47,7 +47,7 @@ pub record Has (values : List ℕ) (rows classes : List (List ℕ)) (n c : ℕ) 
   pub low : c < n
   pub numbers : classNumbers values rows (getD classes c []) ≡ xs
 
--- W2, W3, W4, W8 to W10. The classes of a side's subjects: of the applications that pass a test, RSVP-TE aside, of the general set, and of RSVP-TE.
+-- W2, W3, W4, W8 to W10, E2a. The classes of a side's subjects: of the applications that pass a test, RSVP-TE aside, of the general set, and of RSVP-TE.
 pub record Classified (values : List ℕ) (rows classes own : List (List ℕ)) (asked : ℕ → Bool) (side : Side) (r : Classes) : Type 0 where
   pub table : Classed values rows classes (r .count)
   pub application : (a : ℕ) → 0 < a → a < 128 → asked a ≡ true → Has values rows classes (r .count) (classOf own a) (srlgs (applicationSet a side))

@@ -5,7 +5,7 @@ ghost use mathlib.Core.Bool.{true, false};
 ghost use mathlib.Core.List.{List, [], _∷_};
 ghost use Prim.Native.Nat.{ℕ, _+_, _*_, _≤_, _<_};
 ghost use lib.ListN.{length, getD};
-ghost use Rattle.linkstate.specs.Sides.{Side};
+ghost use Rattle.linkstate.specs.Sides.{Side, hasLegacy};
 ghost use Rattle.rules.specs.Names.{Tells};
 ghost use Rattle.masks.specs.Applications.{inBoth};
 ghost use Rattle.srlg_ranks.specs.Ranks.{inWords};
@@ -14,6 +14,7 @@ ghost use Rattle.srlg_table.specs.Tables.{Rowed, Table};
 ghost use Rattle.srlg_classes.specs.Owned.{classAt, Slots, inHalf, Gave, Firsts, Assigned, NamedOwn, rsvpClass, FirstOwn, Roomy};
 ghost use Rattle.srlg_classes.specs.Sided.{Sourced, Classified};
 use rules::Names;
+use rules::Rule;
 use srlg_table::Used;
 
 // The classes of the general set and of RSVP-TE, and how many classes there are.
@@ -136,21 +137,24 @@ fn wide(c: u8) -> usize
     c as usize
 }
 
-// The class of RSVP-TE: of its own numbers, where it is named without L and has some, else of the legacy ones. It is bit 7 of a standard mask as sent.
-fn rsvp_class(named: Names, own: &[[u8; 2]; 128], legacy: usize) -> usize
-    ensures { λ r. ⌜ r ≡ rsvpClass named (now (own .entry)) legacy ⌝ }
+// The class of RSVP-TE by its rule: of its own numbers, where it is named without L and has some, of the general ones, else of the legacy ones. It is bit 7 of a
+// standard mask as sent.
+fn rsvp_class(named: Names, legacy: bool, own: &[[u8; 2]; 128], first: First) -> usize
+    ensures { λ r. ⌜ r ≡ rsvpClass named legacy (now (own .entry)) first ⌝ }
 {
-    if masks::has(named.lstandard, 7) {
-        return legacy;
+    let l = masks::has(named.lstandard, 7);
+    let n = masks::has(named.standard, 7);
+    match rules::rsvp_te_rule(l, n, legacy) {
+        Rule::NamingFirst => {
+            let c = wide(own[7][1]);
+            if c == 0 {
+                return first.legacy;
+            }
+            return c;
+        }
+        Rule::General => return first.general,
+        _ => return first.legacy,
     }
-    if !masks::has(named.standard, 7) {
-        return legacy;
-    }
-    let c = wide(own[7][1]);
-    if c == 0 {
-        return legacy;
-    }
-    c
 }
 
 // The applications that nothing names get the general numbers, and those that are named with L the legacy ones.
@@ -171,13 +175,14 @@ fn classify_in(
     standard: u64,
     user: u64,
     named: Names,
+    legacy: bool,
     classes: &mut [[u64; 4]],
     own: &mut [[u8; 2]; 128],
     heads: &mut [[u32; 2]],
     blocks: &mut [[u64; 4]],
 ) -> Classes
     requires { ⌜ Roomy (now rows) used named (now classes) (now own) × (3 + sizeOf (inWords (named .standard ∷ named .user ∷ [])) ≤ length (now heads)) × (sizeOf (inWords (named .standard ∷ named .user ∷ [])) ≤ length (now blocks)) ⌝ }
-    ensures { λ r. ⌜ Slots (now (own .entry)) (now (own .exit)) × ((values : List ℕ) (side : Side) → length values ≤ 64 * used .words → Sourced values (now (rows .entry)) (used .sources) side → Tells (side .live) named → Classified values (now (rows .entry)) (now (classes .exit)) (now (own .exit)) (inBoth standard user) side r) ⌝ }
+    ensures { λ r. ⌜ Slots (now (own .entry)) (now (own .exit)) × ((values : List ℕ) (side : Side) → length values ≤ 64 * used .words → Sourced values (now (rows .entry)) (used .sources) side → Tells (side .live) named → legacy ≡ hasLegacy side → Classified values (now (rows .entry)) (now (classes .exit)) (now (own .exit)) (inBoth standard user) side r) ⌝ }
 {
     let mut buckets = [0u8; 128];
     let first = first_classes(rows, used, classes, heads, &mut buckets);
@@ -195,7 +200,7 @@ fn classify_in(
     );
     Classes {
         general: first.general,
-        rsvp: rsvp_class(named, own, first.legacy),
+        rsvp: rsvp_class(named, legacy, own, first),
         count,
     }
 }
@@ -207,11 +212,12 @@ fn classify_few(
     standard: u64,
     user: u64,
     named: Names,
+    legacy: bool,
     classes: &mut [[u64; 4]],
     own: &mut [[u8; 2]; 128],
 ) -> Classes
     requires { ⌜ Roomy (now rows) used named (now classes) (now own) × (length (now classes) ≤ 16) ⌝ }
-    ensures { λ r. ⌜ Slots (now (own .entry)) (now (own .exit)) × ((values : List ℕ) (side : Side) → length values ≤ 64 * used .words → Sourced values (now (rows .entry)) (used .sources) side → Tells (side .live) named → Classified values (now (rows .entry)) (now (classes .exit)) (now (own .exit)) (inBoth standard user) side r) ⌝ }
+    ensures { λ r. ⌜ Slots (now (own .entry)) (now (own .exit)) × ((values : List ℕ) (side : Side) → length values ≤ 64 * used .words → Sourced values (now (rows .entry)) (used .sources) side → Tells (side .live) named → legacy ≡ hasLegacy side → Classified values (now (rows .entry)) (now (classes .exit)) (now (own .exit)) (inBoth standard user) side r) ⌝ }
 {
     let mut heads = [[0u32; 2]; 16];
     let mut blocks = [[0u64; 4]; 16];
@@ -221,6 +227,7 @@ fn classify_few(
         standard,
         user,
         named,
+        legacy,
         classes,
         own,
         &mut heads,
@@ -234,11 +241,12 @@ fn classify_many(
     standard: u64,
     user: u64,
     named: Names,
+    legacy: bool,
     classes: &mut [[u64; 4]],
     own: &mut [[u8; 2]; 128],
 ) -> Classes
     requires { ⌜ Roomy (now rows) used named (now classes) (now own) ⌝ }
-    ensures { λ r. ⌜ Slots (now (own .entry)) (now (own .exit)) × ((values : List ℕ) (side : Side) → length values ≤ 64 * used .words → Sourced values (now (rows .entry)) (used .sources) side → Tells (side .live) named → Classified values (now (rows .entry)) (now (classes .exit)) (now (own .exit)) (inBoth standard user) side r) ⌝ }
+    ensures { λ r. ⌜ Slots (now (own .entry)) (now (own .exit)) × ((values : List ℕ) (side : Side) → length values ≤ 64 * used .words → Sourced values (now (rows .entry)) (used .sources) side → Tells (side .live) named → legacy ≡ hasLegacy side → Classified values (now (rows .entry)) (now (classes .exit)) (now (own .exit)) (inBoth standard user) side r) ⌝ }
 {
     let mut heads = [[1u32; 2]; 131];
     let mut blocks = [[1u64; 4]; 128];
@@ -248,6 +256,7 @@ fn classify_many(
         standard,
         user,
         named,
+        legacy,
         classes,
         own,
         &mut heads,
@@ -255,7 +264,8 @@ fn classify_many(
     )
 }
 
-// The classes of what subjects get: of the applications of two masks, which are all that are asked for, of the general set and of RSVP-TE. `named` is whom this side names.
+// The classes of what subjects get: of the applications of two masks, which are all that are asked for, of the general set and of RSVP-TE. `named` is whom this side names,
+// `legacy` whether its legacy attributes have a value of the kinds of applications.
 // Where no word of bits is used nobody has a number, and all applications keep class 0.
 pub fn classify(
     rows: &[[u64; 18]],
@@ -263,11 +273,12 @@ pub fn classify(
     standard: u64,
     user: u64,
     named: Names,
+    legacy: bool,
     classes: &mut [[u64; 4]],
     own: &mut [[u8; 2]; 128],
 ) -> Classes
     requires { ⌜ (0 < used .words → Roomy (now rows) used named (now classes) (now own)) × (used .words ≡ 0 → (0 < length (now classes)) × (length (now own) ≡ 128) × ((a : ℕ) → a < 128 → classAt (now own) a ≡ 0)) ⌝ }
-    ensures { λ r. ⌜ Slots (now (own .entry)) (now (own .exit)) × ((values : List ℕ) (side : Side) → length values ≤ 64 * used .words → Sourced values (now (rows .entry)) (used .sources) side → Tells (side .live) named → Classified values (now (rows .entry)) (now (classes .exit)) (now (own .exit)) (inBoth standard user) side r) ⌝ }
+    ensures { λ r. ⌜ Slots (now (own .entry)) (now (own .exit)) × ((values : List ℕ) (side : Side) → length values ≤ 64 * used .words → Sourced values (now (rows .entry)) (used .sources) side → Tells (side .live) named → legacy ≡ hasLegacy side → Classified values (now (rows .entry)) (now (classes .exit)) (now (own .exit)) (inBoth standard user) side r) ⌝ }
 {
     if used.words == 0 {
         let none = [0u64; 4];
@@ -279,7 +290,7 @@ pub fn classify(
         };
     }
     if classes.len() <= 16 {
-        return classify_few(rows, used, standard, user, named, classes, own);
+        return classify_few(rows, used, standard, user, named, legacy, classes, own);
     }
-    classify_many(rows, used, standard, user, named, classes, own)
+    classify_many(rows, used, standard, user, named, legacy, classes, own)
 }

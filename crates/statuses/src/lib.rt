@@ -47,11 +47,11 @@ fn standing_words(s: &[u8], run: Run, code: usize, place: usize, len: usize) -> 
 }
 
 // What the value that a question to a link asks for reads as, by whom side A names.
-fn words_in_a(a: &[u8], whom: Subject, code: usize, m: Names) -> Words
-    requires { ⌜ AskedInA (now a) (subjectOf whom) code m ⌝ }
+fn words_in_a(a: &[u8], whom: Subject, code: usize, m: Names, legacy: bool) -> Words
+    requires { ⌜ AskedInA (now a) (subjectOf whom) code m legacy ⌝ }
     ensures { λ r. ⌜ ((b c list : List ℕ) → beforeAnswer (linkSource (now (a .entry)) b c) (subjectOf whom) code ≡ accepted → Answers (linkSource (now (a .entry)) b c) (subjectOf whom) code list (words r) list) ⌝ }
 {
-    let row = isis_link::find_row(a, whom, code, m);
+    let row = isis_link::find_row(a, whom, code, m, legacy);
     let at = row[0];
     let size = row[1];
     if at == 0 {
@@ -69,7 +69,7 @@ fn ask_link_value(a: &[u8], b: &[u8], c: &[u8], whom: Subject, code: usize) -> W
         LinkChecked::Refused(x) => return refusal_words(x),
         LinkChecked::Accepted(names) => {
             let m = names.a;
-            return words_in_a(a, whom, code, m);
+            return words_in_a(a, whom, code, m, names.legacya);
         }
     }
 }
@@ -115,11 +115,11 @@ pub fn ask_run(r: &[u8], whom: Subject, code: usize, list: &mut [u32]) -> Words
 }
 
 // Where the value that a question to a link asks for stands in run A, by whom side A names.
-fn place_in_a(a: &[u8], whom: Subject, code: usize, m: Names) -> Words
-    requires { ⌜ AskedInA (now a) (subjectOf whom) code m ⌝ }
+fn place_in_a(a: &[u8], whom: Subject, code: usize, m: Names, legacy: bool) -> Words
+    requires { ⌜ AskedInA (now a) (subjectOf whom) code m legacy ⌝ }
     ensures { λ r. ⌜ ((b c : List ℕ) → words r ≡ placeWords (place runA) (ofKind code (given (linkSource (now (a .entry)) b c) (subjectOf whom) code))) ⌝ }
 {
-    let row = isis_link::find_row(a, whom, code, m);
+    let row = isis_link::find_row(a, whom, code, m, legacy);
     let place = row[0];
     let len = row[1];
     if place == 0 {
@@ -139,7 +139,7 @@ pub fn value_link(a: &[u8], b: &[u8], c: &[u8], whom: Subject, code: usize) -> W
                 return no_words();
             }
             let m = names.a;
-            return place_in_a(a, whom, code, m);
+            return place_in_a(a, whom, code, m, names.legacya);
         }
     }
 }

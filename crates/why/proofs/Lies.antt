@@ -14,7 +14,7 @@ use Rattle.linkstate.specs.Bytes.{bytesOfWords, four}
 use Rattle.linkstate.specs.Kinds.{isCode}
 use Rattle.linkstate.specs.Elements.{Element, elements}
 use Rattle.linkstate.specs.Attributes.{Attribute, ofKind, srlgs, valueOf}
-use Rattle.linkstate.specs.Sides.{Advertisement, Side, names, namedWithL, ofLive, rsvpTeKind}
+use Rattle.linkstate.specs.Sides.{Advertisement, Side, names, namedWithL, ofLive, generalSet, takesGeneral, rsvpTeKind}
 use Rattle.linkstate.specs.Why.{Holder, heldAt, nowhere, Standing, offsetOf, first, has, holder}
 use Rattle.linkstate.proofs.ListLaws.{keep-mem, each-mem, keep-append, each-append, empty-nil}
 use Rattle.isis.specs.RunA.{sideA}
@@ -133,9 +133,9 @@ same-b ts = go (srlgs ts)
     go (w ∷ ws) = refl
 
 pub rsvp-te-agrees : (a b c : List ℕ) (k : ℕ) → linkVerdict a b c ≡ accepted → isCode k ≡ true
-    → (s : Side) → s ≡ sideOf a b c k → rsvpTeKind k s ≡ cond (namedWithL 0 s || not (has k (ofLive (names 0) s))) (s .legacy) (ofLive (names 0) s)
+    → (s : Side) → s ≡ sideOf a b c k → rsvpTeKind k s ≡ cond (takesGeneral s) (generalSet s) (cond (namedWithL 0 s || not (has k (ofLive (names 0) s))) (s .legacy) (ofLive (names 0) s))
 unfolding rsvpTeKind sideOf selects
-rsvp-te-agrees a b c k ok known s e = ap (λ (x : Bool). cond (namedWithL 0 s || x) (s .legacy) (ofLive (names 0) s)) (go (eqb k 1096) refl)
+rsvp-te-agrees a b c k ok known s e = ap (λ (x : Bool). cond (takesGeneral s) (generalSet s) (cond (namedWithL 0 s || x) (s .legacy) (ofLive (names 0) s))) (go (eqb k 1096) refl)
   where
     go : (x : Bool) → eqb k 1096 ≡ x → empty (valueOf k (ofLive (names 0) s)) ≡ not (has k (ofLive (names 0) s))
     go true i =

@@ -1,6 +1,6 @@
 -- The rules, branch by branch, from what the searches found. Assumes nothing.
 use mathlib.Core.Path.{_≡_, refl, sym, ap, _∙_}
-use mathlib.Core.Bool.{Bool, true, false, cond, not, false≢true}
+use mathlib.Core.Bool.{Bool, true, false, cond, _||_, not, false≢true}
 use mathlib.Core.Logic.{⊎-elim}
 use types.Run.{OneOf}
 use denote.Enum.Declared.{tagOf}
@@ -15,7 +15,7 @@ use Rattle.linkstate.specs.Replies as R
 use Rattle.linkstate.specs.Replies.{accepted, refused, Refusal, unless}
 use Rattle.linkstate.specs.Kinds.{isCode, isLinkCode}
 use Rattle.linkstate.specs.Elements.{elements}
-use Rattle.linkstate.specs.Sides.{Side, general, names, named, namedWithL, ofLive, rsvpTeAlone}
+use Rattle.linkstate.specs.Sides.{Side, general, names, named, namedWithL, ofLive, hasLegacy, takesGeneral, rsvpTeAlone}
 use Rattle.linkstate.specs.BgpLs.{runVerdict, runSide}
 use Rattle.linkstate.specs.Questions.{Source, Subject, generally, standardNo, userNo, beforeAnswer}
 use Rattle.linkstate.specs.Why as W
@@ -40,11 +40,10 @@ use Rattle.advertisements.specs.declared.Test.the-variants as T
 use Rattle.advertisements.specs.Tests.{passing, isOf}
 use Rattle.advertisements.specs.Walks.{firstSuch}
 use Rattle.rules.specs.declared.Names.{Names}
-use Rattle.rules.specs.Names.{Tells}
 use Rattle.rules.specs.declared.Rule.{Rule}
 use Rattle.rules.specs.declared.Rule.the-variants.{ByL, Naming, General, Legacy, NamingFirst, AloneFirst, LegacyFirst}
 use Rattle.rules.specs.Rules.{applicationRule, rsvpTeRule, bandwidthRule, subjectRule, ruleOn}
-use Rattle.rules.proofs.Laws.{none-naming, none-alone}
+use Rattle.rules.proofs.Laws.{none-naming, none-alone, never}
 use Rattle.rules.proofs.Rule.{the-type}
 use Rattle.rivals.proofs.RunLaws.{no-L}
 use Rattle.isis_link.specs.Asked.{AskedInA}
@@ -324,16 +323,19 @@ module _ (k : ℕ) (s : Standing) where
       go false true = refl
       go false false = ap (λ (r : W.Rule). because r (holder s k general)) g
 
-  rsvp-te-why : (whom : Subject) → numberOf whom ≡ 0 → whyBy (rsvpTeRule (namedWithL 0 (s .side)) (named 0 (s .side))) whom k s ≡ rsvpTeWhy k s
-  unfolding whyBy rsvpTeRule rsvpTeWhy namingFirstWhy
-  rsvp-te-why whom z = go (namedWithL 0 (s .side)) (named 0 (s .side)) refl
+  rsvp-te-why : (whom : Subject) → numberOf whom ≡ 0 → generalRule whom ≡ W.unnamed
+      → whyBy (rsvpTeRule (namedWithL 0 (s .side)) (named 0 (s .side)) (hasLegacy (s .side))) whom k s ≡ rsvpTeWhy k s
+  unfolding whyBy rsvpTeRule rsvpTeWhy namingFirstWhy takesGeneral
+  rsvp-te-why whom z g = go (namedWithL 0 (s .side)) refl (named 0 (s .side)) refl (hasLegacy (s .side))
     where
-      go : (x y : Bool) → named 0 (s .side) ≡ y
-          → whyBy (cond x ByL (cond y NamingFirst Legacy)) whom k s
-          ≡ cond x (because W.byL (first s (namesWithL 0))) (cond (has k (ofLive (names 0) (s .side))) (because W.byName (holder s k (names 0))) (legacyWhy s))
-      go true y f = ap (λ (i : ℕ). because W.byL (first s (namesWithL i))) z
-      go false true f = refl
-      go false false f =
+      go : (x : Bool) → namedWithL 0 (s .side) ≡ x → (y : Bool) → named 0 (s .side) ≡ y → (l : Bool)
+          → whyBy (cond x ByL (cond y NamingFirst (cond l Legacy General))) whom k s
+          ≡ cond (not (y || l)) (because W.unnamed (holder s k general)) (cond x (because W.byL (first s (namesWithL 0))) (cond (has k (ofLive (names 0) (s .side))) (because W.byName (holder s k (names 0))) (legacyWhy s)))
+      go true e true f l = ap (λ (i : ℕ). because W.byL (first s (namesWithL i))) z
+      go true e false f l = absurd (never (s .side) e f)
+      go false e true f l = refl
+      go false e false f false = ap (λ (r : W.Rule). because r (holder s k general)) g
+      go false e false f true =
           let n : has k (ofLive (names 0) (s .side)) ≡ false = ap (has k) (none-naming (s .side) f) ∙ none-has k in
           ap (λ (b : Bool). cond b (because W.byName (holder s k (names 0))) (legacyWhy s)) (sym n)
 
@@ -343,8 +345,8 @@ module _ (k : ℕ) (s : Standing) where
   subject-why (standardNo n) = go (eqb n 0) refl
     where
       go : (b : Bool) → eqb n 0 ≡ b
-          → whyBy (cond b (rsvpTeRule (namedWithL 0 (s .side)) (named 0 (s .side))) (applicationRule n (namedWithL n (s .side)) (named n (s .side)))) (standardNo n) k s ≡ cond b (rsvpTeWhy k s) (applicationWhy n k s)
-      go true e = rsvp-te-why (standardNo n) (eqb-true n 0 e)
+          → whyBy (cond b (rsvpTeRule (namedWithL 0 (s .side)) (named 0 (s .side)) (hasLegacy (s .side))) (applicationRule n (namedWithL n (s .side)) (named n (s .side)))) (standardNo n) k s ≡ cond b (rsvpTeWhy k s) (applicationWhy n k s)
+      go true e = rsvp-te-why (standardNo n) (eqb-true n 0 e) refl
       go false e = application-why (standardNo n) n refl refl
   subject-why (userNo n) = application-why (userNo n) (user n) refl refl
 
@@ -364,23 +366,23 @@ module _ (k : ℕ) (s : Standing) where
 
 -- ---- a link that passed
 
--- No rule looks at C's values.
-any-c : (whom : Subject) (k : ℕ) (b c : List ℕ) → sideWhy whom k (standB b []) ≡ sideWhy whom k (standB b c)
-unfolding sideWhy subjectWhy rsvpTeWhy applicationWhy legacyWhy standB sideB namedWithL named holder first ofLive
-any-c generally k b c = refl
-any-c (standardNo n) k b c = refl
-any-c (userNo n) k b c = refl
-
-pub tells-b : (b c : List ℕ) (m : Names) → Tells ((sideB b c) .live) m → Tells ((sideB b []) .live) m
-unfolding sideB
-tells-b b c m t = t
+-- What is told by a rule does not look at C's values.
+any-c : (rule : Rule) (whom : Subject) (k : ℕ) (b c : List ℕ) → whyBy rule whom k (standB b []) ≡ whyBy rule whom k (standB b c)
+unfolding whyBy namingWhy namingFirstWhy legacyWhy standB sideB holder first ofLive
+any-c ByL whom k b c = refl
+any-c (Naming n) whom k b c = refl
+any-c General whom k b c = refl
+any-c Legacy whom k b c = refl
+any-c NamingFirst whom k b c = refl
+any-c AloneFirst whom k b c = refl
+any-c LegacyFirst whom k b c = refl
 
 srlg-apart : isLinkCode 1096 ≡ false
 unfolding computing
 srlg-apart = refl
 
-pub ready-in-a : (a : List ℕ) (whom : Subject) (k : ℕ) (m : Names) → AskedInA a whom k m → Ready A a k
-ready-in-a a whom k m q = (q .passed, q .known, q .other)
+pub ready-in-a : (a : List ℕ) (whom : Subject) (k : ℕ) (m : Names) (x : Bool) → AskedInA a whom k m x → Ready A a k
+ready-in-a a whom k m x q = (q .passed, q .known, q .other)
 
 module _ (a b c : List ℕ) (whom : Subject) (rule : Rule) (x : W.Why) where
   module _ (k : ℕ) (e : rule ≡ ruleOn whom k (sideA a)) where
@@ -398,12 +400,12 @@ module _ (a b c : List ℕ) (whom : Subject) (rule : Rule) (x : W.Why) where
         on-subject : ruleOn whom k (sideA a) ≡ subjectRule whom (sideA a)
         on-subject = rw i
 
-  pub link-in-b : rule ≡ ruleOn whom 1096 (sideB b []) → x ≡ whyBy rule whom 1096 (standing B b) → x ≡ linkAnswer a b c whom 1096
+  pub link-in-b : rule ≡ ruleOn whom 1096 (sideB b c) → x ≡ whyBy rule whom 1096 (standing B b) → x ≡ linkAnswer a b c whom 1096
   unfolding linkAnswer standing standOf standB ruleOn
   link-in-b e h =
-      rw srlg-apart (h ∙ ap (λ (r : Rule). whyBy r whom 1096 (standB b [])) (e ∙ on-subject) ∙ subject-why 1096 (standB b []) whom ∙ any-c whom 1096 b c)
+      rw srlg-apart (h ∙ any-c rule whom 1096 b c ∙ ap (λ (r : Rule). whyBy r whom 1096 (standB b c)) (e ∙ on-subject) ∙ subject-why 1096 (standB b c) whom)
     where
-      on-subject : ruleOn whom 1096 (sideB b []) ≡ subjectRule whom (sideB b [])
+      on-subject : ruleOn whom 1096 (sideB b c) ≡ subjectRule whom (sideB b c)
       on-subject = rw srlg-apart
 
 pub as-srlg : (a b c : List ℕ) (whom : Subject) (k : ℕ) (x : W.Why) → k ≡ 1096 → x ≡ linkAnswer a b c whom 1096 → x ≡ linkAnswer a b c whom k

@@ -27,7 +27,7 @@ isHeld (heldAt p) = true
 isHeld (legacyIn r) = false
 isHeld nowhere = false
 
--- No rule looks at C's values. Nothing is advertised in C.
+-- What is told by a rule does not look at C's values. Nothing is advertised in C.
 unfoldable pub standing : Run → List ℕ → Standing
 standing A s = standA s
 standing B s = standB s []

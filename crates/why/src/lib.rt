@@ -15,7 +15,7 @@ ghost use Rattle.isis.specs.RunB.{checkB, sideB};
 ghost use Rattle.isis.specs.Why.{linkWhy};
 ghost use Rattle.replies.specs.Told.{toldHolder, toldRule, toldWhy, subjectOf};
 ghost use Rattle.rules.specs.Names.{Tells};
-ghost use Rattle.linkstate.specs.Sides.{named, namedWithL};
+ghost use Rattle.linkstate.specs.Sides.{named, namedWithL, hasLegacy};
 ghost use Rattle.rules.specs.Rules.{applicationRule, subjectRule};
 ghost use Rattle.isis_link.specs.Asked.{AskedInA};
 ghost use Rattle.advertisements.specs.Tests.{passing};
@@ -224,24 +224,24 @@ fn bandwidth_why(a: &[u8], rule: rules::Rule, code: usize) -> Why
 
 // ---- the entries
 
-// A subject's kind on side A, by whom it names.
-fn why_in_a(a: &[u8], whom: Subject, code: usize, m: Names) -> Why
-    requires { ⌜ AskedInA (now a) (subjectOf whom) code m ⌝ }
+// A subject's kind on side A, by whom it names and whether its legacy has a value.
+fn why_in_a(a: &[u8], whom: Subject, code: usize, m: Names, legacy: bool) -> Why
+    requires { ⌜ AskedInA (now a) (subjectOf whom) code m legacy ⌝ }
     ensures { λ r. ⌜ ((b c : List ℕ) → toldWhy r ≡ linkAnswer (now (a .entry)) b c (subjectOf whom) code) ⌝ }
 {
-    let rule = rules::decide(whom, code, m);
+    let rule = rules::decide(whom, code, m, legacy);
     if answering::is_link_code(code) {
         return bandwidth_why(a, rule, code);
     }
     why_by(a, Run::A, rule, whom, code)
 }
 
-// SRLG, by whom side B names.
-fn why_in_b(b: &[u8], whom: Subject, m: Names) -> Why
-    requires { ⌜ (faults runB checkB (elements 1 0 (now b)) ≡ accepted) × (numberTooHigh (subjectOf whom) ≡ false) × Tells ((sideB (now b) []) .live) m ⌝ }
-    ensures { λ r. ⌜ ((a c : List ℕ) → toldWhy r ≡ linkAnswer a (now (b .entry)) c (subjectOf whom) 1096) ⌝ }
+// SRLG, by whom side B names and whether run C has a value.
+fn why_in_b(b: &[u8], whom: Subject, m: Names, legacy: bool) -> Why
+    requires { ⌜ (faults runB checkB (elements 1 0 (now b)) ≡ accepted) × (numberTooHigh (subjectOf whom) ≡ false) ⌝ }
+    ensures { λ r. ⌜ ((a c : List ℕ) → Tells ((sideB (now (b .entry)) c) .live) m → legacy ≡ hasLegacy (sideB (now (b .entry)) c) → toldWhy r ≡ linkAnswer a (now (b .entry)) c (subjectOf whom) 1096) ⌝ }
 {
-    why_by(b, Run::B, rules::decide(whom, 1096, m), whom, 1096)
+    why_by(b, Run::B, rules::decide(whom, 1096, m, legacy), whom, 1096)
 }
 
 // Why a link gives a subject what it gives of a kind.
@@ -253,10 +253,10 @@ pub fn link_why(a: &[u8], b: &[u8], c: &[u8], whom: Subject, code: usize) -> Why
         LinkChecked::Accepted(names) => {
             if code == 1096 {
                 let m = names.b;
-                return why_in_b(b, whom, m);
+                return why_in_b(b, whom, m, names.legacyb);
             }
             let m = names.a;
-            return why_in_a(a, whom, code, m);
+            return why_in_a(a, whom, code, m, names.legacya);
         }
     }
 }

@@ -7,10 +7,10 @@ use Rattle.isis_index.proofs.index_a.Statement.{statement}
 use Rattle.isis_index.proofs.index_a.Tie as tie
 
 walk-and-settle-requires : tie.Need-walk-and-settle-requires
-walk-and-settle-requires c κs = let p = c .before .before .before .pre in (p .0, p .1, started-ground (p .3), p .3 .rows, started-owning (p .3) (p .2))
+walk-and-settle-requires c κs = let p = c .before .before .before .pre in (p .0, p .1, started-ground (p .4), p .4 .rows, started-owning (p .4) (p .2))
 
 rsvp-te-slot-requires : tie.Need-rsvp-te-slot-requires
-rsvp-te-slot-requires c κs = settled-ready (c .before .before .before .before .before .before .before .pre .3) (c .before .before .before .walk-and-settle .ensures)
+rsvp-te-slot-requires c κs = settled-ready (c .before .before .before .before .before .before .before .pre .4) (c .before .before .before .walk-and-settle .ensures)
 
 give-old-requires : tie.Need-give-old-requires
 give-old-requires c κs = search needs
@@ -25,7 +25,8 @@ returns c = let p = c .before .before .before .before .before .before .before .b
       ok = p .0;
       small = p .1;
       tells = p .2;
-      started = p .3;
+      old = p .3;
+      started = p .4;
       walk = c .before .before .before .before .before .before .before .walk-and-settle .ensures;
       rsvpTe = r .0;
       holds = r .1;

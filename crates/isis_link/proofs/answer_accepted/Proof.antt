@@ -11,7 +11,7 @@ use Rattle.isis_link.proofs.answer_accepted.Statement.{statement}
 use Rattle.isis_link.proofs.answer_accepted.Tie as tie
 
 answer-srlg-requires : tie.Need-answer-srlg-requires
-answer-srlg-requires c κs = let p = c .before .before .before .before .before .before .before .pre in (passed _ _ _ (p .link), p .low, p .inB)
+answer-srlg-requires c κs = let p = c .before .before .before .before .before .before .before .pre in (passed _ _ _ (p .link), p .low, p .sides .inB, p .sides .oldB)
 
 same-length : tie.Need-same-length
 same-length c = search needs

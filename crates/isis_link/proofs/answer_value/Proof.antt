@@ -15,10 +15,10 @@ array-read-len : tie.Need-array-read-len
 array-read-len c = search needs
 
 answer-row-requires : tie.Need-answer-row-requires
-answer-row-requires c κs = let q = c .before .before in row-readable _ _ _ _ (q .pre) [] [] _ (c .find-row .ensures [] [])
+answer-row-requires c κs = let q = c .before .before in row-readable _ _ _ _ _ (q .pre) [] [] _ (c .find-row .ensures [] [])
 
 returns : tie.Need-returns
-returns c = let q = c .before .before .before in λ b d. row-answers _ _ _ _ (q .pre) b d _ (c .before .find-row .ensures b d) _ (c .answer-row .ensures)
+returns c = let q = c .before .before .before in λ b d. row-answers _ _ _ _ _ (q .pre) b d _ (c .before .find-row .ensures b d) _ (c .answer-row .ensures)
 
 pub answer-value-spec : {M : Type 1} → statement M
 answer-value-spec =

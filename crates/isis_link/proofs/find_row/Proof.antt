@@ -19,8 +19,8 @@ row-by-requires c κs =
 
 returns : tie.Need-returns
 returns c = let q = c .before .before .before .before in
-    λ b d. row-given _ _ (c .before .type-of .ensures) (now (q .args .a)) b d _ _ (q .pre) _
-    (c .before .before .decide .ensures .0 (sideA (now (q .args .a))) (q .pre .tells)) _ (c .row-by .ensures)
+    λ b d. row-given _ _ (c .before .type-of .ensures) (now (q .args .a)) b d _ _ _ (q .pre) _
+    (c .before .before .decide .ensures .0 (sideA (now (q .args .a))) (q .pre .tells) (q .pre .old)) _ (c .row-by .ensures)
 
 pub find-row-spec : {M : Type 1} → statement M
 find-row-spec = tie.close (tie.spec decide-requires type-of-requires row-by-requires returns)

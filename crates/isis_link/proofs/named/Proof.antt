@@ -40,8 +40,8 @@ returns-2 c = let half = c .before .before .before .before .before .before in le
     let e = c .before .before .before .before .before .before .before .names .given .1 in
     let t = told-names _ _ _ _ (k .names) _ e in let j = c .before .before .before .both .ensures in
     lists (a .a .now) (a .b .now) (a .c .now) _ _ (sym (ap toldLink e) ∙ k .told) (search needs) (search needs)
-    (standard-in _ _ _ _ _ _ (t .0) (t .1) j _ (c .before .before .turned .ensures) _ (c .before .without .ensures))
-    (user-in _ _ _ _ _ _ (t .0) (t .1) j _ (c .turned2 .ensures))
+    (standard-in _ _ _ _ _ _ (t .inA) (t .inB) j _ (c .before .before .turned .ensures) _ (c .before .without .ensures))
+    (user-in _ _ _ _ _ _ (t .inA) (t .inB) j _ (c .turned2 .ensures))
 
 pub named-spec : {M : Type 1} → statement M
 named-spec =

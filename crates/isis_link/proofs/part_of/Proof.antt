@@ -26,10 +26,10 @@ part-result-end c = search needs
 
 returns : tie.Need-returns
 returns c =
-    let q = c .before .before .before .before in λ b d. row-none _ _ _ _ (q .pre) b d _ (c .before .before .find-row .ensures b d) (c .before .if1 .taken)
+    let q = c .before .before .before .before in λ b d. row-none _ _ _ _ _ (q .pre) b d _ (c .before .before .find-row .ensures b d) (c .before .if1 .taken)
 
 add-result : tie.Need-add-result
-add-result c = let q = c .before .before .before in omega (arith, row-within _ _ _ _ (q .pre) [] [] _ (c .before .find-row .ensures [] []) (c .if1 .left))
+add-result c = let q = c .before .before .before in omega (arith, row-within _ _ _ _ _ (q .pre) [] [] _ (c .before .find-row .ensures [] []) (c .if1 .left))
 
 sub-result-2 : tie.Need-sub-result-2
 sub-result-2 c = search needs
@@ -38,11 +38,11 @@ part-result-start-2 : tie.Need-part-result-start-2
 part-result-start-2 c = search needs
 
 part-result-end-2 : tie.Need-part-result-end-2
-part-result-end-2 c = let q = c .before .before .before in row-within _ _ _ _ (q .pre) [] [] _ (c .before .find-row .ensures [] []) (c .if1 .left)
+part-result-end-2 c = let q = c .before .before .before in row-within _ _ _ _ _ (q .pre) [] [] _ (c .before .find-row .ensures [] []) (c .if1 .left)
 
 returns-2 : tie.Need-returns-2
 returns-2 c =
-    let q = c .before .before .before .before in λ b d. row-part _ _ _ _ (q .pre) b d _ (c .before .before .find-row .ensures b d) (c .before .if1 .left)
+    let q = c .before .before .before .before in λ b d. row-part _ _ _ _ _ (q .pre) b d _ (c .before .before .find-row .ensures b d) (c .before .if1 .left)
 
 pub part-of-spec : {M : Type 1} → statement M
 part-of-spec =

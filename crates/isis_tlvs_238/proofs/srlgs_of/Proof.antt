@@ -16,7 +16,7 @@ decide-requires c κs = search needs
 
 words-by-requires : tie.Need-words-by-requires
 words-by-requires c κs = let a = c .before .before .before .before .before in
-    (a .pre .0, a .pre .1, a .pre .2, on-side-b (subjectOf (a .args .whom)) (sideB (now (a .args .b)) (now (a .args .c))) _ (c .before .decide .ensures .1 _ (a .pre .4)))
+    (a .pre .0, a .pre .1, a .pre .2, on-side-b (subjectOf (a .args .whom)) (sideB (now (a .args .b)) (now (a .args .c))) _ (c .before .decide .ensures .1 _ (a .pre .4) (a .pre .5)))
 
 sort-front-requires : tie.Need-sort-front-requires
 sort-front-requires c κs = let w = c .before .before .before .words-by in (omega (arith, w .ensures .room, w .kept .1 .1 .1 .0), w .ensures .few)
@@ -27,7 +27,7 @@ same-length c = search needs
 returns : tie.Need-returns
 returns c = let w = c .before .before .before .before .before .before .words-by in let s = c .before .before .sort-front .ensures in
     let d = c .before .before .before .before .before .before .before .before in let a = d .before .before .before .before in
-    (sorted-front _ _ _ _ (w .ensures) _ (s .0) ∙ ap srlgs (d .decide .ensures .0 (sideB (now (a .args .b)) (now (a .args .c))) (a .pre .4)), omega (arith, w .ensures .few, s .1), omega (arith, w .ensures .room, s .1))
+    (sorted-front _ _ _ _ (w .ensures) _ (s .0) ∙ ap srlgs (d .decide .ensures .0 (sideB (now (a .args .b)) (now (a .args .c))) (a .pre .4) (a .pre .5)), omega (arith, w .ensures .few, s .1), omega (arith, w .ensures .room, s .1))
 
 pub srlgs-of-spec : {M : Type 1} → statement M
 srlgs-of-spec =

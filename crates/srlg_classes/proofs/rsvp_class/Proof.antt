@@ -1,8 +1,8 @@
--- `srlg_classes::rsvp_class` meets its contract: by cases. Assumes nothing.
-use mathlib.Core.Path.{_≡_, refl, sym, _∙_, ap}
-use native.Mathlib.Omega.{arith}
-use borrow.Author.Tests.{eq-eqb, ne-eqb, not-true, not-false}
-use Rattle.srlg_classes.specs.Owned.{rsvpClass, classAt}
+-- `srlg_classes::rsvp_class` meets its contract: by the rule. Assumes nothing.
+use mathlib.Core.Path.{_≡_, _∙_}
+use denote.Ref.{now}
+use Rattle.srlg_classes.specs.Owned.{classAt}
+use Rattle.srlg_classes.proofs.Rsvp.{no-own, own-one, general-one, legacy-one}
 use borrow.Author.Needs.{needs}
 use Rattle.srlg_classes.proofs.rsvp_class.Statement.{statement}
 use Rattle.srlg_classes.proofs.rsvp_class.Tie as tie
@@ -10,16 +10,14 @@ use Rattle.srlg_classes.proofs.rsvp_class.Tie as tie
 has-requires : tie.Need-has-requires
 has-requires c κs = search needs
 
-returns : tie.Need-returns
-unfolding rsvpClass
-returns c = rw (sym (c .before .has .ensures) ∙ c .if1 .taken)
-
 has-requires-2 : tie.Need-has-requires-2
 has-requires-2 c κs = search needs
 
-returns-2 : tie.Need-returns-2
-unfolding rsvpClass
-returns-2 c = rw (sym (c .before .before .before .has .ensures) ∙ c .before .before .if1 .left, sym (c .before .has2 .ensures) ∙ not-true _ (c .if2 .taken))
+rsvp-te-rule-requires : tie.Need-rsvp-te-rule-requires
+rsvp-te-rule-requires c κs = search needs
+
+enum-told : tie.Need-enum-told
+enum-told c = search needs
 
 index-1-wide : tie.Need-index-1-wide
 index-1-wide c = search needs
@@ -30,28 +28,44 @@ index-2-wide c = search needs
 wide-requires : tie.Need-wide-requires
 wide-requires c κs = search needs
 
+returns : tie.Need-returns
+unfolding classAt
+returns c = let q = c .before .before .before .before .before in let a = q .before .before .before .args in
+    no-own (a .named) (a .legacy) (now (a .own)) (a .first) _ _ (q .before .before .has .ensures) (q .before .has2 .ensures) _ (q .rsvp-te-rule .ensures)
+    (c .before .before .before .enum-told .given .1) _ (c .before .wide .ensures) (c .if1 .taken)
+
+returns-2 : tie.Need-returns-2
+unfolding classAt
+returns-2 c = let q = c .before .before .before .before .before in let a = q .before .before .before .args in
+    own-one (a .named) (a .legacy) (now (a .own)) (a .first) _ _ (q .before .before .has .ensures) (q .before .has2 .ensures) _ (q .rsvp-te-rule .ensures)
+    (c .before .before .before .enum-told .given .1) _ (c .before .wide .ensures) (c .if1 .left)
+
+enum-told-2 : tie.Need-enum-told-2
+enum-told-2 c = search needs
+
 returns-3 : tie.Need-returns-3
-unfolding rsvpClass classAt
-returns-3 c =
-    let w = c .before .wide .ensures in
-    rw (sym (c .before .before .before .before .before .before .has .ensures) ∙ c .before .before .before .before .before .if1 .left, sym (c .before .before .before .before .has2 .ensures) ∙ not-false _ (c .before .before .before .if2 .left), eq-eqb _ 0 (sym w ∙ c .if3 .taken))
+returns-3 c = let q = c .before .before in let a = q .before .before .before .args in
+    general-one (a .named) (a .legacy) (now (a .own)) (a .first) _ _ (q .before .before .has .ensures) (q .before .has2 .ensures) _ (q .rsvp-te-rule .ensures)
+    (c .enum-told2 .given .1)
 
 returns-4 : tie.Need-returns-4
-unfolding rsvpClass classAt
-returns-4 c =
-    let w = c .before .wide .ensures in
-    rw (sym (c .before .before .before .before .before .before .has .ensures) ∙ c .before .before .before .before .before .if1 .left, sym (c .before .before .before .before .has2 .ensures) ∙ not-false _ (c .before .before .before .if2 .left), ne-eqb _ 0 (λ e. c .if3 .left (w ∙ e))) w
+returns-4 c = let q = c .before in let a = q .before .before .before .args in
+    legacy-one (a .named) (a .legacy) (now (a .own)) (a .first) _ _ (q .before .before .has .ensures) (q .before .has2 .ensures) _ (q .rsvp-te-rule .ensures)
+    (c .match .keys3)
 
 pub rsvp-class-spec : {M : Type 1} → statement M
 rsvp-class-spec =
     tie.close
     (tie.spec
     has-requires
-    returns
     has-requires-2
-    returns-2
+    rsvp-te-rule-requires
+    enum-told
     index-1-wide
     index-2-wide
     wide-requires
+    returns
+    returns-2
+    enum-told-2
     returns-3
     returns-4)

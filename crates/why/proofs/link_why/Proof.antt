@@ -1,5 +1,5 @@
 -- Refused before the answer, or told of the side that the kind stands on.
-use Rattle.why.proofs.Rules.{why-refused, why-told, tells-b, as-srlg}
+use Rattle.why.proofs.Rules.{why-refused, why-told, as-srlg}
 use Rattle.isis_link.proofs.Checks.{asked-refused, asked-passed, asked-with, asked-in-a, b-passed}
 use Rattle.isis.specs.Link.{linkSource}
 use Rattle.isis.specs.Why.{linkWhy}
@@ -22,16 +22,17 @@ enum-known-names c = search needs
 why-in-b-requires : tie.Need-why-in-b-requires
 why-in-b-requires c κs =
     let q = asked-with _ _ _ _ _ _ (c .before .before .before .before .before .check-asked .ensures) _ (c .before .before .before .names .given .1) in
-    (b-passed _ _ _ (q .link), q .low, tells-b _ _ _ (q .inB))
+    (b-passed _ _ _ (q .link), q .low)
 
 returns : tie.Need-returns
 unfolding linkWhy linkAnswer
 returns c = let a = c .before .before .before .before .before .before .before .before .before .before .args in
+    let q = asked-with _ _ _ _ _ _ (c .before .before .before .before .before .before .check-asked .ensures) _ (c .before .before .before .before .names .given .1) in
     why-told (linkSource (a .a .now) (a .b .now) (a .c .now)) (subjectOf (a .whom)) (a .code)
     (linkAnswer (a .a .now) (a .b .now) (a .c .now) (subjectOf (a .whom)) (a .code)) _
     (asked-passed _ _ _ _ _ _ (c .before .before .before .before .before .before .check-asked .ensures) _ (c .before .before .before .before .names .given .1))
     (as-srlg (a .a .now) (a .b .now) (a .c .now) (subjectOf (a .whom)) (a .code) _ (c .before .before .if1 .taken)
-    (c .why-in-b .ensures (a .a .now) (a .c .now)))
+    (c .why-in-b .ensures (a .a .now) (a .c .now) (q .sides .inB) (q .sides .oldB)))
 
 why-in-a-requires : tie.Need-why-in-a-requires
 why-in-a-requires c κs =

@@ -15,21 +15,21 @@ is-link-code-requires : tie.Need-is-link-code-requires
 is-link-code-requires c κs = search needs
 
 bandwidth-why-requires : tie.Need-bandwidth-why-requires
-bandwidth-why-requires c κs = ready-in-a _ _ _ _ (c .before .before .before .before .pre)
+bandwidth-why-requires c κs = ready-in-a _ _ _ _ _ (c .before .before .before .before .pre)
 
 returns : tie.Need-returns
 returns c = let b = c .before .before .before .before .before in
     λ d e. link-bandwidth (now (b .args .a)) d e (subjectOf (b .args .whom)) _ _ (b .args .code)
-    (c .before .before .before .decide .ensures .1 (sideA (now (b .args .a))) (b .pre .tells))
+    (c .before .before .before .decide .ensures .1 (sideA (now (b .args .a))) (b .pre .tells) (b .pre .old))
     (sym (c .before .before .is-link-code .ensures) ∙ c .before .if1 .taken) (c .bandwidth-why .ensures)
 
 why-by-requires : tie.Need-why-by-requires
-why-by-requires c κs = (ready-in-a _ _ _ _ (c .before .before .before .before .pre), c .before .before .before .before .pre .low)
+why-by-requires c κs = (ready-in-a _ _ _ _ _ (c .before .before .before .before .pre), c .before .before .before .before .pre .low)
 
 returns-2 : tie.Need-returns-2
 returns-2 c = let b = c .before .before .before .before .before in
     λ d e. link-in-a (now (b .args .a)) d e (subjectOf (b .args .whom)) _ _ (b .args .code)
-    (c .before .before .before .decide .ensures .1 (sideA (now (b .args .a))) (b .pre .tells))
+    (c .before .before .before .decide .ensures .1 (sideA (now (b .args .a))) (b .pre .tells) (b .pre .old))
     (sym (c .before .before .is-link-code .ensures) ∙ c .before .if1 .left) (b .pre .other) (c .why-by .ensures)
 
 pub why-in-a-spec : {M : Type 1} → statement M

@@ -3,7 +3,6 @@ use Rattle.why.proofs.Rules.{link-in-b}
 use Rattle.isis.specs.RunB.{sideB}
 use Rattle.replies.specs.Told.{subjectOf}
 use denote.Ref.{now}
-use mathlib.Core.List.{[]}
 use mathlib.Core.Path.{refl}
 use borrow.Author.Needs.{needs}
 use Rattle.why.proofs.why_in_b.Statement.{statement}
@@ -17,7 +16,7 @@ why-by-requires c κs = ((c .before .before .pre .0, refl), c .before .before .p
 
 returns : tie.Need-returns
 returns c = let b = c .before .before .before in
-    λ a d. link-in-b a (now (b .args .b)) d (subjectOf (b .args .whom)) _ _ (c .before .decide .ensures .1 (sideB (now (b .args .b)) []) (b .pre .2))
+    λ a d t h. link-in-b a (now (b .args .b)) d (subjectOf (b .args .whom)) _ _ (c .before .decide .ensures .1 (sideB (now (b .args .b)) d) t h)
     (c .why-by .ensures)
 
 pub why-in-b-spec : {M : Type 1} → statement M
