@@ -21,6 +21,7 @@ use Rattle.rules.specs.Names.{Tells}
 use Rattle.masks.specs.Applications.{inBoth, inPair}
 use Rattle.rules.proofs.NameLaws.{side-named, side-flagged}
 use Rattle.rules.specs.declared.Rule.{Rule}
+use Rattle.rules.specs.declared.Rule.the-variants as Ru
 use Rattle.rules.specs.declared.Rule.the-variants.{ByL, Legacy, NamingFirst}
 use Rattle.rules.specs.Rules.{rsvpTeRule, takenBy}
 use Rattle.rules.proofs.Laws.{rsvp-te-taken}
@@ -116,7 +117,7 @@ slot-is named x own r e = go (inBoth (named .lstandard) (named .luser) 0) refl (
   where
     -- by whether it is named with L and named, and whether legacy has a value
     rule : Bool → Bool → Bool → Rule
-    rule l n y = cond l ByL (cond n NamingFirst (cond y Legacy General))
+    rule l n y = cond l ByL (cond n NamingFirst (cond y Legacy Ru.General))
 
     go : (l : Bool) → inBoth (named .lstandard) (named .luser) 0 ≡ l → (n : Bool) → inBoth (named .standard) (named .user) 0 ≡ n → (y : Bool) → x ≡ y
         → Slot named x own (filledSlot named x own) r
@@ -135,7 +136,7 @@ slot-is named x own r e = go (inBoth (named .lstandard) (named .luser) 0) refl (
         is = rw (i, j, h)
     go false i false j false h = bare (ap (λ (q : Rule). filledBy q (slotAt own 7)) is) (e ∙ ap (λ (q : Rule). slotBy q (slotAt own 7)) is) (λ k s. ap (λ (q : Rule). takenBy q k s) is)
       where
-        is : rule (inBoth (named .lstandard) (named .luser) 0) (inBoth (named .standard) (named .user) 0) x ≡ General
+        is : rule (inBoth (named .lstandard) (named .luser) 0) (inBoth (named .standard) (named .user) 0) x ≡ Ru.General
         is = rw (i, j, h)
 
 zero-place : turnedPlace 0 ≡ 7

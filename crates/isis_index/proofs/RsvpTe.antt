@@ -1,5 +1,5 @@
 -- The slot of RSVP-TE's set, by its rule. Assumes nothing.
-use mathlib.Core.Path.{_≡_, refl, sym, ap, ap₂, _∙_}
+use mathlib.Core.Path.{_≡_, refl, sym, ap, ap₂, _∙_, subst}
 use mathlib.Core.Bool.{Bool, true, false}
 use mathlib.Core.Logic.{⊎-elim}
 use mathlib.Core.List.{List, [], _∷_}
@@ -13,8 +13,8 @@ use Rattle.rules.specs.declared.Rule.{Rule}
 use Rattle.rules.specs.declared.Rule.the-variants.{ByL, Naming, General, Legacy, NamingFirst, AloneFirst, LegacyFirst}
 use Rattle.rules.specs.Rules.{rsvpTeRule}
 use Rattle.rules.proofs.Rule.{the-type}
-use Rattle.set_table.specs.Tables.{slotAt}
-use Rattle.isis_index.specs.Settled.{slotBy, filledBy, ruleBy, rsvpTeSlot, filledSlot}
+use Rattle.set_table.specs.Tables.{slotAt, Given}
+use Rattle.isis_index.specs.Settled.{fromOld, slotBy, filledBy, ruleBy, rsvpTeSlot, filledSlot}
 
 -- Every rule but two takes legacy's slot, and every rule but one leaves the slots as they are.
 slot-other : (r : Rule) (s : ℕ) → OneOf (0 ∷ 1 ∷ 3 ∷ 5 ∷ 6 ∷ []) (tagOf the-type r) → (1 ≡ slotBy r s) × (1 ≡ filledBy r s)
@@ -57,3 +57,7 @@ module _ (named : Names) (x : Bool) (owns : List (List ℕ)) (l n : Bool) (is : 
 
   pub old-slot : OneOf (0 ∷ 1 ∷ 3 ∷ 5 ∷ 6 ∷ []) (tagOf the-type r) → Told 1 1
   old-slot h = let o = slot-other r (slotAt owns 7) h in let t = by-rule r refl in (o .0 ∙ t .0, o .1 ∙ t .1)
+
+-- Values given to a slot, by another name of it.
+pub given-to : {sets after : List (List ℕ)} {s t : ℕ} → s ≡ t → Given sets after (fromOld sets s) → Given sets after (fromOld sets t)
+given-to {sets} {after} e g = subst (λ (i : ℕ). Given sets after (fromOld sets i)) e g

@@ -1,9 +1,9 @@
--- `isis_index::rsvp_te_slot` meets its contract: by the rule its own slot, filled up, or legacy's. Assumes nothing.
+-- `isis_index::rsvp_te_slot` meets its contract: by the rule its own slot, filled up, the general set's, or legacy's. Assumes nothing.
 use mathlib.Core.Path.{_∙_, sym, subst}
 use denote.Ref.{now}
 use Rattle.grids.specs.Slots.{IsSet}
 use Rattle.isis_index.proofs.Settling.{old-given}
-use Rattle.isis_index.proofs.RsvpTe.{own-slot, own-named, old-slot}
+use Rattle.isis_index.proofs.RsvpTe.{own-slot, own-named, general-slot, old-slot, given-to}
 use borrow.Author.Needs.{needs}
 use Rattle.isis_index.proofs.rsvp_te_slot.Statement.{statement}
 use Rattle.isis_index.proofs.rsvp_te_slot.Tie as tie
@@ -31,7 +31,7 @@ wide-requires c κs = search needs
 
 add-all-old-requires : tie.Need-add-all-old-requires
 add-all-old-requires c κs = let s = c .before .before .before .before .before .before .before .before .before in let a = s .args in
-    let i = own-named (a .named) (now (a .own)) _ _ (c .before .before .before .before .before .before .before .is-named-with-l .ensures) (c .before .before .before .before .before .before .is-named .ensures) _ (c .before .before .before .before .before .rsvp-te-rule .ensures) (c .before .before .before .enum-told .given .1) in
+    let i = own-named (a .named) (a .legacy) (now (a .own)) _ _ (c .before .before .before .before .before .before .before .is-named-with-l .ensures) (c .before .before .before .before .before .before .is-named .ensures) _ (c .before .before .before .before .before .rsvp-te-rule .ensures) (c .before .before .before .enum-told .given .1) in
     (s .pre .0, s .pre .1, subst (IsSet (now (a .sets))) (sym (c .before .wide .ensures)) (s .pre .2 i))
 
 same-length : tie.Need-same-length
@@ -39,12 +39,22 @@ same-length c = search needs
 
 returns : tie.Need-returns
 returns c = let s = c .before .before .before .before .before .before .before .before .before .before .before in let a = s .args in
-    let i = own-slot (a .named) (now (a .own)) _ _ (c .before .before .before .before .before .before .before .before .before .is-named-with-l .ensures) (c .before .before .before .before .before .before .before .before .is-named .ensures) _ (c .before .before .before .before .before .before .before .rsvp-te-rule .ensures) (c .before .before .before .before .before .enum-told .given .1) in
-    let r = c .before .add-all-old .ensures in (c .before .before .before .wide .ensures ∙ i, r .0, r .1)
+    let i = own-slot (a .named) (a .legacy) (now (a .own)) _ _ (c .before .before .before .before .before .before .before .before .before .is-named-with-l .ensures) (c .before .before .before .before .before .before .before .before .is-named .ensures) _ (c .before .before .before .before .before .before .before .rsvp-te-rule .ensures) (c .before .before .before .before .before .enum-told .given .1) in
+    let r = c .before .add-all-old .ensures in let w = c .before .before .before .wide .ensures in
+    (w ∙ i .0, r .0, given-to (w ∙ i .1) (r .1))
+
+enum-told-2 : tie.Need-enum-told-2
+enum-told-2 c = search needs
 
 returns-2 : tie.Need-returns-2
-returns-2 c = let s = c .before .before .before .before .before in let a = s .args in
-    (old-slot (a .named) (now (a .own)) _ _ (c .before .before .before .is-named-with-l .ensures) (c .before .before .is-named .ensures) _ (c .before .rsvp-te-rule .ensures) (c .match .keys2), s .pre .0, old-given (now (a .sets)))
+returns-2 c = let q = c .before .before in let s = q .before .before .before .before in let a = s .args in
+    let i = general-slot (a .named) (a .legacy) (now (a .own)) _ _ (q .before .before .is-named-with-l .ensures) (q .before .is-named .ensures) _ (q .rsvp-te-rule .ensures) (c .enum-told2 .given .1) in
+    (i .0, s .pre .0, given-to (i .1) (old-given (now (a .sets))))
+
+returns-3 : tie.Need-returns-3
+returns-3 c = let q = c .before in let s = q .before .before .before .before in let a = s .args in
+    let i = old-slot (a .named) (a .legacy) (now (a .own)) _ _ (q .before .before .is-named-with-l .ensures) (q .before .is-named .ensures) _ (q .rsvp-te-rule .ensures) (c .match .keys3) in
+    (i .0, s .pre .0, given-to (i .1) (old-given (now (a .sets))))
 
 pub rsvp-te-slot-spec : {M : Type 1} → statement M
 rsvp-te-slot-spec =
@@ -60,4 +70,6 @@ rsvp-te-slot-spec =
     add-all-old-requires
     same-length
     returns
-    returns-2)
+    enum-told-2
+    returns-2
+    returns-3)
