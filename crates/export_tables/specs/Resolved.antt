@@ -7,7 +7,7 @@ use lib.ListN.{length, getD, take}
 use Rattle.linkstate.specs.Limits.{mostNumbers}
 use Rattle.linkstate.specs.Kinds.{codes}
 use Rattle.linkstate.specs.Attributes.{srlgs}
-use Rattle.linkstate.specs.Sides.{Side, generalSet, applicationSet, rsvpTeKind}
+use Rattle.linkstate.specs.Sides.{Side, generalSet, applicationSet, hasLegacy, rsvpTeKind}
 use Rattle.linkstate.specs.Replies.{Exported}
 use Rattle.linkstate.specs.Meaning.{Meaning, row}
 use Rattle.linkstate.specs.Export.{topValue, export}
@@ -44,13 +44,14 @@ pub record Slotted (run : List ℕ) (sets own : List (List ℕ)) (p : ℕ → Bo
   pub size : length own ≡ 128
   pub unclassed : (a : ℕ) → a < 128 → classAt own a ≡ 0
 
--- Numbers of 32 bits and rows of sources, as many as are used, that tell the SRLGs of a side with these names.
-pub record Listed (values : List ℕ) (rows : List (List ℕ)) (used : Used) (named : Names) (side : Side) : Type 0 where
+-- Numbers of 32 bits and rows of sources, as many as are used, that tell the SRLGs of a side with these names, and with a legacy value of the eleven kinds or without.
+pub record Listed (values : List ℕ) (rows : List (List ℕ)) (used : Used) (named : Names) (x : Bool) (side : Side) : Type 0 where
   pub most : length values ≤ mostNumbers
   pub small : (i : ℕ) → getD values i 0 < 4294967296
   pub words : length values ≤ 64 * used .words
   pub sourced : Sourced values rows (used .sources) side
   pub tells : Tells (side .live) named
+  pub old : x ≡ hasLegacy side
 
 -- Room for the classes of all subjects, for where these are written, and for a group of each application that passes a test.
 pub record Room (rows : List (List ℕ)) (used : Used) (named : Names) (own : List (List ℕ)) (p : ℕ → Bool) (classes groups : List (List ℕ))
@@ -70,12 +71,12 @@ asked n = inBoth (n .standard) (n .user)
 pub record Ready (run : List ℕ) (n : Plan) (rows : List (List ℕ)) (values : List ℕ) (sets own classes groups : List (List ℕ)) (places : List ℕ) : Type 0 where
   pub slotted : Slotted run sets own (asked n) (n .slot)
   pub room : Room rows (n .used) (n .names) own (asked n) classes groups places
-  pub listed : (side : Side) × Listed values rows (n .used) (n .names) side
+  pub listed : (side : Side) × Listed values rows (n .used) (n .names) (n .legacy) side
 
 -- It answers for every meaning that the table of sets and such a side resolve.
 abbrev pub AnswersAll : List ℕ → Plan → List (List ℕ) → List ℕ → List (List ℕ) → List (List ℕ) → List ℕ → Exported → Type 0
 AnswersAll run n rows values sets own buffer x =
-    (m : Meaning) (side : Side) → Listed values rows (n .used) (n .names) side → Resolves m run sets own (asked n) (n .slot) side
+    (m : Meaning) (side : Side) → Listed values rows (n .used) (n .names) (n .legacy) side → Resolves m run sets own (asked n) (n .slot) side
     → x ≡ answered (n .measuring) (export m) buffer
 
 -- Tables of which so many classes and groups are filled, and an export can be written from these. Nothing is written yet.

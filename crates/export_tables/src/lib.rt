@@ -16,12 +16,14 @@ use replies::Written;
 use rules::Names;
 use srlg_table::Used;
 
-// What an export goes by: the applications that are named, in masks as sent; whom the side of the SRLGs names; how much of their sources is used; how many slots there are, and which is that
-// of RSVP-TE's set; and whether the length alone is asked for.
+// What an export goes by: the applications that are named, in masks as sent; whom the side of the SRLGs names, and whether its legacy attributes have a value of
+// the kinds of applications; how much of the sources of SRLGs is used; how many slots there are, and which is that of RSVP-TE's set; and whether the length
+// alone is asked for.
 pub struct Plan {
     pub standard: u64,
     pub user: u64,
     pub names: Names,
+    pub legacy: bool,
     pub used: Used,
     pub slots: usize,
     pub slot: usize,
@@ -116,7 +118,9 @@ fn export_slots(
     requires { ⌜ Ready (now run) n (now rows) (now values) (now sets) (now own) (now classes) (now groups) (now places) ⌝ }
     ensures { λ q. ⌜ AnswersAll (now (run .entry)) n (now (rows .entry)) (now (values .entry)) (now (sets .entry)) (now (own .entry)) (now (out .entry)) (toldExported q (now (out .exit))) ⌝ }
 {
-    let k = srlg_classes::classify(rows, n.used, n.standard, n.user, n.names, classes, own);
+    let k = srlg_classes::classify(
+        rows, n.used, n.standard, n.user, n.names, n.legacy, classes, own,
+    );
     let count = group(run, sets, own, n.standard, n.user, k.general, groups);
     let t = Parts {
         classes: k.count,

@@ -8,7 +8,7 @@ use borrow.Author.Tests.{ltb-false, eqb-true, leb-true}
 use lib.Dec.{eqb, leb, ltb}
 use lib.ListN.{length, take, length-take}
 use Rattle.linkstate.specs.Attributes.{srlgs}
-use Rattle.linkstate.specs.Sides.{Side, names, ofLive, generalSet}
+use Rattle.linkstate.specs.Sides.{Side, names, ofLive, generalSet, hasLegacy}
 use Rattle.linkstate.specs.Replies.{accepted, refused, Exported}
 use Rattle.linkstate.specs.Meaning.{meaning}
 use Rattle.linkstate.specs.Export.{export}
@@ -30,7 +30,7 @@ use Rattle.export_bytes.specs.Whole.{answered}
 use Rattle.isis_check.specs.declared.Sides.{Sides}
 use Rattle.isis_check.specs.declared.LinkChecked.{LinkChecked}
 use Rattle.isis_check.specs.declared.LinkChecked.the-variants.{Refused, Accepted}
-use Rattle.isis_check.specs.Sides.{toldLink, NamedSides, ChecksLink}
+use Rattle.isis_check.specs.Sides.{toldLink, OfSides, NamedSides, ChecksLink}
 use Rattle.isis_srlg_index.specs.declared.Indexed.{Indexed}
 use Rattle.isis_srlg_index.specs.Sources.{Indexes}
 use Rattle.isis_export.specs.declared.Link.{Link}
@@ -38,20 +38,21 @@ use Rattle.isis_export.specs.Stages.{PassedA, Passed, Joined, InUse, Rea
 
 -- ---- a link that passed its checks
 
-passed : (a b c : List ℕ) (s : Sides) → linkVerdict a b c ≡ accepted → Tells ((sideA a) .live) (s .a) → Tells ((sideB b c) .live) (s .b) → Passed a b c s
+passed : (a b c : List ℕ) (s : Sides) → linkVerdict a b c ≡ accepted → OfSides s a b c → Passed a b c s
 unfolding linkVerdict
-passed a b c s h x y =
+passed a b c s h x =
     let long = unrefused (ltb 2048 (length a) || ltb 2048 (length b) || ltb 1024 (length c)) 1 (then-first _ _ h) in
     let ab = or-l (ltb 2048 (length a) || ltb 2048 (length b)) (ltb 1024 (length c)) long in
     let rest = then-second _ _ (then-second _ _ h) in
     record {
-      sideA = record { passed = then-first _ _ rest; short = ltb-false 2048 (length a) (or-l (ltb 2048 (length a)) (ltb 2048 (length b)) ab); names = x };
+      sideA = record { passed = then-first _ _ rest; short = ltb-false 2048 (length a) (or-l (ltb 2048 (length a)) (ltb 2048 (length b)) ab); names = x .inA; old = x .oldA };
       runB = then-second _ _ rest;
       short = (
         ltb-false 2048 (length b) (or-r (ltb 2048 (length a)) (ltb 2048 (length b)) ab),
         ltb-false 1024 (length c) (or-r (ltb 2048 (length a) || ltb 2048 (length b)) (ltb 1024 (length c)) long),
       );
-      names = y;
+      names = x .inB;
+      old = x .oldB;
     }
 
 -- By what the checks answer.
@@ -63,7 +64,7 @@ module _ {a b c : List ℕ} {r : LinkChecked} (k : ChecksLink a b c r) where
   verdict-accepted s e = sym (k .told) ∙ ap toldLink e
 
   pub sides-passed : (s : Sides) → r ≡ Accepted s → Passed a b c s
-  sides-passed s e = let n = subst (λ (x : LinkChecked). NamedSides x a b c) e (k .names) in passed a b c s (verdict-accepted s e) (n .0) (n .1)
+  sides-passed s e = passed a b c s (verdict-accepted s e) (subst (λ (x : LinkChecked). NamedSides x a b c) e (k .names))
 
 -- Two lengths tested at once.
 empty : (xs : List ℕ) → length xs ≡ 0 → xs ≡ []
@@ -90,11 +91,11 @@ both-short x y i j t = (leb-true x i (and-l (leb x i) (leb y j) t), leb-true y j
 -- ---- its SRLGs
 
 module _ {side : Side} {values : List ℕ} {rows : List (List ℕ)} {r : Indexed} (is : Indexes side values rows r) where
-  pub listed : {named : Names} → Tells (side .live) named
-      → Listed (take (r .count) values) rows (record { words = (r .count + 63) / 64; sources = r .sources }) named side
-  listed t =
+  pub listed : {named : Names} {x : Bool} → Tells (side .live) named → x ≡ hasLegacy side
+      → Listed (take (r .count) values) rows (record { words = (r .count + 63) / 64; sources = r .sources }) named x side
+  listed t o =
       let l = length-take (r .count) values in
-      record { most = omega (arith, l, is .few); small = is .small; words = omega (arith, l, is .few); sourced = is .sourced; tells = t }
+      record { most = omega (arith, l, is .few); small = is .small; words = omega (arith, l, is .few); sourced = is .sourced; tells = t; old = o }
 
   pub in-use : InUse rows (record { words = (r .count + 63) / 64; sources = r .sources })
   in-use = record { words = omega (arith, is .few); sources = is .used }
@@ -112,10 +113,10 @@ none-legacy : srlgs ((sideB [] []) .legacy) ≡ []
 unfolding computing
 none-legacy = refl
 
-pub listed-none : {rows : List (List ℕ)} {named : Names} → Tells ((sideB [] []) .live) named
-    → Listed [] rows (record { words = 0; sources = 0 }) named (sideB [] [])
+pub listed-none : {rows : List (List ℕ)} {named : Names} {x : Bool} → Tells ((sideB [] []) .live) named → x ≡ hasLegacy (sideB [] [])
+    → Listed [] rows (record { words = 0; sources = 0 }) named x (sideB [] [])
 unfolding picked keepFrom ascending
-listed-none t =
+listed-none t o =
     record {
       most = omega arith;
       small = λ i. omega arith;
@@ -130,6 +131,7 @@ listed-none t =
             bare = λ e. sym none-legacy;
           };
       tells = t;
+      old = o;
     }
 
 -- ---- both
@@ -138,13 +140,14 @@ pub as-asked : {m n : Bool} → m ≡ n → (x : Exported) (result buffer : List
 as-asked h x result buffer e = e ∙ ap (λ (t : Bool). answered t result buffer) h
 
 module _ {a b c : List ℕ} {s : Sides} {used : Used} {measuring : Bool} {n : Link} {rows : List (List ℕ)} {values : List ℕ} where
-  pub ready : Passed a b c s → Joined s used measuring n → Listed values rows used (s .b) (sideB b c) → (0 < used .words → InUse rows used)
+  pub ready : Passed a b c s → Joined s used measuring n → Listed values rows used (s .b) (s .legacyb) (sideB b c) → (0 < used .words → InUse rows used)
       → Ready a b c n rows values
   ready p j l w =
       record {
-        passed = subst (PassedA a) (sym (j .of .0)) (p .sideA);
+        passed = subst (PassedA a (n .a)) (sym (j .of .4)) (subst (λ (m : Names). PassedA a m (s .legacya)) (sym (j .of .0)) (p .sideA));
         joined = j .both;
-        listed = subst (λ (u : Used). Listed values rows u (n .b) (sideB b c)) (sym (j .of .2))
-            (subst (λ (m : Names). Listed values rows used m (sideB b c)) (sym (j .of .1)) l);
+        listed = subst (λ (u : Used). Listed values rows u (n .b) (n .legacyb) (sideB b c)) (sym (j .of .2))
+            (subst (λ (m : Names). Listed values rows used m (n .legacyb) (sideB b c)) (sym (j .of .1))
+            (subst (λ (x : Bool). Listed values rows used (s .b) x (sideB b c)) (sym (j .of .5)) l));
         used = subst (λ (u : Used). 0 < u .words → InUse rows u) (sym (j .of .2)) w;
       }

@@ -7,6 +7,7 @@ use lib.ListN.{length, getD, replicate}
 use Rattle.linkstate.specs.Limits.{mostSources}
 use Rattle.linkstate.specs.Replies.{accepted, runA, runB, Exported}
 use Rattle.linkstate.specs.Elements.{elements, faults}
+use Rattle.linkstate.specs.Sides.{hasLegacy}
 use Rattle.rules.specs.declared.Names.{Names}
 use Rattle.rules.specs.Names.{Tells}
 use Rattle.masks.specs.Applications.{inBoth}
@@ -22,22 +23,24 @@ use Rattle.isis_check.specs.declared.Sides.{Sides}
 use Rattle.isis_export.specs.declared.Link.{Link}
 use Rattle.isis_export.specs.Answers.{acceptedLink}
 
--- R9, W2, W3. A run A that passed its checks, and whom it names.
-pub record PassedA (a : List ℕ) (named : Names) : Type 0 where
+-- R9, W2, W3, E2a. A run A that passed its checks, whom it names, and whether its legacy attributes have a value of the eleven kinds.
+pub record PassedA (a : List ℕ) (named : Names) (x : Bool) : Type 0 where
   pub passed : faults runA checkA (elements 1 0 a) ≡ accepted
   pub short : length a ≤ 2048
   pub names : Tells ((sideA a) .live) named
+  pub old : x ≡ hasLegacy (sideA a)
 
 -- The same of a link.
 pub record Passed (a b c : List ℕ) (s : Sides) : Type 0 where
-  pub sideA : PassedA a (s .a)
+  pub sideA : PassedA a (s .a) (s .legacya)
   pub runB : faults runB checkB (elements 1 0 b) ≡ accepted
   pub short : (length b ≤ 2048) × (length c ≤ 1024)
   pub names : Tells ((sideB b c) .live) (s .b)
+  pub old : s .legacyb ≡ hasLegacy (sideB b c)
 
--- W1, L19. What an export goes by: whom its sides name, and whom either does.
+-- W1, L19. What an export goes by: what its sides tell, and whom either names.
 pub record Joined (s : Sides) (used : Used) (measuring : Bool) (n : Link) : Type 0 where
-  pub of : (n .a ≡ s .a) × (n .b ≡ s .b) × (n .used ≡ used) × (n .measuring ≡ measuring)
+  pub of : (n .a ≡ s .a) × (n .b ≡ s .b) × (n .used ≡ used) × (n .measuring ≡ measuring) × (n .legacya ≡ s .legacya) × (n .legacyb ≡ s .legacyb)
   pub both : (i : ℕ) → inBoth (n .standard) (n .user) i ≡ inBoth (n .a .standard) (n .a .user) i || inBoth (n .b .standard) (n .b .user) i
 
 -- How much of the sources of SRLGs is used: rows of 16 words of bits, two sources at least.
@@ -47,9 +50,9 @@ pub record InUse (rows : List (List ℕ)) (used : Used) : Type 0 where
 
 -- Run A of such a link, with the SRLGs of its side B listed.
 pub record Ready (a b c : List ℕ) (n : Link) (rows : List (List ℕ)) (values : List ℕ) : Type 0 where
-  pub passed : PassedA a (n .a)
+  pub passed : PassedA a (n .a) (n .legacya)
   pub joined : (i : ℕ) → inBoth (n .standard) (n .user) i ≡ inBoth (n .a .standard) (n .a .user) i || inBoth (n .b .standard) (n .b .user) i
-  pub listed : Listed values rows (n .used) (n .b) (sideB b c)
+  pub listed : Listed values rows (n .used) (n .b) (n .legacyb) (sideB b c)
   pub used : 0 < n .used .words → InUse rows (n .used)
 
 -- It is so of some runs B and C; and of all such the answer is theirs.

@@ -21,10 +21,12 @@ use replies::Written;
 use rules::Names;
 use srlg_table::Used;
 
-// Whom the sides of a link name, and whom either does, in masks as sent; how much of the sources of its SRLGs is used; and whether the length alone is asked for.
+// Whom the sides of a link name, and whom either does, in masks as sent; whether their legacy attributes have a value of the kinds of applications; how much of the sources of its SRLGs is used; and whether the length alone is asked for.
 struct Link {
     a: Names,
     b: Names,
+    legacya: bool,
+    legacyb: bool,
     standard: u64,
     user: u64,
     used: Used,
@@ -41,25 +43,32 @@ struct Slots {
 fn index_slots(
     a: &[u8],
     named: Names,
+    legacy: bool,
     sets: &mut [[u32; 12]],
     count: usize,
     own: &mut [[u8; 2]; 128],
 ) -> usize
-    requires { ⌜ PassedA (now a) named × (count ≤ length (now sets)) × Started named (take count (now sets)) (now own) ⌝ }
+    requires { ⌜ PassedA (now a) named legacy × (count ≤ length (now sets)) × Started named (take count (now sets)) (now own) ⌝ }
     ensures { λ r. ⌜ Indexed (now (a .entry)) (take count (now (sets .exit))) (now (own .exit)) r ⌝ }
 {
-    isis_index::index_a(a, named, &mut sets[0..count], own)
+    isis_index::index_a(a, named, legacy, &mut sets[0..count], own)
 }
 
 // The table of sets: a slot for whom run A names, and then its walk.
-fn fill_sets(a: &[u8], named: Names, sets: &mut [[u32; 12]], own: &mut [[u8; 2]; 128]) -> Slots
-    requires { ⌜ PassedA (now a) named × Unowned (now own) × (3 + howMany (inBoth (named .standard) (named .user)) 128 ≤ length (now sets)) × (length (now sets) ≤ 256) ⌝ }
+fn fill_sets(
+    a: &[u8],
+    named: Names,
+    legacy: bool,
+    sets: &mut [[u32; 12]],
+    own: &mut [[u8; 2]; 128],
+) -> Slots
+    requires { ⌜ PassedA (now a) named legacy × Unowned (now own) × (3 + howMany (inBoth (named .standard) (named .user)) 128 ≤ length (now sets)) × (length (now sets) ≤ 256) ⌝ }
     ensures { λ r. ⌜ (r .count ≤ length (now (sets .exit))) × Indexed (now (a .entry)) (take (r .count) (now (sets .exit))) (now (own .exit)) (r .rsvp) ⌝ }
 {
     let standard = masks::turned(named.standard);
     let user = masks::turned(named.user);
     let count = set_table::assign_slots(standard, user, own, sets);
-    let rsvp = index_slots(a, named, sets, count, own);
+    let rsvp = index_slots(a, named, legacy, sets, count, own);
     Slots { count, rsvp }
 }
 
@@ -79,13 +88,14 @@ fn export_with(
     ensures { λ q. ⌜ AnswersAll (now (a .entry)) n (now (rows .entry)) (now (values .entry)) (now (out .entry)) (toldExported q (now (out .exit))) ⌝ }
 {
     let mut own = [[0u8; 2]; 128];
-    let s = fill_sets(a, n.a, sets, &mut own);
+    let s = fill_sets(a, n.a, n.legacya, sets, &mut own);
     let names = n.b;
     let used = n.used;
     let t = Plan {
         standard: n.standard,
         user: n.user,
         names,
+        legacy: n.legacyb,
         used,
         slots: s.count,
         slot: s.rsvp,
@@ -185,6 +195,8 @@ fn link_of(s: Sides, used: Used, measuring: bool) -> Link
     Link {
         a,
         b,
+        legacya: s.legacya,
+        legacyb: s.legacyb,
         standard,
         user,
         used,

@@ -88,4 +88,4 @@ module _ (k t : ℕ) (is : codeOfType t ≡ k) where
   -- the row that was looked for by the type is that of what the subject is given
   pub row-given : (a b c : List ℕ) (whom : Subject) (m : Names) (x : Bool) → AskedInA a whom k m x → (r : Rule) → takenBy r k (sideA a) ≡ givenOn whom k (sideA a)
       → (row : List ℕ) → row ≡ rowOf (codeOfType t) (takenBy r (codeOfType t) (sideA a)) → row ≡ rowOf k (given (linkSource a b c) whom k)
-  row-given a b c whom m q r e row h = h ∙ ap (λ (x : ℕ). rowOf x (takenBy r x (sideA a))) is ∙ ap (rowOf k) (e ∙ sym (given-in-a a b c whom k (q .other)))
+  row-given a b c whom m x q r e row h = h ∙ ap (λ (x : ℕ). rowOf x (takenBy r x (sideA a))) is ∙ ap (rowOf k) (e ∙ sym (given-in-a a b c whom k (q .other)))

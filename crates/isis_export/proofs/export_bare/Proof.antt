@@ -19,7 +19,7 @@ export-listed-requires : tie.Need-export-listed-requires
 export-listed-requires c κs =
     let k = c .before .before .before in
     let p = k .before .before .before .pre in
-    (omega arith, ([], [], ready p (k .link-of .ensures) (listed-none (p .names)) (λ h. absurd (omega arith))))
+    (omega arith, ([], [], ready p (k .link-of .ensures) (listed-none (p .names) (p .old)) (λ h. absurd (omega arith))))
 
 same-length : tie.Need-same-length
 same-length c = search needs
@@ -30,7 +30,7 @@ returns c =
     let k = q .before .before .before .before in
     let p = k .before .before .before .pre in
     as-asked (k .link-of .ensures .of .3) _ _ _
-    (q .export-listed .ensures [] [] (ready p (k .link-of .ensures) (listed-none (p .names)) (λ h. absurd (omega arith))))
+    (q .export-listed .ensures [] [] (ready p (k .link-of .ensures) (listed-none (p .names) (p .old)) (λ h. absurd (omega arith))))
 
 pub export-bare-spec : {M : Type 1} → statement M
 export-bare-spec =

@@ -26,7 +26,7 @@ export-listed-requires c κs =
     let k = indexed l in
     let p = start k .pre .0 in
     let is = k .index-srlgs .ensures in
-    (is .few .1, (_, _, ready p (l .link-of .ensures) (listed is (p .names)) (λ h. in-use is)))
+    (is .few .1, (_, _, ready p (l .link-of .ensures) (listed is (p .names) (p .old)) (λ h. in-use is)))
 
 same-length : tie.Need-same-length
 same-length c = search needs
@@ -47,7 +47,7 @@ returns c =
     let k = indexed l in
     let p = start k .pre .0 in
     let is = k .index-srlgs .ensures in
-    as-asked (l .link-of .ensures .of .3) _ _ _ (q .export-listed .ensures _ _ (ready p (l .link-of .ensures) (listed is (p .names)) (λ h. in-use is)))
+    as-asked (l .link-of .ensures .of .3) _ _ _ (q .export-listed .ensures _ _ (ready p (l .link-of .ensures) (listed is (p .names) (p .old)) (λ h. in-use is)))
 
 pub export-keys-spec : {M : Type 1} → statement M
 export-keys-spec =

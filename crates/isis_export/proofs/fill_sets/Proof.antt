@@ -54,7 +54,7 @@ same-length c = search needs
 returns : tie.Need-returns
 returns c =
     let q = c .before in
-    (omega (arith, room (q .before .before .before .before), q .index-slots .kept .1 .1 .0), q .index-slots .ensures)
+    (omega (arith, room (q .before .before .before .before), q .index-slots .kept .1 .1 .1 .0), q .index-slots .ensures)
 
 pub fill-sets-spec : {M : Type 1} → statement M
 fill-sets-spec =

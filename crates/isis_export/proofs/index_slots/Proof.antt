@@ -26,7 +26,7 @@ index-a-requires c κs =
     let s = c .before .before .before in
     let p = s .pre in
     let a = p .0 in
-    rw (front-is (s .args .count) (now (s .args .sets))) (a .passed, omega (arith, a .short), a .names, p .2)
+    rw (front-is (s .args .count) (now (s .args .sets))) (a .passed, omega (arith, a .short), a .names, a .old, p .2)
 
 same-length : tie.Need-same-length
 same-length c = search needs
@@ -37,9 +37,9 @@ returns c =
     let s = q .before .before .before .before in
     let n = s .args .count in
     let sets = now (s .args .sets) in
-    let e = q .index-a .kept .1 .1 .0 ∙ ap length (front-is n sets) ∙ length-take-le n sets (s .pre .1) in
-    subst (λ (x : List (List ℕ)). Indexed (now (s .args .a)) x (q .index-a .last .1 .1 .1 .0) (q .index-a .result))
-    (sym (take-at (q .index-a .last .1 .1 .0) _ n e)) (q .index-a .ensures)
+    let e = q .index-a .kept .1 .1 .1 .0 ∙ ap length (front-is n sets) ∙ length-take-le n sets (s .pre .1) in
+    subst (λ (x : List (List ℕ)). Indexed (now (s .args .a)) x (q .index-a .last .1 .1 .1 .1 .0) (q .index-a .result))
+    (sym (take-at (q .index-a .last .1 .1 .1 .0) _ n e)) (q .index-a .ensures)
 
 pub index-slots-spec : {M : Type 1} → statement M
 index-slots-spec =

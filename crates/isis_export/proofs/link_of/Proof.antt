@@ -12,7 +12,7 @@ joined-requires-2 : tie.Need-joined-requires-2
 joined-requires-2 c κs = search needs
 
 returns : tie.Need-returns
-returns c = record { of = (refl, refl, refl, refl); both = in-joined _ _ _ _ _ _ (c .before .joined .ensures) (c .joined2 .ensures) }
+returns c = record { of = (refl, refl, refl, refl, refl, refl); both = in-joined _ _ _ _ _ _ (c .before .joined .ensures) (c .joined2 .ensures) }
 
 pub link-of-spec : {M : Type 1} → statement M
 link-of-spec = tie.close (tie.spec joined-requires joined-requires-2 returns)
