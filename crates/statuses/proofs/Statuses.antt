@@ -17,7 +17,7 @@ use Rattle.linkstate.specs.Questions.{Source, Subject, generally, standardNo, u
 use Rattle.linkstate.specs.BgpLs as L
 use Rattle.linkstate.specs.BgpLs.{runVerdict, runSource}
 use Rattle.linkstate.specs.Masks.{user, asNumber}
-use Rattle.linkstate.specs.Sides.{Advertisement, names, named, namedWithL, ofLive, rsvpTeAlone}
+use Rattle.linkstate.specs.Sides.{Advertisement, names, named, namedWithL, takesGeneral, ofLive, rsvpTeAlone}
 use Rattle.linkstate.specs.Why.{Rule, Holder, Why, because, whyRefused, Standing, has, legacyWhy, applicationWhy, rsvpTeWhy, subjectWhy, carriedWhy, bandwidthWhy, unlessAskRefused}
 use Rattle.linkstate.specs.RunWhy.{runWhy, topWhy, standRun}
 use Rattle.linkstate.specs.Meaning.{meaning}
@@ -192,7 +192,9 @@ module _ (k : ℕ) (s : Standing) where
 
   ruled-rsvp-te : Ruled (rsvpTeWhy k s)
   unfolding rsvpTeWhy legacyWhy
-  ruled-rsvp-te = ruled-cond (namedWithL 0 (s .side)) _ _ ruled (ruled-cond (has k (ofLive (names 0) (s .side))) _ _ ruled ruled)
+  ruled-rsvp-te =
+      ruled-cond (takesGeneral (s .side)) _ _ ruled
+      (ruled-cond (namedWithL 0 (s .side)) _ _ ruled (ruled-cond (has k (ofLive (names 0) (s .side))) _ _ ruled ruled))
 
   ruled-subject : (x : Why) → Ruled x → (whom : Subject) → Ruled (subjectWhy x whom k s)
   unfolding subjectWhy

@@ -23,7 +23,7 @@ no-words-requires c κs = search needs
 returns : tie.Need-returns
 returns c = let q = c .before .before .before .before in
     λ b d. c .no-words .ensures ∙ row-not-placed (q .args .a .now) (place runA) (q .args .code) (c .before .before .find-row .result) _
-    (sym (row-answers _ _ _ _ (q .pre) b d _ (c .before .before .find-row .ensures b d) _ refl)) (c .before .if1 .taken)
+    (sym (row-answers _ _ _ _ _ (q .pre) b d _ (c .before .before .find-row .ensures b d) _ refl)) (c .before .if1 .taken)
 
 place-words-requires : tie.Need-place-words-requires
 place-words-requires c κs = search needs

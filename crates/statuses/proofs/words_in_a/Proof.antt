@@ -28,18 +28,18 @@ returns : tie.Need-returns
 unfolding linkSource
 returns c = let q = c .before .before .before .before in let a = q .args in
     λ b d list e. asked-first (linkSource (a .a .now) b d) (subjectOf (a .whom)) (a .code) list e (eqb-false (a .code) 1096 (q .pre .other)) absent
-    (sym (row-answers _ _ _ _ (q .pre) b d _ (c .before .before .find-row .ensures b d) absent
+    (sym (row-answers _ _ _ _ _ (q .pre) b d _ (c .before .before .find-row .ensures b d) absent
     (row-absent (a .a .now) (place runA) (a .code) _ _ (c .before .if1 .taken)))) _ (c .no-words .ensures)
 
 standing-words-requires : tie.Need-standing-words-requires
-standing-words-requires c κs = row-readable _ _ _ _ (c .before .before .before .pre) [] [] _ (c .before .find-row .ensures [] []) (c .if1 .left)
+standing-words-requires c κs = row-readable _ _ _ _ _ (c .before .before .before .pre) [] [] _ (c .before .find-row .ensures [] []) (c .if1 .left)
 
 returns-2 : tie.Need-returns-2
 unfolding linkSource
 returns-2 c = let q = c .before .before .before .before in let a = q .args in
     λ b d list e. let row = c .before .before .find-row .ensures b d in
     asked-row (linkSource (a .a .now) b d) (subjectOf (a .whom)) (a .code) list e (eqb-false (a .code) 1096 (q .pre .other)) (a .a .now) _ _
-    (sym (row-answers _ _ _ _ (q .pre) b d _ row _ refl)) (c .before .if1 .left) (row-part _ _ _ _ (q .pre) b d _ row (c .before .if1 .left)) _
+    (sym (row-answers _ _ _ _ _ (q .pre) b d _ row _ refl)) (c .before .if1 .left) (row-part _ _ _ _ _ (q .pre) b d _ row (c .before .if1 .left)) _
     (c .standing-words .ensures)
 
 pub words-in-a-spec : {M : Type 1} → statement M
