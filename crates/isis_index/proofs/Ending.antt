@@ -18,7 +18,7 @@ use Rattle.masks.specs.Sets.{turnedPlace}
 use Rattle.kinds.specs.Rules.{gridCodes}
 use Rattle.rules.specs.declared.Names.{Names}
 use Rattle.rules.specs.Names.{Tells}
-use Rattle.masks.specs.Applications.{inBoth, inPair}
+use Rattle.masks.specs.Applications.{inSet, atPlace}
 use Rattle.rules.proofs.NameLaws.{side-named, side-flagged}
 use Rattle.rules.specs.declared.Rule.{Rule}
 use Rattle.rules.specs.declared.Rule.the-variants.{ByL, Legacy, NamingFirst}
@@ -41,7 +41,7 @@ use Rattle.isis_index.specs.Settled.{settled, Settled, fromOld, slotBy, 
 use Rattle.isis_index.specs.Indexed.{Holds, Indexed}
 use Rattle.isis_index.proofs.Codes.{link-first, link-same}
 use Rattle.isis_index.proofs.Cells.{cell-append, place-low}
-use Rattle.isis_index.proofs.Pairs.{pair-both}
+use Rattle.masks.proofs.Sets.{place-set}
 use Rattle.isis_index.proofs.Settling.{first-again}
 use Rattle.isis_index.proofs.Values.{grid-code, cell-empty}
 use Rattle.isis_index.proofs.Slots.{Filled, filled-holds, filled-alike, link-values, settled-first, settled-second, settled-third}
@@ -87,11 +87,11 @@ pub record Done (a : List ℕ) (named : Names) (begun own middle ended given : L
   pub small : length a < 65536
   pub tells : Tells ((sideA a) .live) named
   pub started : Started named begun own
-  pub walk : Settled a own begun middle (inBoth (named .lstandard) (named .luser) 0)
+  pub walk : Settled a own begun middle (inSet (named .flagged) 0)
   pub rsvpTe : r ≡ rsvpTeSlot named own
   pub holds : Table a ended
   pub gets : Given middle ended (fromOld middle r)
-  pub gives : Gave own given (inPair (named .lstandard) (named .luser)) 1
+  pub gives : Gave own given (atPlace (named .flagged)) 1
 
 -- Attributes by another name.
 filled-as : {a : List ℕ} {table : List (List ℕ)} {s : ℕ} {f g : ℕ → List Attribute} → ((c : ℕ) → f c ≡ g c) → Filled a table s f → Filled a table s g
@@ -106,19 +106,19 @@ data Slot (named : Names) (own : List (List ℕ)) (r : ℕ) : Type 0 where
   old : r ≡ 1
       → ((k : ℕ) (s : Side) → takenBy (ruleBy named) k s ≡ s .legacy)
       → Slot named own r
-  first-own : r ≡ slotAt own 7 → inBoth (named .standard) (named .user) 0 ≡ true
+  first-own : r ≡ slotAt own 7 → inSet (named .named) 0 ≡ true
       → ((k : ℕ) (s : Side) → takenBy (ruleBy named) k s ≡ cond (empty (valueOf k (ofLive (names 0) s))) (s .legacy) (ofLive (names 0) s))
       → Slot named own r
 
 slot-is : (named : Names) (own : List (List ℕ)) (r : ℕ) → r ≡ rsvpTeSlot named own → Slot named own r
 unfolding rsvpTeRule takenBy
-slot-is named own r e = go (inBoth (named .lstandard) (named .luser) 0) refl (inBoth (named .standard) (named .user) 0) refl
+slot-is named own r e = go (inSet (named .flagged) 0) refl (inSet (named .named) 0) refl
   where
     -- by whether it is named with L and named
     rule : Bool → Bool → Rule
     rule l n = cond l ByL (cond n NamingFirst Legacy)
 
-    go : (l : Bool) → inBoth (named .lstandard) (named .luser) 0 ≡ l → (n : Bool) → inBoth (named .standard) (named .user) 0 ≡ n → Slot named own r
+    go : (l : Bool) → inSet (named .flagged) 0 ≡ l → (n : Bool) → inSet (named .named) 0 ≡ n → Slot named own r
     go true i n j = old (e ∙ ap₂ (λ (b d : Bool). slotBy (rule b d) (slotAt own 7)) i j) (λ k s. ap₂ (λ (b d : Bool). takenBy (rule b d) k s) i j)
     go false i true j = first-own (e ∙ ap₂ (λ (b d : Bool). slotBy (rule b d) (slotAt own 7)) i j) j (λ k s. ap₂ (λ (b d : Bool). takenBy (rule b d) k s) i j)
     go false i false j = old (e ∙ ap₂ (λ (b d : Bool). slotBy (rule b d) (slotAt own 7)) i j) (λ k s. ap₂ (λ (b d : Bool). takenBy (rule b d) k s) i j)
@@ -132,11 +132,11 @@ module _ {a : List ℕ} {m : Names} {begun own middle ended given : List (List �
   side = sideA a
 
   abbrev l : Bool
-  l = inBoth (m .lstandard) (m .luser) 0
+  l = inSet (m .flagged) 0
 
   -- Whether application n is named.
   abbrev isNamed : ℕ → Bool
-  isNamed n = inBoth (m .standard) (m .user) n
+  isNamed n = inSet (m .named) n
 
   abbrev slot : ℕ → ℕ
   slot n = slotAt own (turnedPlace n)
@@ -379,7 +379,7 @@ module _ {a : List ℕ} {m : Names} {begun own middle ended given : List (List �
   unfolding slotOf
   given-slot n h =
       d .gives .slots (turnedPlace n) (place-low n h)
-      ∙ ap (λ (b : Bool). cond b 1 (slot n)) (pair-both (m .lstandard) (m .luser) n ∙ side-flagged side m (d .tells) n)
+      ∙ ap (λ (b : Bool). cond b 1 (slot n)) (place-set (m .flagged) n ∙ side-flagged side m (d .tells) n)
 
   few-slots : (n : ℕ) → n < 128 → slotOf given n < 256
   few-slots n h = subst (λ (s : ℕ). s < 256) (sym (given-slot n h)) (go (namedWithL n side) (isNamed n) refl)

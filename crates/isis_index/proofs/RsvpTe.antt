@@ -8,7 +8,7 @@ use native.Mathlib.Omega.{arith}
 use types.Run.{OneOf}
 use denote.Enum.Declared.{tagOf}
 use Rattle.rules.specs.declared.Names.{Names}
-use Rattle.masks.specs.Applications.{inBoth}
+use Rattle.masks.specs.Applications.{inSet}
 use Rattle.rules.specs.declared.Rule.{Rule}
 use Rattle.rules.specs.declared.Rule.the-variants.{ByL, Naming, General, Legacy, NamingFirst, AloneFirst, LegacyFirst}
 use Rattle.rules.specs.Rules.{rsvpTeRule}
@@ -35,14 +35,14 @@ first-named false true e = refl
 first-named false false e = let z : _≡_ {A = ℕ} 0 1 = cc in absurd (omega arith)
 
 -- As the code asks for the rule.
-module _ (named : Names) (owns : List (List ℕ)) (l n : Bool) (is : l ≡ inBoth (named .lstandard) (named .luser) 0) (iu : n ≡ inBoth (named .standard) (named .user) 0) (r : Rule) (e : r ≡ rsvpTeRule l n) where
+module _ (named : Names) (owns : List (List ℕ)) (l n : Bool) (is : l ≡ inSet (named .flagged) 0) (iu : n ≡ inSet (named .named) 0) (r : Rule) (e : r ≡ rsvpTeRule l n) where
   rule-is : r ≡ ruleBy named
   rule-is = e ∙ ap₂ rsvpTeRule is iu
 
   pub own-slot : r ≡ NamingFirst → slotAt owns 7 ≡ rsvpTeSlot named owns
   own-slot i = ap (λ (x : Rule). slotBy x (slotAt owns 7)) (sym i ∙ rule-is)
 
-  pub own-named : r ≡ NamingFirst → inBoth (named .standard) (named .user) 0 ≡ true
+  pub own-named : r ≡ NamingFirst → inSet (named .named) 0 ≡ true
   own-named i = sym iu ∙ first-named l n (sym e ∙ i)
 
   pub old-slot : OneOf (0 ∷ 1 ∷ 2 ∷ 3 ∷ 5 ∷ 6 ∷ []) (tagOf the-type r) → 1 ≡ rsvpTeSlot named owns

@@ -6,7 +6,7 @@ use Prim.Native.Nat.{ℕ}
 use lib.Dec.{eqb}
 use lib.ListN.{length, getD, set}
 use Rattle.rules.specs.declared.Names.{Names}
-use Rattle.masks.specs.Applications.{inBoth}
+use Rattle.masks.specs.Applications.{inSet}
 use Rattle.rules.specs.declared.Rule.{Rule}
 use Rattle.rules.specs.declared.Rule.the-variants.{ByL, Naming, General, Legacy, NamingFirst, AloneFirst, LegacyFirst}
 use Rattle.rules.specs.Rules.{rsvpTeRule}
@@ -45,7 +45,7 @@ slotBy LegacyFirst s = 1
 
 -- RSVP-TE's rule, by four masks.
 abbrev pub ruleBy : Names → Rule
-ruleBy named = rsvpTeRule (inBoth (named .lstandard) (named .luser) 0) (inBoth (named .standard) (named .user) 0)
+ruleBy named = rsvpTeRule (inSet (named .flagged) 0) (inSet (named .named) 0)
 
 abbrev pub rsvpTeSlot : Names → List (List ℕ) → ℕ
 rsvpTeSlot named owns = slotBy (ruleBy named) (slotAt owns 7)

@@ -18,7 +18,7 @@ use Rattle.replies.specs.declared.Subject.the-variants as W
 use Rattle.replies.specs.Told.{subjectOf}
 use Rattle.rules.specs.declared.Names.{Names}
 use Rattle.rules.specs.Names.{Tells}
-use Rattle.masks.specs.Applications.{inBoth}
+use Rattle.masks.specs.Applications.{inSet}
 use Rattle.rules.proofs.NameLaws.{side-named, side-flagged}
 use Rattle.rules.specs.declared.Rule.{Rule}
 use Rattle.rules.specs.declared.Rule.the-variants.{ByL, Naming, General, Legacy, NamingFirst, AloneFirst, LegacyFirst}
@@ -140,7 +140,7 @@ rule-takes whom k s r e = ap (λ (x : Rule). takenBy x k s) e ∙ rule-taken who
 
 -- ---- with names that were told: l and y are what the masks say of n
 
-module _ (s : Side) (m : Names) (t : Tells (s .live) m) (n : ℕ) (l y : Bool) (p : l ≡ inBoth (m .lstandard) (m .luser) n) (q : y ≡ inBoth (m .standard) (m .user) n) (r : Rule) where
+module _ (s : Side) (m : Names) (t : Tells (s .live) m) (n : ℕ) (l y : Bool) (p : l ≡ inSet (m .flagged) n) (q : y ≡ inSet (m .named) n) (r : Rule) where
   is-l : l ≡ namedWithL n s
   is-l = p ∙ side-flagged s m t n
 

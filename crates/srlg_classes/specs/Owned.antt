@@ -8,6 +8,7 @@ use lib.ListN.{length, getD}
 use Rattle.linkstate.specs.Limits.{mostSources}
 use Rattle.linkstate.specs.Lists.{numbers, any}
 use Rattle.linkstate.specs.Masks.{inNumber}
+use Rattle.masks.specs.declared.Applications.{Applications}
 use Rattle.rules.specs.declared.Names.{Names}
 use Rattle.srlg_ranks.specs.Ranks.{inWords}
 use Rattle.srlg_sources.specs.Classes.{inClass}
@@ -42,7 +43,7 @@ without s u t v a = inWords (s ∷ u ∷ []) a && not (inWords (t ∷ v ∷ []) 
 
 -- The applications that are named, and not with L.
 unfoldable pub plain : Names → ℕ → Bool
-plain named a = without (named .standard) (named .user) (named .lstandard) (named .luser) a
+plain named a = without (named .named .standard) (named .named .user) (named .flagged .standard) (named .flagged .user) a
 
 -- Whether an advertisement that names the application of bit a has the number at place i: one of the sources below n.
 unfoldable pub inNamed : List (List ℕ) → ℕ → ℕ → ℕ → Bool
@@ -80,20 +81,20 @@ pub record NamedOwn (rows : List (List ℕ)) (m words : ℕ) (named : Names) (cl
   pub outside : (a : ℕ) → a < 128 → plain named a ≡ false → classAt own a ≡ classAt own₀ a
 
 -- The applications that nothing names have the general class, and those that are named with L the legacy class.
-pub record FirstOwn (standard user : ℕ) (named : Names) (first : First) (own after : List (List ℕ)) : Type 0 where
+pub record FirstOwn (who : Applications) (named : Names) (first : First) (own after : List (List ℕ)) : Type 0 where
   pub slots : Slots own after
-  pub flagged : (a : ℕ) → a < 128 → inWords (named .lstandard ∷ named .luser ∷ []) a ≡ true → classAt after a ≡ first .legacy
-  pub others : (a : ℕ) → a < 128 → inWords (named .lstandard ∷ named .luser ∷ []) a ≡ false → without standard user (named .standard) (named .user) a ≡ true → classAt after a ≡ first .general
+  pub flagged : (a : ℕ) → a < 128 → inWords (named .flagged .standard ∷ named .flagged .user ∷ []) a ≡ true → classAt after a ≡ first .legacy
+  pub others : (a : ℕ) → a < 128 → inWords (named .flagged .standard ∷ named .flagged .user ∷ []) a ≡ false → without (who .standard) (who .user) (named .named .standard) (named .named .user) a ≡ true → classAt after a ≡ first .general
 
 -- The class of RSVP-TE, whose bit is the eighth of a standard mask as sent.
 unfoldable pub rsvpClass : Names → List (List ℕ) → ℕ → ℕ
 rsvpClass named own legacy =
-    cond (inNumber (named .lstandard) 7) legacy (cond (inNumber (named .standard) 7) (cond (eqb (classAt own 7) 0) legacy (classAt own 7)) legacy)
+    cond (inNumber (named .flagged .standard) 7) legacy (cond (inNumber (named .named .standard) 7) (cond (eqb (classAt own 7) 0) legacy (classAt own 7)) legacy)
 
 -- What the tables must have room for: three classes, and one for each application that is named.
 pub record Roomy (rows : List (List ℕ)) (used : Used) (named : Names) (classes own : List (List ℕ)) : Type 0 where
   pub words : used .words ≤ 16
   pub sources : (2 ≤ used .sources) × (used .sources ≤ mostSources) × (used .sources ≤ length rows)
-  pub room : 3 + sizeOf (inWords (named .standard ∷ named .user ∷ [])) ≤ length classes
+  pub room : 3 + sizeOf (inWords (named .named .standard ∷ named .named .user ∷ [])) ≤ length classes
   pub few : length classes ≤ 131
   pub whole : length own ≡ 128
