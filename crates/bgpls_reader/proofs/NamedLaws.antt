@@ -1,29 +1,29 @@
--- Masks of 1122s joined as numbers, against the applications that are named.
+-- The masks of 1122s joined, against the applications that are named.
 use mathlib.Core.Path.{_≡_, refl, sym, ap, ap₂, _∙_}
 use mathlib.Core.Bool.{Bool, true, false, _&&_, _||_, not, and-true, and-false, or-false, or-assoc}
 use mathlib.Core.List.{List, [], _∷_}
 use Prim.Native.Nat.{ℕ, zero, suc, _+_, _-_, _^_, _≤_, _<_}
 use native.Mathlib.Omega.{arith}
-use native.Mathlib.Nat.{zero-div, div-eq-of-lt}
-use borrow.Author.Tests.{lt-ltb, le-ltb, eqb-true, ne-eqb}
+use native.Mathlib.Nat.{div-eq-of-lt}
+use borrow.Author.Tests.{le-ltb, eqb-true, ne-eqb}
 use lib.Dec.{eqb}
 use lib.ListN.{take, drop}
 use Rattle.linkstate.specs.Lists.{keep, each, any, member}
 use Rattle.linkstate.specs.Bytes.{bytesAt}
-use Rattle.linkstate.specs.Masks.{bit, user, inMasks, asNumber, inNumber, others}
+use Rattle.linkstate.specs.Masks.{user, inMasks, asNumber, inNumber, others}
 use Rattle.linkstate.specs.Elements.{elements}
 use Rattle.linkstate.specs.Sides.{Advertisement, names, named}
 use Rattle.linkstate.specs.BgpLs.{sabmLength, udabmLength, isMaskLength, notIgnored, advertisement, advertisementsOf, aslas, runSide, runSource}
 use Rattle.octets.proofs.Laws.{part-is}
-use Rattle.masks.specs.Sets.{turnedPlace, inSent}
 use Rattle.masks.proofs.Laws.{is-number}
 use Rattle.linkstate.proofs.ListLaws.{and-l, and-r}
 use Rattle.rivals.proofs.KindLaws.{standard-other, user-other}
 use Rattle.bgpls_find.specs.declared.Set.the-variants.{Every}
 use Rattle.bgpls_find.specs.Sets.{chosen, chosenBy}
 use Rattle.bgpls_find.specs.Walks.{aslasFrom, standardMask, userMask, IsAsla}
-use Rattle.bgpls_reader.specs.declared.NamedMasks.{NamedMasks}
-use Rattle.bgpls_reader.specs.Joined.{HoldSent, HoldBoth}
+use Rattle.masks.specs.declared.Applications.{Applications}
+use Rattle.masks.specs.Applications.{inSet, atPlace}
+use Rattle.masks.proofs.Sets.{place-low, place-high, set-none}
 
 -- ---- one 1122
 
@@ -45,18 +45,18 @@ pub user-small : (v : List ℕ) → notIgnored v ≡ true → udabmLength v ≤ 
 unfolding notIgnored
 user-small v h = mask-small (udabmLength v) (and-r (isMaskLength (sabmLength v)) (isMaskLength (udabmLength v)) h)
 
--- The number j holds those of a, and those of the mask q, whose part p was read as b.
-pub join-one : (a b j : ℕ) (p q : List ℕ) → ((n : ℕ) → inNumber j n ≡ inNumber a n || inNumber b n) → ((n : ℕ) → inSent b n ≡ bit p n) → p ≡ q
-    → (n : ℕ) → n < 64 → inSent j n ≡ inSent a n || bit q n
-join-one a b j p q both e f n h = both (turnedPlace n) ∙ ap (λ (x : Bool). inSent a n || x) (e n ∙ ap (λ (l : List ℕ). bit l n) f)
+-- The masks as they are read.
+pub masks-read : (v : List ℕ) (s u : ℕ) (m j : Applications) → s ≡ sabmLength v → u ≡ udabmLength v
+    → ((n : ℕ) → inSet j n ≡ inSet m n || inMasks (take s (drop 4 v)) (take u (drop (4 + s) v)) n)
+    → (n : ℕ) → inSet j n ≡ inSet m n || inMasks (standardMask v) (userMask v) n
+unfolding standardMask userMask
+masks-read v s u m j e f h n = h n ∙ ap₂ (λ (x y : ℕ). inSet m n || inMasks (take x (drop 4 v)) (take y (drop (4 + x) v)) n) e f
 
 -- ---- from a position on
 
--- The masks hold what is named before it: with what is named from it on, that is all.
-abbrev pub Held : NamedMasks → List ℕ → ℕ → Type 0
-Held m r from =
-    (k : ℕ) → k < 64 → ((inSent (m .standard) k || any (names k) (aslasFrom Every r from)) ≡ any (names k) (aslas r))
-    × ((inSent (m .user) k || any (names (user k)) (aslasFrom Every r from)) ≡ any (names (user k)) (aslas r))
+-- The set holds what is named before it: with what is named from it on, that is all.
+abbrev pub Held : Applications → List ℕ → ℕ → Type 0
+Held m r from = (n : ℕ) → inSet m n || any (names n) (aslasFrom Every r from) ≡ any (names n) (aslas r)
 
 keep-every : (ds : List Advertisement) → keep (chosen Every) ds ≡ ds
 unfolding keep chosen chosenBy
@@ -67,67 +67,34 @@ every : (r : List ℕ) → aslasFrom Every r 0 ≡ aslas r
 unfolding aslasFrom aslas
 every r = keep-every (each advertisementsOf (elements 2 0 r))
 
-in-zero : (n : ℕ) → inNumber 0 n ≡ false
-unfolding inNumber
-in-zero n = rw (zero-div (2 ^ n))
+pub held-start : (r : List ℕ) (m : Applications) → ((p : ℕ) → atPlace m p ≡ false) → Held m r 0
+held-start r m e n = rw (set-none m e n, every r)
 
-pub held-start : (r : List ℕ) (m : NamedMasks) → m .standard ≡ 0 → m .user ≡ 0 → Held m r 0
-held-start r m e f k h = (none (m .standard) e k, none (m .user) f (user k))
-  where
-    none : (x : ℕ) → x ≡ 0 → (a : ℕ) → (inSent x k || any (names a) (aslasFrom Every r 0)) ≡ any (names a) (aslas r)
-    none x p a = rw (p, in-zero (turnedPlace k), every r)
-
-pub held-end : (r : List ℕ) (m : NamedMasks) (from : ℕ) → Held m r from → aslasFrom Every r from ≡ [] → HoldSent m (aslas r)
+pub held-end : (r : List ℕ) (m : Applications) (from : ℕ) → Held m r from → aslasFrom Every r from ≡ [] → (n : ℕ) → inSet m n ≡ any (names n) (aslas r)
 unfolding any
-held-end r m from held e k h = (last (m .standard) k (held k h .0), last (m .user) (user k) (held k h .1))
-  where
-    last : (x a : ℕ) → (inSent x k || any (names a) (aslasFrom Every r from)) ≡ any (names a) (aslas r) → inSent x k ≡ any (names a) (aslas r)
-    last x a p = sym (or-false (inSent x k)) ∙ ap (λ (ds : List Advertisement). inSent x k || any (names a) ds) (sym e) ∙ p
+held-end r m from held e n = sym (or-false (inSet m n)) ∙ ap (λ (ds : List Advertisement). inSet m n || any (names n) ds) (sym e) ∙ held n
 
 -- Past an element that is no such 1122.
-pub held-skip : (r : List ℕ) (m : NamedMasks) (at next : ℕ) → Held m r at → aslasFrom Every r next ≡ aslasFrom Every r at → Held m r next
-held-skip r m at next held e k h = (
-  ap (λ (ds : List Advertisement). inSent (m .standard) k || any (names k) ds) e ∙ held k h .0,
-  ap (λ (ds : List Advertisement). inSent (m .user) k || any (names (user k)) ds) e ∙ held k h .1,
-)
+pub held-skip : (r : List ℕ) (m : Applications) (at next : ℕ) → Held m r at → aslasFrom Every r next ≡ aslasFrom Every r at → Held m r next
+held-skip r m at next held e n = ap (λ (ds : List Advertisement). inSet m n || any (names n) ds) e ∙ held n
 
 -- A 1122's masks, by its value.
-module _ (at : ℕ) (v : List ℕ) (k : ℕ) (h : k < 64) where
-  standard-named : names k (advertisement at v) ≡ bit (standardMask v) k
-  unfolding names inMasks advertisement standardMask
-  standard-named = rw (lt-ltb k 64 h)
+masks-name : (at : ℕ) (v : List ℕ) (n : ℕ) → names n (advertisement at v) ≡ inMasks (standardMask v) (userMask v) n
+unfolding names advertisement standardMask userMask
+masks-name at v n = refl
 
-  user-named : names (user k) (advertisement at v) ≡ bit (userMask v) k
-  unfolding names inMasks advertisement userMask user
-  user-named = let e : 64 + k - 64 ≡ k = omega arith in rw (le-ltb (64 + k) 64 (omega arith), e)
-
-pub held-next : (r : List ℕ) (m j : NamedMasks) (from at n : ℕ) → Held m r from → IsAsla Every r from at n
-    → HoldBoth j m (take (at + 4 + n - (at + 4)) (drop (at + 4) r)) → Held j r (at + 4 + n)
+pub held-next : (r : List ℕ) (m j : Applications) (from at n : ℕ) → Held m r from → IsAsla Every r from at n
+    → ((k : ℕ) → inSet j k ≡ inSet m k || inMasks (standardMask (take (at + 4 + n - (at + 4)) (drop (at + 4) r))) (userMask (take (at + 4 + n - (at + 4)) (drop (at + 4) r))) k)
+    → Held j r (at + 4 + n)
 unfolding any
-held-next r m j from at n held a both k h = (
-  step (j .standard) (m .standard) k (bit (standardMask part) k) (both k h .0) (standard-of part (part-is r (at + 4) n)) (held k h .0),
-  step (j .user) (m .user) (user k) (bit (userMask part) k) (both k h .1) (user-of part (part-is r (at + 4) n)) (held k h .1),
-)
-  where
-    part : List ℕ
-    part = take (at + 4 + n - (at + 4)) (drop (at + 4) r)
-
-    d : Advertisement
-    d = advertisement at (bytesAt r (at + 4) n)
-
-    standard-of : (p : List ℕ) → p ≡ bytesAt r (at + 4) n → bit (standardMask p) k ≡ names k d
-    standard-of p e = ap (λ (l : List ℕ). bit (standardMask l) k) e ∙ sym (standard-named at (bytesAt r (at + 4) n) k h)
-
-    user-of : (p : List ℕ) → p ≡ bytesAt r (at + 4) n → bit (userMask p) k ≡ names (user k) d
-    user-of p e = ap (λ (l : List ℕ). bit (userMask l) k) e ∙ sym (user-named at (bytesAt r (at + 4) n) k h)
-
-    step : (x y b : ℕ) (c : Bool) → inSent x k ≡ inSent y k || c → c ≡ names b d → (inSent y k || any (names b) (aslasFrom Every r from)) ≡ any (names b) (aslas r)
-        → (inSent x k || any (names b) (aslasFrom Every r (at + 4 + n))) ≡ any (names b) (aslas r)
-    step x y b c p q s =
-        ap (λ (z : Bool). z || any (names b) (aslasFrom Every r (at + 4 + n))) (p ∙ ap (λ (z : Bool). inSent y k || z) q)
-        ∙ or-assoc (inSent y k) (names b d) (any (names b) (aslasFrom Every r (at + 4 + n)))
-        ∙ ap (λ (ds : List Advertisement). inSent y k || any (names b) ds) (sym (a .left))
-        ∙ s
+held-next r m j from at n held a both k =
+    let d = advertisement at (bytesAt r (at + 4) n) in
+    let is : inMasks (standardMask (take (at + 4 + n - (at + 4)) (drop (at + 4) r))) (userMask (take (at + 4 + n - (at + 4)) (drop (at + 4) r))) k ≡ names k d =
+    ap (λ (v : List ℕ). inMasks (standardMask v) (userMask v) k) (part-is r (at + 4) n) ∙ sym (masks-name at (bytesAt r (at + 4) n) k) in
+    ap (λ (z : Bool). z || any (names k) (aslasFrom Every r (at + 4 + n))) (both k ∙ ap (λ (z : Bool). inSet m k || z) is)
+    ∙ or-assoc (inSet m k) (names k d) (any (names k) (aslasFrom Every r (at + 4 + n)))
+    ∙ ap (λ (ds : List Advertisement). inSet m k || any (names k) ds) (sym (a .left))
+    ∙ held k
 
 -- ---- all of them, RSVP-TE apart
 
@@ -144,10 +111,12 @@ in-one (suc n) = rw (div-eq-of-lt (big n)) (sym (ne-eqb (suc n) 0 (λ e. omega a
     big zero = omega arith
     big (suc n) = let h = big n in omega (arith, Prim.Native.Nat.pow·suc 2 (suc n))
 
-module _ (r : List ℕ) (m : NamedMasks) (held : HoldSent m (aslas r)) where
-  pub names-standard : (t w : ℕ) → ((n : ℕ) → n < 64 → inNumber t n ≡ inSent (m .standard) n) → w < 2 ^ 64 → ((n : ℕ) → inNumber w n ≡ inNumber t n && not (inNumber 1 n)) → w ≡ asNumber (runSource r .names)
+module _ (r : List ℕ) (m by : Applications) (held : (n : ℕ) → inSet m n ≡ any (names n) (aslas r)) (turned : (n : ℕ) → atPlace by n ≡ inSet m n) where
+  pub names-standard : (w : ℕ) → w < 2 ^ 64 → ((n : ℕ) → inNumber w n ≡ inNumber (by .standard) n && not (inNumber 1 n)) → w ≡ asNumber (runSource r .names)
   unfolding runSource named runSide
-  names-standard t w turned l e = is-number w (runSource r .names) l (λ k h. e k ∙ ap₂ (λ (x y : Bool). x && not y) (turned k h ∙ held k h .0) (in-one k) ∙ go k h (eqb k 0) refl)
+  names-standard w l e =
+      is-number w (runSource r .names) l (λ k h.
+      e k ∙ ap₂ (λ (x y : Bool). x && not y) (sym (place-low by k h) ∙ turned k ∙ held k) (in-one k) ∙ go k h (eqb k 0) refl)
     where
       go : (k : ℕ) → k < 64 → (b : Bool) → eqb k 0 ≡ b → (any (names k) (aslas r) && not b) ≡ (member k others && any (names k) (aslas r))
       go k h true f =
@@ -155,6 +124,8 @@ module _ (r : List ℕ) (m : NamedMasks) (held : HoldSent m (aslas r)) where
           ∙ sym (ap (λ (i : ℕ). member i others && any (names i) (aslas r)) (eqb-true k 0 f) ∙ rw rsvpTe-apart)
       go k h false f = and-true (any (names k) (aslas r)) ∙ rw (standard-other k (le-ltb 63 k (omega arith)) f)
 
-  pub names-user : (t : ℕ) → ((n : ℕ) → n < 64 → inNumber t n ≡ inSent (m .user) n) → t < 2 ^ 64 → t ≡ asNumber (λ n. runSource r .names (user n))
-  unfolding runSource named runSide
-  names-user t turned l = is-number t (λ n. runSource r .names (user n)) l (λ k h. turned k h ∙ held k h .1 ∙ rw (user-other k (le-ltb 63 k (omega arith))))
+  pub names-user : by .user < 2 ^ 64 → by .user ≡ asNumber (λ n. runSource r .names (user n))
+  unfolding runSource named runSide user
+  names-user l =
+      is-number (by .user) (λ n. runSource r .names (64 + n)) l (λ k h.
+      sym (place-high by k) ∙ turned (64 + k) ∙ held (64 + k) ∙ rw (user-other k (le-ltb 63 k (omega arith))))

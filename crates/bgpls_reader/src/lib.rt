@@ -1,29 +1,28 @@
 // Questions to a BGP-LS run that anybody may have written: ask, value and named.
 ghost use mathlib.Core.Path.{_≡_};
-ghost use mathlib.Core.Bool.{true, false};
-ghost use Prim.Native.Nat.{_*_, _≤_};
+ghost use mathlib.Core.Bool.{true, false, _||_};
+ghost use Prim.Native.Nat.{ℕ, _*_, _≤_, _<_};
 ghost use lib.ListN.{length};
-ghost use Rattle.linkstate.specs.Masks.{user, asNumber};
+ghost use Rattle.linkstate.specs.Masks.{user, inMasks, asNumber};
 ghost use Rattle.linkstate.specs.Replies.{accepted, runBgpLs, place};
 ghost use Rattle.linkstate.specs.BgpLs.{notIgnored, aslaHeader, aslas, runVerdict, runSource};
-ghost use Rattle.bgpls_reader.specs.Joined.{HoldSent, HoldBoth};
+ghost use Rattle.linkstate.specs.Lists.{any};
+ghost use Rattle.linkstate.specs.Sides.{names};
+ghost use Rattle.masks.specs.Applications.{inSet};
 ghost use lib.Dec.{eqb};
 ghost use Rattle.linkstate.specs.Kinds.{isCode};
 ghost use Rattle.linkstate.specs.Attributes.{ofKind, srlgs};
 ghost use Rattle.linkstate.specs.Questions.{numberTooHigh, given, firstOf, bytesOfFirst, srlgAnswer, answer, ask, value, listNamed};
 ghost use Rattle.replies.specs.Told.{subjectOf, toldAnswer, toldAsked, toldNamed};
 ghost use Rattle.bgpls_find.specs.Sets.{attributesIn, foundIn};
-ghost use Rattle.bgpls_find.specs.Walks.{Starts};
+ghost use Rattle.bgpls_find.specs.Walks.{Starts, standardMask, userMask};
 ghost use Rattle.bgpls_reader.specs.Room.{Counted};
 use bgpls_check::read_asla_header;
 use bgpls_find::Found;
 use bgpls_find::Set;
 use bgpls_find::Start;
 use bgpls_find::is_chosen;
-use masks::joined;
-use masks::sent_number;
-use masks::turned;
-use masks::without;
+use masks::Applications;
 use octets::read16;
 use replies::Answer;
 use replies::Checked;
@@ -31,34 +30,21 @@ use replies::Named;
 use replies::Run;
 use replies::Subject;
 
-// Standard and user applications as two numbers: application n as 2 to the n, or, while masks are joined, at its place in a mask's bytes.
-pub struct NamedMasks {
-    pub standard: u64,
-    pub user: u64,
-}
-
 // With the masks of a 1122.
-fn join_masks(v: &[u8], m: NamedMasks) -> NamedMasks
-    requires { ⌜ (4 ≤ length (now v)) × (notIgnored (now v) ≡ true) × (aslaHeader (now v) ≤ length (now v)) ⌝ }
-    ensures { λ j. ⌜ HoldBoth j m (now (v .entry)) ⌝ }
+fn join_masks(v: &[u8], m: Applications) -> Applications
+    requires { ⌜ (4 ≤ length (now v)) × (notIgnored (now v) ≡ true) × (aslaHeader (now v) ≤ length (now v)) × (length (now v) < 65536) ⌝ }
+    ensures { λ j. ⌜ ((n : ℕ) → inSet j n ≡ inSet m n || inMasks (standardMask (now (v .entry))) (userMask (now (v .entry))) n) ⌝ }
 {
     let h = read_asla_header(v);
-    let end = 4 + h.standard;
-    let next = end + h.user;
-    let standard = joined(m.standard, sent_number(&v[4..end]));
-    let user = joined(m.user, sent_number(&v[end..next]));
-    NamedMasks { standard, user }
+    masks::with_masks(m, v, 4, h.standard, h.user)
 }
 
-// The masks of all 1122s that are not ignored, joined.
-fn all_masks(r: &[u8]) -> NamedMasks
+// Whom the 1122s that are not ignored name.
+fn all_masks(r: &[u8]) -> Applications
     requires { ⌜ runVerdict (now r) ≡ accepted ⌝ }
-    ensures { λ m. ⌜ HoldSent m (aslas (now (r .entry))) ⌝ }
+    ensures { λ m. ⌜ ((n : ℕ) → inSet m n ≡ any (names n) (aslas (now (r .entry)))) ⌝ }
 {
-    let mut m = NamedMasks {
-        standard: 0,
-        user: 0,
-    };
+    let mut m = masks::nobody();
     let mut at = 0;
     while at < r.len() {
         let code = read16(r, at);
@@ -74,15 +60,16 @@ fn all_masks(r: &[u8]) -> NamedMasks
     m
 }
 
-// The named applications other than RSVP-TE, which is standard 0.
-pub fn named_masks(r: &[u8]) -> NamedMasks
+// The named applications other than RSVP-TE, which is standard 0, application n at place n.
+pub fn named_masks(r: &[u8]) -> Applications
     requires { ⌜ runVerdict (now r) ≡ accepted ⌝ }
     ensures { λ m. ⌜ (m .standard ≡ asNumber (runSource (now (r .entry)) .names)) × (m .user ≡ asNumber (λ n. runSource (now (r .entry)) .names (user n))) ⌝ }
 {
-    let m = all_masks(r);
-    let standard = without(turned(m.standard), 1);
-    let user = turned(m.user);
-    NamedMasks { standard, user }
+    let m = masks::turned_set(all_masks(r));
+    Applications {
+        standard: masks::without(m.standard, 1),
+        user: m.user,
+    }
 }
 
 // The set of attributes that a question is about.

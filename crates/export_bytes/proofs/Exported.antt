@@ -21,7 +21,8 @@ use Rattle.replies.specs.declared.Refusal.{Refusal}
 use Rattle.replies.specs.declared.Written.the-variants.{Bytes, Refused}
 use Rattle.masks.specs.Sets.{turnedPlace, inSent}
 use Rattle.masks.proofs.Steps.{zero-none}
-use Rattle.masks.specs.Applications.{inBoth}
+use Rattle.masks.specs.Applications.{inSet}
+use Rattle.masks.proofs.Sets.{place-none, set-none}
 use Rattle.tlv_bytes.specs.Tlvs.{inTlvs}
 use Rattle.tlv_bytes.proofs.Laws.{empty-is, tlvs-same}
 use Rattle.set_bytes.specs.Standing.{numbersIn}
@@ -29,7 +30,7 @@ use Rattle.set_bytes.specs.Sets.{lowCodes, highCodes}
 use Rattle.set_groups.specs.Groups.{Group, groupTlv}
 use Rattle.set_groups.specs.Table.{word, slotIn, classIn, entryGroup, tableGroups}
 use Rattle.set_groups.proofs.Tlvs.{each-map, each-ext, asla-same, asla-row, tlv-is, groups-are}
-use Rattle.export_bytes.specs.Sizes.{setSize, firstEntry}
+use Rattle.export_bytes.specs.Sizes.{aslaOf, setSize, firstEntry}
 use Rattle.export_bytes.specs.Whole.{slotSet, aslaTlv, entryTlv, aslaTlvs, topSet, wholeBytes, Tables, Entered, answered}
 use Rattle.export_bytes.specs.Describes.{Describes}
 use Rattle.export_bytes.proofs.Laws.{set-size}
@@ -45,14 +46,6 @@ unfolding computing
 high-same f g e = ap (drop 13) e
 
 -- ---- the ASLA TLVs
-
-nobody : (s u n : ℕ) → s ≡ 0 → u ≡ 0 → inBoth s u n ≡ false
-unfolding inBoth
-nobody s u n e f = rw (e, f) (go (ltb n 64))
-  where
-    go : (b : Bool) → cond b (inSent 0 n) (inSent 0 (n - 64)) ≡ false
-    go true = zero-none (turnedPlace n)
-    go false = zero-none (turnedPlace (n - 64))
 
 module _ {m : Meaning} {run : List ℕ} {sets : List (List ℕ)} {values : List ℕ} {rows classes groups : List (List ℕ)} (ok : Tables run sets values rows classes)
     (entered : Entered sets classes groups) {s c : ℕ} (d : Describes m run sets (numbersIn values rows classes) groups s c) where
@@ -81,9 +74,9 @@ module _ {m : Meaning} {run : List ℕ} {sets : List (List ℕ)} {values : List 
   general-tlv : entryTlv run sets srlgs groups 0 ≡ bytesOf (tlv 1122 (aslaValue (λ n. false) (m .general)))
   unfolding aslaTlv
   general-tlv =
-      let p = inBoth (getD (getD groups 0 []) 0 0) (getD (getD groups 0 []) 1 0) in
+      let p = inSet (aslaOf (getD groups 0 []) .members) in
       ap (λ (v : List ℕ). bytesOf (tlv 1122 v)) (asla-row p generalSet (m .general) (d .general)
-      ∙ asla-same p (λ n. false) (m .general) (λ n h. nobody _ _ n (d .nobody .0) (d .nobody .1)))
+      ∙ asla-same p (λ n. false) (m .general) (λ n h. set-none _ (place-none _ (d .nobody .0) (d .nobody .1)) n))
 
   -- The entries behind it are the groups.
   named-are : aslaTlvs run sets srlgs groups 1 (length groups - 1) ≡ named

@@ -12,7 +12,9 @@ use Rattle.linkstate.specs.Kinds.{applicationCodes}
 use Rattle.linkstate.specs.Masks.{user}
 use Rattle.linkstate.proofs.ListLaws.{each-append}
 use Rattle.masks.specs.Sets.{inSent}
-use Rattle.masks.specs.Applications.{inBoth}
+use Rattle.masks.specs.declared.Applications.{Applications}
+use Rattle.masks.specs.Applications.{inSet}
+use Rattle.masks.proofs.Sets.{set-low, set-user}
 use Rattle.kinds.specs.Rules.{gridCodes, rowIn}
 use Rattle.tlv_bytes.specs.Tlvs.{inTlvs, Wrote}
 use Rattle.tlv_bytes.proofs.Laws.{tlvs-small, length-value, front-most, same-room, same-write, no-write, behind-room, behind-write}
@@ -31,13 +33,9 @@ use Rattle.export_bytes.specs.Whole.{slotSet, aslaTlv, entryTlv, aslaTlv
 
 -- ---- masks, and lists in turn
 
-standard-in : (s u n : ℕ) → n < 64 → inBoth s u n ≡ inSent s n
-unfolding inBoth
-standard-in s u n h = rw (lt-ltb n 64 h)
-
-user-in : (s u n : ℕ) → n < 64 → inBoth s u (user n) ≡ inSent u n
-unfolding inBoth user
-user-in s u n h = let e : 64 + n - 64 ≡ n = omega arith in rw (le-ltb (64 + n) 64 (omega arith), e)
+user-in : (m : Applications) (n : ℕ) → n < 64 → inSet m (user n) ≡ inSent (m .user) n
+unfolding user
+user-in m n h = let e : 64 + n - 64 ≡ n = omega arith in set-user m (64 + n) (omega arith) ∙ ap (inSent (m .user)) e
 
 module _ (f : ℕ → List ℕ) (from : ℕ) where
   numbers-last : (n k : ℕ) → numbers k (suc n) ≡ numbers k n ++ ((k + n) ∷ [])
@@ -111,7 +109,7 @@ module _ {run : List ℕ} {sets : List (List ℕ)} {values : List ℕ} {rows cla
   inner e = setTlvs (slotGrid sets (e .slot)) (e .class)
 
   abbrev front : Asla → List ℕ
-  front e = aslaFront (e .standard) (e .user) (length (inner e))
+  front e = aslaFront (e .members) (length (inner e))
 
   pub set-size : (s c : ℕ) → IsSet sets s → c < length classes → setSize sets classes s c ≡ length (setTlvs (slotGrid sets s) c)
   unfolding setSize
@@ -141,10 +139,10 @@ module _ {run : List ℕ} {sets : List (List ℕ)} {values : List ℕ} {rows cla
   unfolding aslaTlv
   asla-parts e =
       let f = slotSet run sets srlgs (e .slot) (e .class) in
-      sym (asla-is (e .standard) (e .user) (inBoth (e .standard) (e .user)) f f (standard-in (e .standard) (e .user)) (user-in (e .standard) (e .user)) refl)
+      sym (asla-is (e .members) (inSet (e .members)) f f (set-low (e .members)) (user-in (e .members)) refl)
 
-  parts-length : (e : Asla) → length (front e ++ inner e) ≡ frontSize (e .standard) (e .user) + length (inner e)
-  parts-length e = length-append (front e) (inner e) ∙ ap (λ (k : ℕ). k + length (inner e)) (length-front (e .standard) (e .user) (length (inner e)))
+  parts-length : (e : Asla) → length (front e ++ inner e) ≡ frontSize (e .members) + length (inner e)
+  parts-length e = length-append (front e) (inner e) ∙ ap (λ (k : ℕ). k + length (inner e)) (length-front (e .members) (length (inner e)))
 
   pub asla-length : (e : Asla) → IsSet sets (e .slot) → e .class < length classes → length (aslaTlv run sets srlgs e) ≡ aslaSize sets classes e
   unfolding aslaSize
@@ -194,13 +192,13 @@ module _ {run : List ℕ} {sets : List (List ℕ)} {values : List ℕ} {rows cla
       size-is : size ≡ length (inner e)
       size-is = es ∙ set-size (e .slot) (e .class) ofS ofC
 
-      pub front-asks : (size < 65000) × (at + frontSize (e .standard) (e .user) ≤ length d)
+      pub front-asks : (size < 65000) × (at + frontSize (e .members) ≤ length d)
       front-asks = (omega (arith, size-is, set-small (e .slot) (e .class) ofS ofC), omega (arith, both-room, parts-length e))
 
-      module _ {r : ℕ} {o : List ℕ} (kept : length o ≡ length d) (w : Wrote d at (aslaFront (e .standard) (e .user) size) r o)
+      module _ {r : ℕ} {o : List ℕ} (kept : length o ≡ length d) (w : Wrote d at (aslaFront (e .members) size) r o)
           (g : List (List ℕ)) (eg : g ≡ slotGrid sets (e .slot)) where
         front-wrote : Wrote d at (front e) r o
-        front-wrote = same-write (ap (aslaFront (e .standard) (e .user)) size-is) d at w
+        front-wrote = same-write (ap (aslaFront (e .members)) size-is) d at w
 
         same-set : setTlvs g (e .class) ≡ inner e
         same-set = ap (λ (x : List (List ℕ)). setTlvs x (e .class)) eg

@@ -50,8 +50,8 @@ link-start sets = refl
 
 -- ---- entries
 
-pub asla-read : (h : List ℕ) (s c : ℕ) → s ≡ aslaOf h .slot → c ≡ aslaOf h .class → _≡_ {A = Asla} (record { standard = getD h 0 0; user = getD h 1 0; slot = s; class = c }) (aslaOf h)
-asla-read h s c e f = ap₂ (λ (x y : ℕ). record { standard = getD h 0 0; user = getD h 1 0; slot = x; class = y }) e f
+pub asla-read : (h : List ℕ) (s c : ℕ) → s ≡ aslaOf h .slot → c ≡ aslaOf h .class → _≡_ {A = Asla} (record { members = record { standard = getD h 0 0; user = getD h 1 0 }; slot = s; class = c }) (aslaOf h)
+asla-read h s c e f = ap₂ (λ (x y : ℕ). record { members = record { standard = getD h 0 0; user = getD h 1 0 }; slot = x; class = y }) e f
 
 module _ (f : ℕ → ℕ) (from : ℕ) where
   pub sum-start : 0 ≡ sumFrom f from (from - from)

@@ -15,14 +15,14 @@ use Rattle.export_bytes.specs.declared.Asla.{Asla}
 
 -- An entry of the groups, as the code takes it.
 abbrev pub aslaOf : List ℕ → Asla
-aslaOf h = record { standard = getD h 0 0; user = getD h 1 0; slot = slotIn (getD h 2 0); class = classIn (getD h 2 0) }
+aslaOf h = record { members = record { standard = getD h 0 0; user = getD h 1 0 }; slot = slotIn (getD h 2 0); class = classIn (getD h 2 0) }
 
 -- The TLVs of a set by slot and class; an ASLA TLV.
 unfoldable pub setSize : List (List ℕ) → List (List ℕ) → ℕ → ℕ → ℕ
 setSize sets classes s c = slotSize sets s + srlgSize (countIn classes c)
 
 unfoldable pub aslaSize : List (List ℕ) → List (List ℕ) → Asla → ℕ
-aslaSize sets classes e = frontSize (e .standard) (e .user) + setSize sets classes (e .slot) (e .class)
+aslaSize sets classes e = frontSize (e .members) + setSize sets classes (e .slot) (e .class)
 
 -- The TLVs of the link's bandwidths, of the first k of them.
 unfoldable pub rowSize : List ℕ → ℕ

@@ -7,7 +7,7 @@ use Rattle.linkstate.specs.Lists.{numbers, each}
 use Rattle.linkstate.specs.Replies.{accepted, bytes, Exported}
 use Rattle.linkstate.specs.Questions.{write}
 use Rattle.linkstate.specs.Export.{tlv, bytesOf, aslaValue}
-use Rattle.masks.specs.Applications.{inBoth}
+use Rattle.masks.specs.Applications.{inSet}
 use Rattle.tlv_bytes.specs.Tlvs.{inTlvs}
 use Rattle.set_bytes.specs.Standing.{numbersIn, Classes, Standing}
 use Rattle.grids.specs.Grids.{setOf, topOf}
@@ -23,7 +23,7 @@ slotSet run sets srlgs s c = setOf run (slotGrid sets s) (srlgs c)
 
 -- L3 to L6. An ASLA TLV; those of entries from one on.
 unfoldable pub aslaTlv : List ℕ → List (List ℕ) → (ℕ → List ℕ) → Asla → List ℕ
-aslaTlv run sets srlgs e = bytesOf (tlv 1122 (aslaValue (inBoth (e .standard) (e .user)) (slotSet run sets srlgs (e .slot) (e .class))))
+aslaTlv run sets srlgs e = bytesOf (tlv 1122 (aslaValue (inSet (e .members)) (slotSet run sets srlgs (e .slot) (e .class))))
 
 abbrev pub entryTlv : List ℕ → List (List ℕ) → (ℕ → List ℕ) → List (List ℕ) → ℕ → List ℕ
 entryTlv run sets srlgs groups i = aslaTlv run sets srlgs (aslaOf (getD groups i []))

@@ -16,12 +16,12 @@ ghost use Rattle.set_bytes.specs.Sets.{lowCodes};
 ghost use Rattle.export_bytes.specs.Whole.{entryTlv, aslaTlvs, topSet, wholeBytes, Tables, Entered, Open, answered};
 ghost use Rattle.export_bytes.specs.Describes.{Describes};
 use grids::Row;
+use masks::Applications;
 use replies::Written;
 
-// An ASLA TLV: the masks of its members as sent, and the slot and the class of its set.
+// An ASLA TLV: its members, and the slot and the class of its set.
 pub struct Asla {
-    pub standard: u64,
-    pub user: u64,
+    pub members: Applications,
     pub slot: usize,
     pub class: usize,
 }
@@ -34,9 +34,11 @@ pub fn read_asla(groups: &[[u64; 3]], i: usize) -> Asla
     let x = groups[i][2];
     let slot = set_groups::slot_in(x);
     let class = set_groups::class_in(x);
+    let standard = groups[i][0];
+    let user = groups[i][1];
+    let members = Applications { standard, user };
     Asla {
-        standard: groups[i][0],
-        user: groups[i][1],
+        members,
         slot,
         class,
     }
@@ -62,7 +64,7 @@ fn asla_size(sets: &[[u32; 12]], classes: &[[u64; 4]], e: Asla) -> usize
     requires { ⌜ (e .slot < length (now sets)) × (e .class < length (now classes)) × (countIn (now classes) (e .class) ≤ mostNumbers) ⌝ }
     ensures { λ r. ⌜ (r ≡ aslaSize (now (sets .entry)) (now (classes .entry)) e) × (r ≤ 5000000024) ⌝ }
 {
-    tlv_bytes::front_size(e.standard, e.user) + set_size(sets, classes, e.slot, e.class)
+    tlv_bytes::front_size(e.members) + set_size(sets, classes, e.slot, e.class)
 }
 
 // How many bytes the TLVs of the link's bandwidths have.
@@ -146,7 +148,7 @@ fn write_asla(
 {
     let e = read_asla(groups, i);
     let size = set_size(sets, classes, e.slot, e.class);
-    let inner = tlv_bytes::write_front(e.standard, e.user, size, out, at);
+    let inner = tlv_bytes::write_front(e.members, size, out, at);
     let g = grids::grid_of(sets, e.slot);
     set_bytes::write_set(run, &g, values, rows, classes, places, e.class, out, inner)
 }

@@ -12,7 +12,9 @@ use Rattle.linkstate.specs.Masks.{one, inNumber}
 use Rattle.linkstate.proofs.ListLaws.{keep-append}
 use Rattle.linkstate.proofs.MaskLaws.{one-le}
 use Rattle.masks.specs.Sets.{turnedPlace, inSent}
-use Rattle.masks.specs.Applications.{inBoth, inPair}
+use Rattle.masks.specs.declared.Applications.{Applications}
+use Rattle.masks.specs.Applications.{inSet, atPlace}
+use Rattle.masks.proofs.Sets.{place-set}
 use Rattle.srlg_ranks.specs.Ranks.{inWords}
 use Rattle.srlg_table.specs.Blocks.{sizeOf}
 use Rattle.srlg_table.proofs.Sizes.{size-same}
@@ -74,11 +76,11 @@ size-many p = many-kept p 0 128 ∙ from-none p 128
 
 -- ---- masks as sent
 
-words-pair : (s u a : ℕ) → a < 128 → inWords (s ∷ u ∷ []) a ≡ inPair s u a
-unfolding inWords inPair
-words-pair s u a h = go (ltb a 64) refl
+words-pair : (m : Applications) (a : ℕ) → a < 128 → inWords (m .standard ∷ m .user ∷ []) a ≡ atPlace m a
+unfolding inWords atPlace
+words-pair m a h = go (ltb a 64) refl
   where
-    go : (b : Bool) → ltb a 64 ≡ b → inNumber (getD (s ∷ u ∷ []) (a / 64) 0) (a % 64) ≡ cond b (inNumber s a) (inNumber u (a - 64))
+    go : (b : Bool) → ltb a 64 ≡ b → inNumber (getD (m .standard ∷ m .user ∷ []) (a / 64) 0) (a % 64) ≡ cond b (inNumber (m .standard) a) (inNumber (m .user) (a - 64))
     go true e =
         let l = ltb-true a 64 e in
         let x : a / 64 ≡ 0 = omega arith in
@@ -111,41 +113,29 @@ many-turned p (suc k) =
     ∙ sym (many-split p (8 * k) 8)
     ∙ ap (howMany p) (sym e)
 
-both-low : (s u j : ℕ) → j < 64 → inBoth s u j ≡ inSent s j
-unfolding inBoth
-both-low s u j h = rw (lt-ltb j 64 h)
+both-pair : (m : Applications) → howMany (inSet m) 128 ≡ howMany (atPlace m) 128
+both-pair m = many-same (inSet m) (λ n. atPlace m (turnedPlace n)) 128 (λ n h. sym (place-set m n)) ∙ many-turned (atPlace m) 16
 
-both-high : (s u j : ℕ) → inBoth s u (64 + j) ≡ inSent u j
-unfolding inBoth
-both-high s u j = let e : 64 + j - 64 ≡ j = omega arith in rw (le-ltb (64 + j) 64 (omega arith), e)
+-- ---- room for all of a set, and for those of a set within it
 
-both-pair : (s u : ℕ) → howMany (inBoth s u) 128 ≡ howMany (inPair s u) 128
-both-pair s u =
-    many-split (inBoth s u) 64 64
-    ∙ ap₂ (λ (x y : ℕ). x + y) (many-same (inBoth s u) (inSent s) 64 (λ j h. both-low s u j h) ∙ many-turned (inNumber s) 8)
-    (many-same (λ j. inBoth s u (64 + j)) (inSent u) 64 (λ j h. both-high s u j) ∙ many-turned (inNumber u) 8)
-    ∙ sym (many-pair s u)
+pub record Few (m : Applications) (k : ℕ) : Type 0 where
+  pub numbers : howMany (inSet m) 128 ≤ k
+  pub bits : sizeOf (inWords (m .standard ∷ m .user ∷ [])) ≤ k
+  pub others : left (inSet m) 1 ≤ k
 
--- ---- room for all whom two masks name, and for those among them whom two others do
-
-pub record Few (s u k : ℕ) : Type 0 where
-  pub numbers : howMany (inBoth s u) 128 ≤ k
-  pub bits : sizeOf (inWords (s ∷ u ∷ [])) ≤ k
-  pub others : left (inBoth s u) 1 ≤ k
-
-few-of : (s u k : ℕ) → howMany (inBoth s u) 128 ≤ k → Few s u k
-few-of s u k h =
+few-of : (m : Applications) (k : ℕ) → howMany (inSet m) 128 ≤ k → Few m k
+few-of m k h =
     record {
       numbers = h;
-      bits = omega (arith, h, both-pair s u, size-same (inWords (s ∷ u ∷ [])) (inPair s u) (words-pair s u), size-many (inPair s u));
-      others = omega (arith, h, left-less (inBoth s u));
+      bits = omega (arith, h, both-pair m, size-same (inWords (m .standard ∷ m .user ∷ [])) (atPlace m) (words-pair m), size-many (atPlace m));
+      others = omega (arith, h, left-less (inSet m));
     }
 
-pub few-named : (s u k : ℕ) → howMany (inPair s u) 128 ≤ k → Few s u k
-few-named s u k h = few-of s u k (omega (arith, h, both-pair s u))
+pub few-named : (m : Applications) (k : ℕ) → howMany (atPlace m) 128 ≤ k → Few m k
+few-named m k h = few-of m k (omega (arith, h, both-pair m))
 
-pub few-among : (s u standard user k : ℕ) → ((n : ℕ) → inBoth s u n ≡ true → inBoth standard user n ≡ true) → Few standard user k → Few s u k
-few-among s u standard user k e f = few-of s u k (omega (arith, f .numbers, many-more (inBoth s u) (inBoth standard user) 128 (λ n h. e n)))
+pub few-among : (m n : Applications) (k : ℕ) → ((i : ℕ) → inSet m i ≡ true → inSet n i ≡ true) → Few n k → Few m k
+few-among m n k e f = few-of m k (omega (arith, f .numbers, many-more (inSet m) (inSet n) 128 (λ i h. e i)))
 
-pub few-all : (s u : ℕ) → Few s u 128
-few-all s u = few-of s u 128 (many-most (inBoth s u) 128)
+pub few-all : (m : Applications) → Few m 128
+few-all m = few-of m 128 (many-most (inSet m) 128)

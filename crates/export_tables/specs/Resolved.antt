@@ -13,7 +13,7 @@ use Rattle.linkstate.specs.Meaning.{Meaning, row}
 use Rattle.linkstate.specs.Export.{topValue, export}
 use Rattle.rules.specs.declared.Names.{Names}
 use Rattle.rules.specs.Names.{Tells}
-use Rattle.masks.specs.Applications.{inBoth}
+use Rattle.masks.specs.Applications.{inSet}
 use Rattle.srlg_table.specs.declared.Used.{Used}
 use Rattle.srlg_classes.specs.Owned.{classAt, Roomy}
 use Rattle.srlg_classes.specs.Sided.{Sourced}
@@ -65,7 +65,7 @@ pub record Room (rows : List (List ℕ)) (used : Used) (named : Names) (own : Li
 
 -- The applications of a plan.
 abbrev pub asked : Plan → ℕ → Bool
-asked n = inBoth (n .standard) (n .user)
+asked n = inSet (n .who)
 
 -- What an export asks for: slots, room, and numbers and rows that tell the SRLGs of some side.
 pub record Ready (run : List ℕ) (n : Plan) (rows : List (List ℕ)) (values : List ℕ) (sets own classes groups : List (List ℕ)) (places : List ℕ) : Type 0 where

@@ -6,22 +6,22 @@ ghost use Prim.Native.Nat.{ℕ, _+_, _*_, _≤_, _<_};
 ghost use lib.ListN.{length, set, take};
 ghost use Rattle.linkstate.specs.Masks.{inNumber};
 ghost use Rattle.replies.specs.Told.{toldExported};
-ghost use Rattle.masks.specs.Applications.{inBoth, inPair};
+ghost use Rattle.masks.specs.Applications.{inSet, atPlace};
 ghost use Rattle.grids.specs.Slots.{Slots};
 ghost use Rattle.set_table.specs.Tables.{howMany};
 ghost use Rattle.export_tables.specs.Resolved.{Ready, AnswersAll, Filled, AnswersDescribed};
 ghost use Rattle.set_groups.specs.Table as Groups;
 use export_bytes::Top;
+use masks::Applications;
 use replies::Written;
 use rules::Names;
 use srlg_table::Used;
 
-// What an export goes by: the applications that are named, in masks as sent; whom the side of the SRLGs names, and whether its legacy attributes have a value of
+// What an export goes by: the applications that are named; whom the side of the SRLGs names, and whether its legacy attributes have a value of
 // the kinds of applications; how much of the sources of SRLGs is used; how many slots there are, and which is that of RSVP-TE's set; and whether the length
 // alone is asked for.
 pub struct Plan {
-    pub standard: u64,
-    pub user: u64,
+    pub who: Applications,
     pub names: Names,
     pub legacy: bool,
     pub used: Used,
@@ -89,15 +89,14 @@ fn group(
     run: &[u8],
     sets: &[[u32; 12]],
     own: &[[u8; 2]; 128],
-    standard: u64,
-    user: u64,
+    who: Applications,
     class: usize,
     groups: &mut [[u64; 3]],
 ) -> usize
-    requires { ⌜ Slots (now run) (now sets) × Groups.Placed (now sets) (now own) (inBoth standard user) × (1 + Groups.left (inBoth standard user) 1 ≤ length (now groups)) × (class < 256) ⌝ }
-    ensures { λ r. ⌜ ((g : List (List ℕ)) × Groups.Filled (now (run .entry)) (now (sets .entry)) (now (own .entry)) (inBoth standard user) g r × (now (groups .exit) ≡ set g 0 (0 ∷ 0 ∷ 256 * class ∷ []))) ⌝ }
+    requires { ⌜ Slots (now run) (now sets) × Groups.Placed (now sets) (now own) (inSet who) × (1 + Groups.left (inSet who) 1 ≤ length (now groups)) × (class < 256) ⌝ }
+    ensures { λ r. ⌜ ((g : List (List ℕ)) × Groups.Filled (now (run .entry)) (now (sets .entry)) (now (own .entry)) (inSet who) g r × (now (groups .exit) ≡ set g 0 (0 ∷ 0 ∷ 256 * class ∷ []))) ⌝ }
 {
-    let count = set_groups::fill_groups(run, sets, own, standard, user, groups);
+    let count = set_groups::fill_groups(run, sets, own, who, groups);
     enter_general(groups, class);
     count
 }
@@ -118,10 +117,8 @@ fn export_slots(
     requires { ⌜ Ready (now run) n (now rows) (now values) (now sets) (now own) (now classes) (now groups) (now places) ⌝ }
     ensures { λ q. ⌜ AnswersAll (now (run .entry)) n (now (rows .entry)) (now (values .entry)) (now (sets .entry)) (now (own .entry)) (now (out .entry)) (toldExported q (now (out .exit))) ⌝ }
 {
-    let k = srlg_classes::classify(
-        rows, n.used, n.standard, n.user, n.names, n.legacy, classes, own,
-    );
-    let count = group(run, sets, own, n.standard, n.user, k.general, groups);
+    let k = srlg_classes::classify(rows, n.used, n.who, n.names, n.legacy, classes, own);
+    let count = group(run, sets, own, n.who, k.general, groups);
     let t = Parts {
         classes: k.count,
         groups: count,
@@ -180,14 +177,14 @@ fn count_to(m: u64, most: usize) -> usize
     k
 }
 
-// Whether two masks have no more than `most` bits.
-pub fn at_most(standard: u64, user: u64, most: usize) -> bool
+// Whether a set has no more than `most` applications.
+pub fn at_most(who: Applications, most: usize) -> bool
     requires { ⌜ most < 4294967296 ⌝ }
-    ensures { λ r. ⌜ (r ≡ true → howMany (inPair standard user) 128 ≤ most) ⌝ }
+    ensures { λ r. ⌜ (r ≡ true → howMany (atPlace who) 128 ≤ most) ⌝ }
 {
-    let k = count_to(standard, most);
+    let k = count_to(who.standard, most);
     if most < k {
         return false;
     }
-    count_to(user, most - k) <= most - k
+    count_to(who.user, most - k) <= most - k
 }

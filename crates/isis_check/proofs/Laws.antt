@@ -24,7 +24,7 @@ use Rattle.rules.specs.declared.Checking.{Checking}
 use Rattle.rules.specs.declared.Checking.the-variants as Run
 use Rattle.rules.specs.declared.SideChecked.{SideChecked}
 use Rattle.rules.specs.declared.SideChecked.the-variants as Side
-use Rattle.rules.specs.Names.{Tells, toldChecking, Named, Checks, toldSide, Asked, ChecksSide}
+use Rattle.rules.specs.Names.{Tells, toldChecking, Named, Checks, toldSide, Telling, ChecksSide}
 use Rattle.isis_check.specs.declared.Sides.{Sides}
 use Rattle.isis_check.specs.declared.LinkChecked.the-variants.{Refused, Accepted}
 use Rattle.isis_check.specs.Sides.{OfSides, ChecksLink}
@@ -69,7 +69,7 @@ module _ (a b c : List ℕ) where
         pub accepted-both : (n : Names) → y ≡ Run.Accepted n → (s : Sides) → s ≡ record { a = m; b = n; legacya = l; legacyb = not (eqb (length c) 0) }
             → ChecksLink a b c (Accepted s)
         accepted-both n h s z =
-            let in-a : Tells ((sideA a) .live) m × (l ≡ hasLegacy (sideA a)) = subst (λ (w : SideChecked). Asked w (sideA a)) g (p .asked) in
+            let in-a : Tells ((sideA a) .live) m × (l ≡ hasLegacy (sideA a)) = subst (λ (w : SideChecked). Telling w (sideA a)) g (p .tells) in
             let in-b : Tells ((sideB b c) .live) n = subst (λ (w : Checking). Named w ((sideB b c) .live)) h (q .names) in
             record {
               told = sym (ap toldChecking h) ∙ by-b;

@@ -19,13 +19,13 @@ use Rattle.replies.specs.Told.{toldRefusal}
 use Rattle.rules.specs.declared.Names.{Names}
 use Rattle.rules.specs.declared.Checking.{Checking}
 use Rattle.rules.specs.declared.Checking.the-variants.{Refused, Accepted}
-use Rattle.rules.specs.Names.{Adds, ChecksBehind}
+use Rattle.rules.specs.Names.{advertisedAt, Adds, ChecksBehind}
 use Rattle.rules.proofs.NameLaws.{adds-none}
 use Rattle.isis.specs.MaskHeader.{headerLength, maskTooLong, lForNobody, advertisement}
 use Rattle.isis.specs.RunB.{identifierBytes, identifiers, srlgValues, checkIdentifier, identifier, knownIdentifiers, times, repeats, identifies, ignored, liveSrlg, checkSrlg, checkB, afterNeighbour, srlgAdvertisement, srlgAdvertisements}
 use Rattle.isis_check_a.specs.declared.Header.{Header}
 use Rattle.isis_check_a.specs.declared.Masks.the-variants as Masks
-use Rattle.isis_check_a.specs.Headers.{headerOf, masksIn, advertisedAt, valueIn}
+use Rattle.isis_check_a.specs.Headers.{headerOf, masksIn, valueIn}
 use Rattle.isis_check_a.proofs.Laws.{rest-is, header-l, header-bytes, masks-say, front-is, lent-length, part-in, part-of-part, part-in-length}
 use Rattle.isis_check_a.proofs.Naming.{masks-small, adds-value, adds-read}
 use Rattle.isis_check.specs.declared.Judged.{Judged}
@@ -361,7 +361,7 @@ module _ (b : List ℕ) (at end : ℕ) (fits : end ≤ length b) where
           let s = masks-small b end fits (at + 9) x is (alive-says .0) in
           (s .0, s .1, omega (arith, masks-inside, header-bytes x after is))
 
-      pub named-tlv : (y : Names) → Adds m (advertisedAt x b (at + 9 + 2) ∷ []) y → Names-it (Accepted y)
+      pub named-tlv : (y : Names) → Adds m (advertisedAt (x .l) (x .standard) (x .user) b (at + 9 + 2) ∷ []) y → Names-it (Accepted y)
       named-tlv y a = live-tlv e y (adds-value b end fits (at + 9) x is masks-inside m y a)
 
 -- ---- a TLV of run B

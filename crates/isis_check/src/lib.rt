@@ -6,8 +6,8 @@ ghost use Prim.Native.Nat.{ℕ, _+_, _≤_, _<_};
 ghost use lib.ListN.{length};
 ghost use Rattle.linkstate.specs.Replies.{runB};
 ghost use Rattle.linkstate.specs.Elements.{element, elements, faults};
-ghost use Rattle.rules.specs.Names.{Adds, Checks, ChecksBehind};
-ghost use Rattle.isis_check_a.specs.Headers.{headerOf, advertisedAt, valueIn};
+ghost use Rattle.rules.specs.Names.{Checks, ChecksBehind};
+ghost use Rattle.isis_check_a.specs.Headers.{headerOf, valueIn};
 ghost use Rattle.isis.specs.RunB.{checkIdentifier, checkB, liveSrlg, srlgAdvertisements, sideB};
 ghost use Rattle.isis_check.specs.Identifiers.{knownOf, tallyOf, identifiedBy, identifiedIn, onceAndPaired, identifiersIn, Lists};
 ghost use Rattle.isis_check.specs.Parts.{partsVerdict, behindIn, Within, Judges};
@@ -215,33 +215,6 @@ fn check_srlg(b: &[u8], h: Header, at: usize, end: usize) -> Judged
     }
 }
 
-// The names with those of an advertisement whose masks stand at a place of the run, by its header.
-fn names_with(names: Names, h: Header, s: &[u8], at: usize) -> Names
-    requires { ⌜ (h .standard ≤ 8) × (h .user ≤ 8) × (at + h .standard + h .user ≤ length (now s)) × (length (now s) < 4294967296) ⌝ }
-    ensures { λ r. ⌜ Adds names (advertisedAt h (now (s .entry)) at ∷ []) r ⌝ }
-{
-    let behind = at + h.standard;
-    let standard = masks::with_sent(names.standard, s, at, h.standard);
-    let user = masks::with_sent(names.user, s, behind, h.user);
-    let l = h.l;
-    if l {
-        let lstandard = masks::with_sent(names.lstandard, s, at, h.standard);
-        let luser = masks::with_sent(names.luser, s, behind, h.user);
-        return Names {
-            standard,
-            user,
-            lstandard,
-            luser,
-        };
-    }
-    Names {
-        standard,
-        user,
-        lstandard: names.lstandard,
-        luser: names.luser,
-    }
-}
-
 // The same TLV, behind elements that name `names`.
 fn check_tlv(b: &[u8], at: usize, end: usize, names: Names) -> Checking
     requires { ⌜ (at + 2 ≤ end) × (end ≤ length (now b)) × (length (now b) < 4294967296) ⌝ }
@@ -255,7 +228,14 @@ fn check_tlv(b: &[u8], at: usize, end: usize, names: Names) -> Checking
     match check_srlg(b, h, at, end) {
         Judged::Refused(r) => return Checking::Refused(r),
         Judged::Ignored => return Checking::Accepted(names),
-        Judged::Live => return Checking::Accepted(names_with(names, h, b, head + 2)),
+        Judged::Live => return Checking::Accepted(rules::names_with(
+            names,
+            h.l,
+            h.standard,
+            h.user,
+            b,
+            head + 2,
+        )),
     }
 }
 

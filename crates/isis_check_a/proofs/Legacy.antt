@@ -106,11 +106,13 @@ module _ (a : List ℕ) where
     pub met-on : (n : ℕ) → IsWhole 1 a at (getD a at 0) n → (y : Bool) → y ≡ x || forApplications (getD a at 0) → Met (at + 2 + n) y
     unfolding any isLegacy
     met-on n f y e =
-        record { meets = ap (λ (b : Bool). b || any isLegacy (left 1 0 a (at + 2 + n))) e
-        ∙ or-assoc x (forApplications (getD a at 0)) (any isLegacy (left 1 0 a (at + 2 + n)))
-        ∙ ap (λ (t : ℕ). x || (forApplications t || any isLegacy (left 1 0 a (at + 2 + n)))) (sym (type-one a at))
-        ∙ ap (λ (es : List Element). x || any isLegacy es) (sym (left-whole 1 (omega arith) 0 a at n (f .size) (f .within)))
-        ∙ m .meets }
+        record {
+          meets = ap (λ (b : Bool). b || any isLegacy (left 1 0 a (at + 2 + n))) e
+              ∙ or-assoc x (forApplications (getD a at 0)) (any isLegacy (left 1 0 a (at + 2 + n)))
+              ∙ ap (λ (t : ℕ). x || (forApplications t || any isLegacy (left 1 0 a (at + 2 + n)))) (sym (type-one a at))
+              ∙ ap (λ (es : List Element). x || any isLegacy es) (sym (left-whole 1 (omega arith) 0 a at n (f .size) (f .within)))
+              ∙ m .meets;
+        }
 
     -- an ASLA is none of them
     pub met-asla : (n : ℕ) → IsWhole 1 a at (getD a at 0) n → getD a at 0 ≡ 16 → Met (at + 2 + n) x

@@ -25,7 +25,7 @@ use Rattle.replies.specs.Told.{toldRefusal, toldChecked}
 use Rattle.rules.specs.declared.Names.{Names}
 use Rattle.rules.specs.declared.Checking.{Checking}
 use Rattle.rules.specs.declared.Checking.the-variants.{Refused, Accepted}
-use Rattle.rules.specs.Names.{advertised, Tells, Adds, toldChecking, Checks, Added, ChecksBehind}
+use Rattle.rules.specs.Names.{advertised, advertisedAt, Tells, Adds, toldChecking, Checks, Added, ChecksBehind}
 use Rattle.rules.proofs.NameLaws.{Ahead, ahead-start, ahead-end, ahead-turn, adds-none, adds-as}
 use Rattle.frames.specs.declared.Frame.the-variants as Frame
 use Rattle.frames.specs.Frames.{frameIn}
@@ -36,7 +36,7 @@ use Rattle.isis.specs.RunA.{attributesOf, listElements, liveAsla, aslaAdvertise
 use Rattle.isis_check_a.specs.declared.Header.{Header}
 use Rattle.isis_check_a.specs.declared.Masks.{Masks}
 use Rattle.isis_check_a.specs.declared.Masks.the-variants.{Ignored, Past, End}
-use Rattle.isis_check_a.specs.Headers.{headerOf, tooLong, masksIn, advertisedAt, valueIn}
+use Rattle.isis_check_a.specs.Headers.{headerOf, tooLong, masksIn, valueIn}
 use Rattle.isis_check_a.proofs.Laws.{attribute-fits, attribute-wrong, sub-tlv-asla, sub-tlv-other, header-l, header-too-long, header-bytes, drop-take, front-is, part-in, part-of-part, part-in-length, Ends, masks-say, asla-ignored, asla-past, asla-l, asla-list}
 
 -- ---- the masks behind a header that stands at a place
@@ -58,7 +58,7 @@ module _ (s : List ℕ) (end : ℕ) (fits : end ≤ length s) (at : ℕ) (h : He
     part-behind : (i n : ℕ) → at + i + n ≤ end → take n (drop (at + i) s) ≡ take n (drop i v)
     part-behind i n g = sym (ap (take n) (drop-drop i at (take end s)) ∙ part-of-part s end fits (at + i) (omega arith) n g)
 
-    is-advertised : advertisedAt h s (at + 2) ≡ advertisement v []
+    is-advertised : advertisedAt (h .l) (h .standard) (h .user) s (at + 2) ≡ advertisement v []
     unfolding advertisement
     is-advertised =
         let x : h .standard ≡ sabmLength v = ap (λ (y : Header). y .standard) e in
@@ -75,7 +75,7 @@ module _ (s : List ℕ) (end : ℕ) (fits : end ≤ length s) (at : ℕ) (h : He
         go true = refl
         go false = refl
 
-    pub adds-value : (m r : Names) → Adds m (advertisedAt h s (at + 2) ∷ []) r → Adds m (advertisement v [] ∷ []) r
+    pub adds-value : (m r : Names) → Adds m (advertisedAt (h .l) (h .standard) (h .user) s (at + 2) ∷ []) r → Adds m (advertisement v [] ∷ []) r
     adds-value m r a = subst (λ (d : Advertisement). Adds m (d ∷ []) r) is-advertised a
 
 -- ---- an ASLA
@@ -179,7 +179,7 @@ module _ (a : List ℕ) (at end : ℕ) (fits : end ≤ length a) (two : at + 2 +
         let s = masks-small a end fits (at + 2) h header-in short-in in
         (s .0, s .1, omega (arith, list-in, list-is, header-bytes h asla header-in))
 
-    module _ (m r : Names) (adds : Adds m (advertisedAt h a (at + 2 + 2) ∷ []) r) where
+    module _ (m r : Names) (adds : Adds m (advertisedAt (h .l) (h .standard) (h .user) a (at + 2 + 2) ∷ []) r) where
       names-in : Adds m (aslaAdvertisements (element at 16 asla)) r
       names-in = asla-adds at asla short-in m r (adds-value a end fits (at + 2) h header-in (omega (arith, list-in, list-is)) m r adds)
 

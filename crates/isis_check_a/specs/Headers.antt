@@ -4,8 +4,6 @@ use mathlib.Core.List.{List}
 use Prim.Native.Nat.{ℕ, _+_}
 use lib.Dec.{eqb, ltb}
 use lib.ListN.{take, drop}
-use Rattle.linkstate.specs.Sides.{Advertisement}
-use Rattle.rules.specs.Names.{advertised}
 use Rattle.isis.specs.MaskHeader.{lFlag, sabmLength, udabmLength}
 use Rattle.isis_check_a.specs.declared.Header.{Header}
 use Rattle.isis_check_a.specs.declared.Masks.{Masks}
@@ -26,10 +24,6 @@ bytesBefore h = 2 + h .standard + h .user
 -- "either length above 8, the sub-TLV is ignored unread; masks past its end, 3": the masks of a header in n bytes.
 unfoldable pub masksIn : Header → ℕ → Masks
 masksIn h n = cond (tooLong h) Ignored (cond (ltb n (bytesBefore h)) Past (End (bytesBefore h)))
-
--- The advertisement of a header whose masks stand at a place, as far as whom it names goes.
-abbrev pub advertisedAt : Header → List ℕ → ℕ → Advertisement
-advertisedAt h s at = advertised (h .l) (take (h .standard) (drop at s)) (take (h .user) (drop (at + h .standard) s))
 
 -- The value of the element that stands from `at` to `end`.
 abbrev pub valueIn : List ℕ → ℕ → ℕ → List ℕ

@@ -6,11 +6,11 @@ ghost use lib.ListN.{length, drop};
 ghost use Rattle.linkstate.specs.Replies.{runA, fault};
 ghost use Rattle.linkstate.specs.Elements.{element, elements, faults};
 ghost use Rattle.replies.specs.Told.{toldRun, toldChecked};
-ghost use Rattle.rules.specs.Names.{Adds, ChecksBehind, ChecksSide};
+ghost use Rattle.rules.specs.Names.{ChecksBehind, ChecksSide};
 ghost use Rattle.isis.specs.Types.{wrongInA};
 ghost use Rattle.isis.specs.RunA.{checkAttribute, checkAsla, checkA, aslaAdvertisements, sideA};
 ghost use Rattle.isis_check_a.specs.Legacy.{forApplications};
-ghost use Rattle.isis_check_a.specs.Headers.{headerOf, tooLong, forNobody, bytesBefore, masksIn, advertisedAt, valueIn};
+ghost use Rattle.isis_check_a.specs.Headers.{headerOf, tooLong, forNobody, bytesBefore, masksIn, valueIn};
 use frames::Frame;
 use frames::frame_one;
 use replies::Checked;
@@ -139,33 +139,6 @@ fn check_list(s: &[u8], from: usize) -> Checked
     }
 }
 
-// The names with those of an advertisement whose masks stand at a place of the run, by its header.
-fn names_with(names: Names, h: Header, s: &[u8], at: usize) -> Names
-    requires { ⌜ (h .standard ≤ 8) × (h .user ≤ 8) × (at + h .standard + h .user ≤ length (now s)) × (length (now s) < 4294967296) ⌝ }
-    ensures { λ r. ⌜ Adds names (advertisedAt h (now (s .entry)) at ∷ []) r ⌝ }
-{
-    let behind = at + h.standard;
-    let standard = masks::with_sent(names.standard, s, at, h.standard);
-    let user = masks::with_sent(names.user, s, behind, h.user);
-    let l = h.l;
-    if l {
-        let lstandard = masks::with_sent(names.lstandard, s, at, h.standard);
-        let luser = masks::with_sent(names.luser, s, behind, h.user);
-        return Names {
-            standard,
-            user,
-            lstandard,
-            luser,
-        };
-    }
-    Names {
-        standard,
-        user,
-        lstandard: names.lstandard,
-        luser: names.luser,
-    }
-}
-
 // The ASLA sub-TLV that stands in run A from one place to another, behind elements that name `names`. With L its list is not read, whoever it names.
 fn check_asla(a: &[u8], at: usize, end: usize, names: Names) -> Checking
     requires { ⌜ (at + 2 ≤ end) × (end ≤ length (now a)) × (length (now a) < 4294967296) ⌝ }
@@ -180,7 +153,7 @@ fn check_asla(a: &[u8], at: usize, end: usize, names: Names) -> Checking
         Masks::Ignored => return Checking::Accepted(names),
         Masks::Past => return rules::refuse(3, Run::A, at),
         Masks::End(list) => {
-            let all = names_with(names, h, a, value + 2);
+            let all = rules::names_with(names, h.l, h.standard, h.user, a, value + 2);
             let l = h.l;
             if l {
                 return Checking::Accepted(all);

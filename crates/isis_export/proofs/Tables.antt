@@ -5,12 +5,11 @@ use mathlib.Core.List.{List, []}
 use Prim.Native.Nat.{ℕ, zero, suc, _+_, _≤_, _<_}
 use native.Mathlib.Omega.{arith}
 use lib.ListN.{length, getD, take, replicate, getD-replicate}
-use Rattle.linkstate.specs.Masks.{inNumber}
 use Rattle.linkstate.specs.Sides.{named}
 use Rattle.linkstate.specs.Meaning.{meaning}
-use Rattle.masks.specs.Sets.{inSent}
 use Rattle.rules.specs.declared.Names.{Names}
-use Rattle.masks.specs.Applications.{inBoth, inPair}
+use Rattle.masks.specs.declared.Applications.{Applications}
+use Rattle.masks.specs.Applications.{inSet, atPlace}
 use Rattle.rules.proofs.NameLaws.{side-named}
 use Rattle.set_table.specs.Tables.{howMany, Owned, Begun}
 use Rattle.set_table.proofs.Assigns.{many-same}
@@ -22,7 +21,7 @@ use Rattle.isis.specs.RunB.{sideB}
 use Rattle.isis.specs.Link.{linkSource}
 use Rattle.isis_index.specs.Started.{Started}
 use Rattle.isis_index.specs.Indexed.{Indexed}
-use Rattle.isis_index.proofs.Starting.{turned-both, started}
+use Rattle.isis_index.proofs.Starting.{started}
 use Rattle.isis_export.proofs.Sets.{resolves}
 use Rattle.isis_export.specs.declared.Link.{Link}
 use Rattle.isis_export.specs.Stages.{Ready, Unowned, Roomy}
@@ -43,23 +42,23 @@ or-second false y e = e
 
 module _ {a b c : List ℕ} {n : Link} {rows : List (List ℕ)} {values : List ℕ} (of : Ready a b c n rows values) where
   abbrev p : ℕ → Bool
-  p = inBoth (n .standard) (n .user)
+  p = inSet (n .who)
 
   abbrev pa : ℕ → Bool
-  pa = inBoth (n .a .standard) (n .a .user)
+  pa = inSet (n .a .named)
 
   abbrev pb : ℕ → Bool
-  pb = inBoth (n .b .standard) (n .b .user)
+  pb = inSet (n .b .named)
 
   -- Tables for k named applications, g of them other than RSVP-TE.
-  room-for : (k g : ℕ) → k ≤ 128 → Few (n .standard) (n .user) k → left p 1 ≤ g → (sets classes groups : List (List ℕ)) (places : List ℕ)
+  room-for : (k g : ℕ) → k ≤ 128 → Few (n .who) k → left p 1 ≤ g → (sets classes groups : List (List ℕ)) (places : List ℕ)
       → length sets ≡ 3 + k → (3 + k ≤ length classes) × (length classes ≤ 131) → length groups ≡ 1 + g → places ≡ replicate (length classes) 0
       → length places ≡ length classes
       → Roomy n sets classes groups places
   room-for k g most f h sets classes groups places x y z w v =
-      let i : Few (n .a .standard) (n .a .user) k = few-among (n .a .standard) (n .a .user) (n .standard) (n .user) k
+      let i : Few (n .a .named) k = few-among (n .a .named) (n .who) k
       (λ m e. of .joined m ∙ or-first (pa m) (pb m) e) f in
-      let j : Few (n .b .standard) (n .b .user) k = few-among (n .b .standard) (n .b .user) (n .standard) (n .user) k
+      let j : Few (n .b .named) k = few-among (n .b .named) (n .who) k
       (λ m e. of .joined m ∙ or-second (pa m) (pb m) e) f in
       record {
         slots = (omega (arith, i .numbers), omega arith);
@@ -69,17 +68,17 @@ module _ {a b c : List ℕ} {n : Link} {rows : List (List ℕ)} {values : List �
         unwritten = λ m. ap (λ (xs : List ℕ). getD xs m 0) w ∙ zeros (length classes) m;
       }
 
-  pub few-room : howMany (inPair (n .standard) (n .user)) 128 ≤ 12 → (sets classes groups : List (List ℕ)) (places : List ℕ)
+  pub few-room : howMany (atPlace (n .who)) 128 ≤ 12 → (sets classes groups : List (List ℕ)) (places : List ℕ)
       → length sets ≡ 15 → length classes ≡ 16 → length groups ≡ 13 → places ≡ replicate (length classes) 0 → length places ≡ length classes
       → Roomy n sets classes groups places
   few-room h sets classes groups places x y z w v =
-      let f = few-named (n .standard) (n .user) 12 h in
+      let f = few-named (n .who) 12 h in
       room-for 12 12 (omega arith) f (f .others) sets classes groups places x (omega arith, omega arith) z w v
 
   pub all-room : (sets classes groups : List (List ℕ)) (places : List ℕ)
       → length sets ≡ 131 → length classes ≡ 131 → length groups ≡ 128 → places ≡ replicate (length classes) 0 → length places ≡ length classes
       → Roomy n sets classes groups places
-  all-room sets classes groups places x y z w v = room-for 128 127 (omega arith) (few-all (n .standard) (n .user)) (left-most p) sets classes groups places x
+  all-room sets classes groups places x y z w v = room-for 128 127 (omega arith) (few-all (n .who)) (left-most p) sets classes groups places x
       (omega arith, omega arith) z w v
 
   -- What `export_rows` asks for.
@@ -110,14 +109,13 @@ module _ {a b c : List ℕ} {n : Link} {rows : List (List ℕ)} {values : List �
 pub unowned-owned : (own : List (List ℕ)) → Unowned own → Owned own
 unowned-owned own u = rw (u .is) (record { size = refl; pairs = λ q h. ap length (getD-replicate 128 q (replicate 2 0) [] h) })
 
--- Masks turned have as many bits.
-module _ (named : Names) (s u : ℕ) (es : (n : ℕ) → n < 64 → inNumber s n ≡ inSent (named .standard) n)
-    (eu : (n : ℕ) → n < 64 → inNumber u n ≡ inSent (named .user) n) where
-  pub turned-many : howMany (inPair s u) 128 ≡ howMany (inBoth (named .standard) (named .user)) 128
-  turned-many = many-same (inPair s u) (inBoth (named .standard) (named .user)) 128 (turned-both (named .standard) (named .user) s u es eu)
+-- A set turned has as many places.
+module _ (named : Names) (by : Applications) (is-named : (n : ℕ) → atPlace by n ≡ inSet (named .named) n) where
+  pub turned-many : howMany (atPlace by) 128 ≡ howMany (inSet (named .named)) 128
+  turned-many = many-same (atPlace by) (inSet (named .named)) 128 (λ n h. is-named n)
 
-  pub begun-started : {own after filled : List (List ℕ)} {k : ℕ} → Unowned own → Begun own after filled s u k → k ≡ 3 + howMany (inPair s u) 128
+  pub begun-started : {own after filled : List (List ℕ)} {k : ℕ} → Unowned own → Begun own after filled by k → k ≡ 3 + howMany (atPlace by) 128
       → k ≤ length filled → length filled ≤ 256
       → Started named (take k filled) after
   begun-started {own} {after} {filled} {k} e b is room most =
-      started named s u es eu (subst (λ (x : List (List ℕ)). Begun x after filled s u k) (e .is) b) (omega arith) (omega arith) room (take k filled) refl
+      started named by is-named (subst (λ (x : List (List ℕ)). Begun x after filled by k) (e .is) b) (omega arith) (omega arith) room (take k filled) refl

@@ -10,7 +10,7 @@ use Rattle.linkstate.specs.Elements.{elements, faults}
 use Rattle.linkstate.specs.Sides.{hasLegacy}
 use Rattle.rules.specs.declared.Names.{Names}
 use Rattle.rules.specs.Names.{Tells}
-use Rattle.masks.specs.Applications.{inBoth}
+use Rattle.masks.specs.Applications.{inSet}
 use Rattle.srlg_ranks.specs.Ranks.{inWords}
 use Rattle.srlg_table.specs.Blocks.{sizeOf}
 use Rattle.srlg_table.specs.declared.Used.{Used}
@@ -41,7 +41,7 @@ pub record Passed (a b c : List ℕ) (s : Sides) : Type 0 where
 -- W1, L19. What an export goes by: what its sides tell, and whom either names.
 pub record Joined (s : Sides) (used : Used) (measuring : Bool) (n : Link) : Type 0 where
   pub of : (n .a ≡ s .a) × (n .b ≡ s .b) × (n .used ≡ used) × (n .measuring ≡ measuring) × (n .legacya ≡ s .legacya) × (n .legacyb ≡ s .legacyb)
-  pub both : (i : ℕ) → inBoth (n .standard) (n .user) i ≡ inBoth (n .a .standard) (n .a .user) i || inBoth (n .b .standard) (n .b .user) i
+  pub both : (i : ℕ) → inSet (n .who) i ≡ inSet (n .a .named) i || inSet (n .b .named) i
 
 -- How much of the sources of SRLGs is used: rows of 16 words of bits, two sources at least.
 pub record InUse (rows : List (List ℕ)) (used : Used) : Type 0 where
@@ -51,7 +51,7 @@ pub record InUse (rows : List (List ℕ)) (used : Used) : Type 0 where
 -- Run A of such a link, with the SRLGs of its side B listed.
 pub record Ready (a b c : List ℕ) (n : Link) (rows : List (List ℕ)) (values : List ℕ) : Type 0 where
   pub passed : PassedA a (n .a) (n .legacya)
-  pub joined : (i : ℕ) → inBoth (n .standard) (n .user) i ≡ inBoth (n .a .standard) (n .a .user) i || inBoth (n .b .standard) (n .b .user) i
+  pub joined : (i : ℕ) → inSet (n .who) i ≡ inSet (n .a .named) i || inSet (n .b .named) i
   pub listed : Listed values rows (n .used) (n .b) (n .legacyb) (sideB b c)
   pub used : 0 < n .used .words → InUse rows (n .used)
 
@@ -68,8 +68,8 @@ pub record Unowned (own : List (List ℕ)) : Type 0 where
 
 -- Room in the tables for all whom the sides name, or either: slots from 3 on, three classes more, and an entry before the groups. Nothing is written yet.
 pub record Roomy (n : Link) (sets classes groups : List (List ℕ)) (places : List ℕ) : Type 0 where
-  pub slots : (3 + howMany (inBoth (n .a .standard) (n .a .user)) 128 ≤ length sets) × (length sets ≤ 256)
-  pub classed : (3 + sizeOf (inWords (n .b .standard ∷ n .b .user ∷ [])) ≤ length classes) × (length classes ≤ 131)
-  pub grouped : 1 + left (inBoth (n .standard) (n .user)) 1 ≤ length groups
+  pub slots : (3 + howMany (inSet (n .a .named)) 128 ≤ length sets) × (length sets ≤ 256)
+  pub classed : (3 + sizeOf (inWords (n .b .named .standard ∷ n .b .named .user ∷ [])) ≤ length classes) × (length classes ≤ 131)
+  pub grouped : 1 + left (inSet (n .who)) 1 ≤ length groups
   pub placed : length classes ≤ length places
   pub unwritten : (c : ℕ) → getD places c 0 ≡ 0

@@ -5,7 +5,7 @@ ghost use Prim.Native.Nat.{ℕ, _+_, _≤_};
 ghost use lib.ListN.{length, take};
 ghost use Rattle.linkstate.specs.Replies.{bytes};
 ghost use Rattle.replies.specs.Told.{toldWritten, toldExported};
-ghost use Rattle.masks.specs.Applications.{inBoth, inPair};
+ghost use Rattle.masks.specs.Applications.{inSet, atPlace};
 ghost use Rattle.set_table.specs.Tables.{howMany};
 ghost use Rattle.isis.specs.Link.{exportLink};
 ghost use Rattle.isis_index.specs.Started.{Started};
@@ -17,18 +17,19 @@ ghost use Rattle.isis_export.specs.Stages.{PassedA, Passed, Joined, Read
 use export_tables::Plan;
 use isis_check::LinkChecked;
 use isis_check::Sides;
+use masks::Applications;
 use replies::Written;
 use rules::Names;
 use srlg_table::Used;
 
-// Whom the sides of a link name, and whom either does, in masks as sent; whether their legacy attributes have a value of the kinds of applications; how much of the sources of its SRLGs is used; and whether the length alone is asked for.
+// Whom the sides of a link name, and whom either does; whether their legacy attributes have a value of the kinds of applications; how
+// much of the sources of its SRLGs is used; and whether the length alone is asked for.
 struct Link {
     a: Names,
     b: Names,
     legacya: bool,
     legacyb: bool,
-    standard: u64,
-    user: u64,
+    who: Applications,
     used: Used,
     measuring: bool,
 }
@@ -62,12 +63,10 @@ fn fill_sets(
     sets: &mut [[u32; 12]],
     own: &mut [[u8; 2]; 128],
 ) -> Slots
-    requires { ⌜ PassedA (now a) named legacy × Unowned (now own) × (3 + howMany (inBoth (named .standard) (named .user)) 128 ≤ length (now sets)) × (length (now sets) ≤ 256) ⌝ }
+    requires { ⌜ PassedA (now a) named legacy × Unowned (now own) × (3 + howMany (inSet (named .named)) 128 ≤ length (now sets)) × (length (now sets) ≤ 256) ⌝ }
     ensures { λ r. ⌜ (r .count ≤ length (now (sets .exit))) × Indexed (now (a .entry)) (take (r .count) (now (sets .exit))) (now (own .exit)) (r .rsvp) ⌝ }
 {
-    let standard = masks::turned(named.standard);
-    let user = masks::turned(named.user);
-    let count = set_table::assign_slots(standard, user, own, sets);
+    let count = set_table::assign_slots(masks::turned_set(named.named), own, sets);
     let rsvp = index_slots(a, named, legacy, sets, count, own);
     Slots { count, rsvp }
 }
@@ -91,9 +90,9 @@ fn export_with(
     let s = fill_sets(a, n.a, n.legacya, sets, &mut own);
     let names = n.b;
     let used = n.used;
+    let who = n.who;
     let t = Plan {
-        standard: n.standard,
-        user: n.user,
+        who,
         names,
         legacy: n.legacyb,
         used,
@@ -117,7 +116,7 @@ fn export_with(
 
 // The same with room of its own, for twelve named applications and for all.
 fn export_few(a: &[u8], n: Link, rows: &[[u64; 18]], values: &[u64], out: &mut [u8]) -> Written
-    requires { ⌜ ReadyFor (now a) n (now rows) (now values) × (howMany (inPair (n .standard) (n .user)) 128 ≤ 12) ⌝ }
+    requires { ⌜ ReadyFor (now a) n (now rows) (now values) × (howMany (atPlace (n .who)) 128 ≤ 12) ⌝ }
     ensures { λ q. ⌜ AnswersAll (now (a .entry)) n (now (rows .entry)) (now (values .entry)) (now (out .entry)) (toldExported q (now (out .exit))) ⌝ }
 {
     let mut sets = [[0u32; 12]; 15];
@@ -163,7 +162,7 @@ fn export_sized(a: &[u8], n: Link, rows: &[[u64; 18]], values: &[u64], out: &mut
     requires { ⌜ ReadyFor (now a) n (now rows) (now values) ⌝ }
     ensures { λ q. ⌜ AnswersAll (now (a .entry)) n (now (rows .entry)) (now (values .entry)) (now (out .entry)) (toldExported q (now (out .exit))) ⌝ }
 {
-    if export_tables::at_most(n.standard, n.user, 12) {
+    if export_tables::at_most(n.who, 12) {
         return export_few(a, n, rows, values, out);
     }
     export_many(a, n, rows, values, out)
@@ -184,21 +183,19 @@ fn export_listed(
     export_sized(a, n, rows, &values[0..count], out)
 }
 
-// What an export goes by, with the masks of both sides joined.
+// What an export goes by, with whom either side names.
 fn link_of(s: Sides, used: Used, measuring: bool) -> Link
     ensures { λ r. ⌜ Joined s used measuring r ⌝ }
 {
     let a = s.a;
     let b = s.b;
-    let standard = masks::joined(a.standard, b.standard);
-    let user = masks::joined(a.user, b.user);
+    let who = masks::join(a.named, b.named);
     Link {
         a,
         b,
         legacya: s.legacya,
         legacyb: s.legacyb,
-        standard,
-        user,
+        who,
         used,
         measuring,
     }

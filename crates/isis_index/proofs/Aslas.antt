@@ -17,7 +17,7 @@ use Rattle.linkstate.specs.Sides.{Advertisement, names, general, rsvpTeAlone}
 use Rattle.linkstate.proofs.ListLaws.{or-l, or-r}
 use Rattle.linkstate.proofs.ElementLaws.{part-place}
 use Rattle.octets.proofs.Laws.{part-is, length-bytesAt}
-use Rattle.masks.specs.Sets.{turnedPlace, inSent}
+use Rattle.masks.specs.Sets.{turnedPlace}
 use Rattle.masks.proofs.Laws.{bit-beyond}
 use Rattle.isis.specs.MaskHeader.{lFlag, sabmLength, udabmLength, headerLength, maskTooLong, lForNobody, advertisement}
 use Rattle.isis.specs.RunA.{checkAttribute, checkAsla, attributesOf, listElements, liveAsla, aslaAdvertisements}
@@ -28,9 +28,11 @@ use Rattle.isis_grids.specs.declared.Which.{Which}
 use Rattle.isis_grids.specs.declared.Which.the-variants.{Naming, General, RsvpTeAlone, WithoutL}
 use Rattle.isis_grids.specs.Selected.{selects, selected, Headed}
 use Rattle.isis_grids.proofs.Aslas.{headed, list-ok, list-behind, selected-flagged, selected-too-long, selected-read}
-use Rattle.masks.specs.Applications.{inPair}
+use Rattle.masks.specs.declared.Applications.{Applications}
+use Rattle.masks.specs.Applications.{inSet, atPlace}
+use Rattle.masks.proofs.Sets.{place-set, masks-alone}
 use Rattle.isis_index.specs.Index.{Source, live, heardByAll, heard, hereIn, partOf, Here, Told}
-use Rattle.isis_index.proofs.Pairs.{read-alone, pair-names, alone-is}
+use Rattle.isis_index.proofs.Pairs.{alone-is}
 
 -- ---- the tests of an advertisement without L, by its masks
 
@@ -60,18 +62,18 @@ module _ (v : List ℕ) (plain : lFlag v ≡ false) where
     for-all WithoutL = without-l
 
   -- Not both are, and they stand in the value.
-  module _ (some : sabmLength v + udabmLength v ≡ 0 → ⊥) (inside : headerLength v ≤ length v) (s u : ℕ) (small : s < 2 ^ 64) (low : u < 2 ^ 64)
-      (is : (k : ℕ) → inSent s k ≡ bit (ad .standardMask) k) (iu : (k : ℕ) → inSent u k ≡ bit (ad .userMask) k) where
-    pub sent-names : (n : ℕ) → inPair s u (turnedPlace n) ≡ names n ad
+  module _ (some : sabmLength v + udabmLength v ≡ 0 → ⊥) (inside : headerLength v ≤ length v) (who : Applications) (small : who .standard < 2 ^ 64) (low : who .user < 2 ^ 64)
+      (is : (n : ℕ) → inSet who n ≡ inMasks (ad .standardMask) (ad .userMask) n) where
+    pub sent-names : (n : ℕ) → atPlace who (turnedPlace n) ≡ names n ad
     unfolding names
-    sent-names = pair-names s u (ad .standardMask) (ad .userMask) is iu
+    sent-names n = place-set who n ∙ is n
 
     mask-lengths : (length (ad .standardMask) ≡ sabmLength v) × (length (ad .userMask) ≡ udabmLength v)
     unfolding advertisement headerLength
     mask-lengths =
         (omega (arith, length-take (sabmLength v) (drop 2 v), length-drop 2 v), omega (arith, length-take (udabmLength v) (drop (2 + sabmLength v) v), length-drop (2 + sabmLength v) v))
 
-    pub for-named : (w : Which) → selects w ad ≡ heard s u (live w)
+    pub for-named : (w : Which) → selects w ad ≡ heard who (live w)
     unfolding selects heard general
     for-named (Naming n) = sym (sent-names n)
     for-named General = go (eqb (length (ad .standardMask)) 0) refl (eqb (length (ad .userMask)) 0) refl
@@ -80,7 +82,7 @@ module _ (v : List ℕ) (plain : lFlag v ≡ false) where
         go true e true f = absurd (some (omega (arith, mask-lengths .0, mask-lengths .1, eqb-true (length (ad .standardMask)) 0 e, eqb-true (length (ad .userMask)) 0 f)))
         go true e false f = refl
         go false e y f = refl
-    for-named RsvpTeAlone = alone-is s u small low ad sent-names
+    for-named RsvpTeAlone = alone-is who small low ad sent-names
     for-named WithoutL = without-l
 
 -- ---- the ASLA at a position of run A
@@ -169,9 +171,9 @@ module _ {a : List ℕ} {at end : ℕ} (y : Here a at end) (asla : getD a at 0 �
         told-all from i j = list-told from i heardByAll (for-all value plain (omega (arith, standard-is, i, j)) (omega (arith, user-is, i, j)))
 
         -- As the code reads the masks.
-        module _ (s u : ℕ) (small : s < 2 ^ 64) (low : u < 2 ^ 64) (some : h .standard + h .user ≡ 0 → ⊥)
-            (is : (k : ℕ) → inSent s k ≡ inSent 0 k || bit (take (h .standard) (drop (at + 2 + 2) a)) k)
-            (iu : (k : ℕ) → inSent u k ≡ inSent 0 k || bit (take (h .user) (drop (at + 2 + 2 + h .standard) a)) k) where
+        module _ (nobody who : Applications) (small : who .standard < 2 ^ 64) (low : who .user < 2 ^ 64) (some : h .standard + h .user ≡ 0 → ⊥)
+            (none : (p : ℕ) → atPlace nobody p ≡ false)
+            (is : (n : ℕ) → inSet who n ≡ inSet nobody n || inMasks (take (h .standard) (drop (at + 2 + 2) a)) (take (h .user) (drop (at + 2 + 2 + h .standard) a)) n) where
           stands : bytesAt a (at + 2) (length value) ≡ value
           stands = ap (bytesAt a (at + 2)) value-size
 
@@ -191,22 +193,19 @@ module _ {a : List ℕ} {at end : ℕ} (y : Here a at end) (asla : getD a at 0 �
               ∙ mask-at (2 + h .standard) (h .user) (omega (arith, masks-there .2, value-size, y .ends))
               ∙ ap₂ (λ (k i : ℕ). take k (drop (2 + i) value)) user-is standard-is
 
-          sent-standard : (k : ℕ) → inSent s k ≡ bit ((advertisement value []) .standardMask) k
-          sent-standard k = read-alone s _ is k ∙ ap (λ (x : List ℕ). bit x k) standard-mask
-
-          sent-user : (k : ℕ) → inSent u k ≡ bit ((advertisement value []) .userMask) k
-          sent-user k = read-alone u _ iu k ∙ ap (λ (x : List ℕ). bit x k) user-mask
+          sent : (n : ℕ) → inSet who n ≡ inMasks ((advertisement value []) .standardMask) ((advertisement value []) .userMask) n
+          sent n = masks-alone _ _ nobody who none is n ∙ ap₂ (λ (x y : List ℕ). inMasks x y n) standard-mask user-mask
 
           some-bytes : sabmLength value + udabmLength value ≡ 0 → ⊥
           some-bytes z = some (omega (arith, standard-is, user-is))
 
-          pub told-named : (from : ℕ) → from ≡ at + 2 + 2 + h .standard + h .user → Told a at end from (heard s u)
-          told-named from i = list-told from i (heard s u) (for-named value plain some-bytes (has-header .1 short) s u small low sent-standard sent-user)
+          pub told-named : (from : ℕ) → from ≡ at + 2 + 2 + h .standard + h .user → Told a at end from (heard who)
+          told-named from i = list-told from i (heard who) (for-named value plain some-bytes (has-header .1 short) who small low sent)
 
-          pub named-here : (n : ℕ) → inPair s u (turnedPlace n) ≡ any (names n) (aslaAdvertisements (hereIn a at))
+          pub named-here : (n : ℕ) → atPlace who (turnedPlace n) ≡ any (names n) (aslaAdvertisements (hereIn a at))
           unfolding aslaAdvertisements liveAsla lForNobody any names advertisement
           named-here n =
-              sent-names value plain some-bytes (has-header .1 short) s u small low sent-standard sent-user n
+              sent-names value plain some-bytes (has-header .1 short) who small low sent n
               ∙ (rw (eq-eqb (getD a at 0) 16 asla, short, plain) (or-false (names n (advertisement value []))))
             where
               or-false : (b : Bool) → b ≡ b || false

@@ -18,7 +18,7 @@ use Rattle.masks.specs.Sets.{turnedPlace}
 use Rattle.kinds.specs.Rules.{gridCodes}
 use Rattle.rules.specs.declared.Names.{Names}
 use Rattle.rules.specs.Names.{Tells}
-use Rattle.masks.specs.Applications.{inBoth, inPair}
+use Rattle.masks.specs.Applications.{inSet, atPlace}
 use Rattle.rules.proofs.NameLaws.{side-named, side-flagged}
 use Rattle.rules.specs.declared.Rule.{Rule}
 use Rattle.rules.specs.declared.Rule.the-variants as Ru
@@ -42,7 +42,7 @@ use Rattle.isis_index.specs.Settled.{settled, Settled, fromOld, slotBy, 
 use Rattle.isis_index.specs.Indexed.{Holds, Indexed}
 use Rattle.isis_index.proofs.Codes.{link-first, link-same}
 use Rattle.isis_index.proofs.Cells.{cell-append, place-low}
-use Rattle.isis_index.proofs.Pairs.{pair-both}
+use Rattle.masks.proofs.Sets.{place-set}
 use Rattle.isis_index.proofs.Settling.{first-again}
 use Rattle.isis_index.proofs.Values.{grid-code, cell-empty}
 use Rattle.isis_index.proofs.Slots.{Filled, filled-holds, filled-alike, link-values, settled-first, settled-second, settled-third}
@@ -88,12 +88,12 @@ pub record Done (a : List ℕ) (named : Names) (x : Bool) (begun own middle ende
   pub small : length a < 65536
   pub tells : Tells ((sideA a) .live) named
   pub started : Started named begun own
-  pub walk : Settled a own begun middle (inBoth (named .lstandard) (named .luser) 0)
+  pub walk : Settled a own begun middle (inSet (named .flagged) 0)
   pub old : x ≡ hasLegacy (sideA a)
   pub rsvpTe : r ≡ rsvpTeSlot named x own
   pub holds : Table a ended
   pub gets : Given middle ended (fromOld middle (filledSlot named x own))
-  pub gives : Gave own given (inPair (named .lstandard) (named .luser)) 1
+  pub gives : Gave own given (atPlace (named .flagged)) 1
 
 -- Attributes by another name.
 filled-as : {a : List ℕ} {table : List (List ℕ)} {s : ℕ} {f g : ℕ → List Attribute} → ((c : ℕ) → f c ≡ g c) → Filled a table s f → Filled a table s g
@@ -107,36 +107,36 @@ filled-as {a} e y = record {
 data Slot (named : Names) (x : Bool) (own : List (List ℕ)) (filled r : ℕ) : Type 0 where
   old : filled ≡ 1 → r ≡ 1 → ((k : ℕ) (s : Side) → takenBy (ruleBy named x) k s ≡ s .legacy) → Slot named x own filled r
   bare : filled ≡ 1 → r ≡ 0 → ((k : ℕ) (s : Side) → takenBy (ruleBy named x) k s ≡ generalSet s) → Slot named x own filled r
-  first-own : filled ≡ slotAt own 7 → r ≡ slotAt own 7 → inBoth (named .standard) (named .user) 0 ≡ true
+  first-own : filled ≡ slotAt own 7 → r ≡ slotAt own 7 → inSet (named .named) 0 ≡ true
       → ((k : ℕ) (s : Side) → takenBy (ruleBy named x) k s ≡ cond (empty (valueOf k (ofLive (names 0) s))) (s .legacy) (ofLive (names 0) s))
       → Slot named x own filled r
 
 slot-is : (named : Names) (x : Bool) (own : List (List ℕ)) (r : ℕ) → r ≡ rsvpTeSlot named x own → Slot named x own (filledSlot named x own) r
 unfolding rsvpTeRule takenBy
-slot-is named x own r e = go (inBoth (named .lstandard) (named .luser) 0) refl (inBoth (named .standard) (named .user) 0) refl x refl
+slot-is named x own r e = go (inSet (named .flagged) 0) refl (inSet (named .named) 0) refl x refl
   where
     -- by whether it is named with L and named, and whether legacy has a value
     rule : Bool → Bool → Bool → Rule
     rule l n y = cond l ByL (cond n NamingFirst (cond y Legacy Ru.General))
 
-    go : (l : Bool) → inBoth (named .lstandard) (named .luser) 0 ≡ l → (n : Bool) → inBoth (named .standard) (named .user) 0 ≡ n → (y : Bool) → x ≡ y
+    go : (l : Bool) → inSet (named .flagged) 0 ≡ l → (n : Bool) → inSet (named .named) 0 ≡ n → (y : Bool) → x ≡ y
         → Slot named x own (filledSlot named x own) r
     go true i n j y h = old (ap (λ (q : Rule). filledBy q (slotAt own 7)) is) (e ∙ ap (λ (q : Rule). slotBy q (slotAt own 7)) is) (λ k s. ap (λ (q : Rule). takenBy q k s) is)
       where
-        is : rule (inBoth (named .lstandard) (named .luser) 0) (inBoth (named .standard) (named .user) 0) x ≡ ByL
+        is : rule (inSet (named .flagged) 0) (inSet (named .named) 0) x ≡ ByL
         is = rw i
     go false i true j y h =
         first-own (ap (λ (q : Rule). filledBy q (slotAt own 7)) is) (e ∙ ap (λ (q : Rule). slotBy q (slotAt own 7)) is) j (λ k s. ap (λ (q : Rule). takenBy q k s) is)
       where
-        is : rule (inBoth (named .lstandard) (named .luser) 0) (inBoth (named .standard) (named .user) 0) x ≡ NamingFirst
+        is : rule (inSet (named .flagged) 0) (inSet (named .named) 0) x ≡ NamingFirst
         is = rw (i, j)
     go false i false j true h = old (ap (λ (q : Rule). filledBy q (slotAt own 7)) is) (e ∙ ap (λ (q : Rule). slotBy q (slotAt own 7)) is) (λ k s. ap (λ (q : Rule). takenBy q k s) is)
       where
-        is : rule (inBoth (named .lstandard) (named .luser) 0) (inBoth (named .standard) (named .user) 0) x ≡ Legacy
+        is : rule (inSet (named .flagged) 0) (inSet (named .named) 0) x ≡ Legacy
         is = rw (i, j, h)
     go false i false j false h = bare (ap (λ (q : Rule). filledBy q (slotAt own 7)) is) (e ∙ ap (λ (q : Rule). slotBy q (slotAt own 7)) is) (λ k s. ap (λ (q : Rule). takenBy q k s) is)
       where
-        is : rule (inBoth (named .lstandard) (named .luser) 0) (inBoth (named .standard) (named .user) 0) x ≡ Ru.General
+        is : rule (inSet (named .flagged) 0) (inSet (named .named) 0) x ≡ Ru.General
         is = rw (i, j, h)
 
 zero-place : turnedPlace 0 ≡ 7
@@ -148,11 +148,11 @@ module _ {a : List ℕ} {m : Names} {x : Bool} {begun own middle ended given : L
   side = sideA a
 
   abbrev l : Bool
-  l = inBoth (m .lstandard) (m .luser) 0
+  l = inSet (m .flagged) 0
 
   -- Whether application n is named.
   abbrev isNamed : ℕ → Bool
-  isNamed n = inBoth (m .standard) (m .user) n
+  isNamed n = inSet (m .named) n
 
   abbrev slot : ℕ → ℕ
   slot n = slotAt own (turnedPlace n)
@@ -418,7 +418,7 @@ module _ {a : List ℕ} {m : Names} {x : Bool} {begun own middle ended given : L
   unfolding slotOf
   given-slot n h =
       d .gives .slots (turnedPlace n) (place-low n h)
-      ∙ ap (λ (b : Bool). cond b 1 (slot n)) (pair-both (m .lstandard) (m .luser) n ∙ side-flagged side m (d .tells) n)
+      ∙ ap (λ (b : Bool). cond b 1 (slot n)) (place-set (m .flagged) n ∙ side-flagged side m (d .tells) n)
 
   few-slots : (n : ℕ) → n < 128 → slotOf given n < 256
   few-slots n h = subst (λ (s : ℕ). s < 256) (sym (given-slot n h)) (go (namedWithL n side) (isNamed n) refl)

@@ -13,7 +13,8 @@ use Rattle.kinds.specs.Rules.{gridCodes}
 use Rattle.isis.specs.Types.{codeOfType}
 use Rattle.srlg_sources.proofs.Joins.{any-none}
 use Rattle.set_table.specs.Tables.{cellOf, Table, Given, onlyAt, slotAt, reaches, toNamed, Having, Within}
-use Rattle.masks.specs.Applications.{inPair}
+use Rattle.masks.specs.declared.Applications.{Applications}
+use Rattle.masks.specs.Applications.{atPlace}
 use Rattle.set_table.proofs.Named.{reaches-own}
 use Rattle.isis_grids.specs.declared.Which.the-variants.{RsvpTeAlone, WithoutL}
 use Rattle.isis_index.specs.Index.{legacy, live, Spot, general, old, bandwidth, maximum, alone, own, sourceOf, slotIn, cellAt, codeOf, owning, Valid, Ground, Kept, told, heard, attributeAt, TookFor, Ready}
@@ -21,25 +22,25 @@ use Rattle.isis_index.proofs.Codes.{grid-same, link-same, grid-link, li
 use Rattle.isis_index.proofs.Cells.{own-high, place-low, adds-by, given-nothing, kept-only}
 
 -- Who hears such a list.
-module _ (standard user : ℕ) where
-  pub heard-legacy : heard standard user legacy ≡ false
+module _ (who : Applications) where
+  pub heard-legacy : heard who legacy ≡ false
   unfolding heard
   heard-legacy = refl
 
-  pub heard-without : heard standard user (live WithoutL) ≡ true
+  pub heard-without : heard who (live WithoutL) ≡ true
   unfolding heard
   heard-without = refl
 
-  pub heard-alone : heard standard user (live RsvpTeAlone) ≡ eqb standard 128 && eqb user 0
+  pub heard-alone : heard who (live RsvpTeAlone) ≡ eqb (who .standard) 128 && eqb (who .user) 0
   unfolding heard
   heard-alone = refl
 
 -- No place of the masks has one of the first three slots.
-low-unreached : (owns : List (List ℕ)) (standard user : ℕ) → Within standard user (owning owns) → (s : ℕ) → s < 3 → reaches owns standard user s ≡ false
+low-unreached : (owns : List (List ℕ)) (who : Applications) → Within who (owning owns) → (s : ℕ) → s < 3 → reaches owns who s ≡ false
 unfolding reaches
-low-unreached owns standard user w s l = any-none (λ p. inPair standard user p && eqb (slotAt owns p) s) 128 (λ p h. go p h (inPair standard user p) refl)
+low-unreached owns who w s l = any-none (λ p. atPlace who p && eqb (slotAt owns p) s) 128 (λ p h. go p h (atPlace who p) refl)
   where
-    go : (p : ℕ) → p < 128 → (b : Bool) → inPair standard user p ≡ b → b && eqb (slotAt owns p) s ≡ false
+    go : (p : ℕ) → p < 128 → (b : Bool) → atPlace who p ≡ b → b && eqb (slotAt owns p) s ≡ false
     go p h true e = let i = leb-true 3 (slotAt owns p) (w p h e) in ne-eqb (slotAt owns p) s (λ f. omega arith)
     go p h false e = refl
 
@@ -53,29 +54,29 @@ and-swap true false = refl
 and-swap false true = refl
 and-swap false false = refl
 
-module _ (owns table : List (List ℕ)) (g : Ground owns table) (standard user : ℕ) (w : Within standard user (owning owns)) (code c : ℕ) where
+module _ (owns table : List (List ℕ)) (g : Ground owns table) (who : Applications) (w : Within who (owning owns)) (code c : ℕ) where
   -- One of the ten kinds: for the applications of the masks.
   pub named-grid : (k : ℕ) → k < 10 → code ≡ getD gridCodes k 0 → (x : Spot) → Valid owns x
-      → toNamed owns standard user k c (slotIn owns x) (cellAt x) ≡ cond (heard standard user (sourceOf x) && eqb (codeOf x) code) c 0
+      → toNamed owns who k c (slotIn owns x) (cellAt x) ≡ cond (heard who (sourceOf x) && eqb (codeOf x) code) c 0
   unfolding heard
-  named-grid k h e (general j) v = none-in (eqb j k) _ c (low-unreached owns standard user w 0 (omega arith))
-  named-grid k h e (old j) v = none-in (eqb j k) _ c (low-unreached owns standard user w 1 (omega arith))
-  named-grid k h e (bandwidth j) v = none-in (eqb j k) _ c (low-unreached owns standard user w 2 (omega arith))
+  named-grid k h e (general j) v = none-in (eqb j k) _ c (low-unreached owns who w 0 (omega arith))
+  named-grid k h e (old j) v = none-in (eqb j k) _ c (low-unreached owns who w 1 (omega arith))
+  named-grid k h e (bandwidth j) v = none-in (eqb j k) _ c (low-unreached owns who w 2 (omega arith))
   named-grid k h e maximum v =
-      none-in (eqb 3 k) _ c (low-unreached owns standard user w 2 (omega arith))
+      none-in (eqb 3 k) _ c (low-unreached owns who w 2 (omega arith))
       ∙ sym (ap (λ (b : Bool). cond b c 0) (ap₂ eqb (sym link-first) e ∙ link-grid 0 k (omega arith) h))
   named-grid k h e (alone j) v =
-      none-in (eqb (4 + j) k) _ c (low-unreached owns standard user w 2 (omega arith))
-      ∙ sym (none-in (eqb standard 128 && eqb user 0) _ c (ap (eqb (getD linkCodes (1 + j) 0)) e ∙ link-grid (1 + j) k (omega arith) h))
+      none-in (eqb (4 + j) k) _ c (low-unreached owns who w 2 (omega arith))
+      ∙ sym (none-in (eqb (who .standard) 128 && eqb (who .user) 0) _ c (ap (eqb (getD linkCodes (1 + j) 0)) e ∙ link-grid (1 + j) k (omega arith) h))
   named-grid k h e (own n j) v =
       ap (λ (b : Bool). cond b c 0)
-      (ap₂ (λ (a b : Bool). a && b) (sym (ap (eqb (getD gridCodes j 0)) e ∙ grid-same j k (v .2) h)) (reaches-own table owns (owning owns) (g .slotted) standard user w (turnedPlace n) (place-low n (v .0)) (v .1))
-      ∙ and-swap (eqb (getD gridCodes j 0) code) (inPair standard user (turnedPlace n)))
+      (ap₂ (λ (a b : Bool). a && b) (sym (ap (eqb (getD gridCodes j 0)) e ∙ grid-same j k (v .2) h)) (reaches-own table owns (owning owns) (g .slotted) who w (turnedPlace n) (place-low n (v .0)) (v .1))
+      ∙ and-swap (eqb (getD gridCodes j 0) code) (atPlace who (turnedPlace n)))
 
-module _ (owns : List (List ℕ)) (standard user code c : ℕ) where
+module _ (owns : List (List ℕ)) (who : Applications) (code c : ℕ) where
   -- The other two bandwidths, where RSVP-TE alone is named.
-  pub alone-link : eqb standard 128 && eqb user 0 ≡ true → (k : ℕ) → k < 3 → (k ≡ 0 → ⊥) → code ≡ getD linkCodes k 0 → (x : Spot) → Valid owns x
-      → onlyAt 2 (3 + k) c (slotIn owns x) (cellAt x) ≡ cond (heard standard user (sourceOf x) && eqb (codeOf x) code) c 0
+  pub alone-link : eqb (who .standard) 128 && eqb (who .user) 0 ≡ true → (k : ℕ) → k < 3 → (k ≡ 0 → ⊥) → code ≡ getD linkCodes k 0 → (x : Spot) → Valid owns x
+      → onlyAt 2 (3 + k) c (slotIn owns x) (cellAt x) ≡ cond (heard who (sourceOf x) && eqb (codeOf x) code) c 0
   unfolding heard
   alone-link a k m d e (general j) v = refl
   alone-link a k m d e (old j) v = refl
@@ -92,7 +93,7 @@ module _ (owns : List (List ℕ)) (standard user code c : ℕ) where
       shift false i = let f = eqb-false (1 + j) k i in ne-eqb (4 + j) (3 + k) (λ z. f (omega arith)) ∙ sym i
   alone-link a k m d e (own n j) v =
       ap (λ (b : Bool). cond (b && eqb j (3 + k)) c 0) (ne-eqb (slotAt owns (turnedPlace n)) 2 (λ i. omega (arith, own-high owns n (v .1))))
-      ∙ sym (none-in (inPair standard user (turnedPlace n)) _ c (ap (eqb (getD gridCodes j 0)) e ∙ grid-link j k (v .2) m))
+      ∙ sym (none-in (atPlace who (turnedPlace n)) _ c (ap (eqb (getD gridCodes j 0)) e ∙ grid-link j k (v .2) m))
 
 -- ---- who has a value, where the slots of applications stay
 
@@ -112,7 +113,7 @@ ground-same e g = record {
 
 -- ---- one attribute entered
 
-module _ (run : List ℕ) (owns table have after : List (List ℕ)) (r : Ready run owns table have) (standard user t place n : ℕ) (v : List ℕ) where
+module _ (run : List ℕ) (owns table have after : List (List ℕ)) (r : Ready run owns table have) (who : Applications) (t place n : ℕ) (v : List ℕ) where
   abbrev code : ℕ
   code = codeOfType t
 
@@ -120,28 +121,28 @@ module _ (run : List ℕ) (owns table have after : List (List ℕ)) (r : Ready r
   c = cellOf place n
 
   pub for-only : (k : ℕ) → Table run after → Given table after (onlyAt 2 k c)
-      → ((x : Spot) → Valid owns x → onlyAt 2 k c (slotIn owns x) (cellAt x) ≡ cond (heard standard user (sourceOf x) && eqb (codeOf x) code) c 0)
-      → TookFor run owns table have after have (heard standard user) (attributeAt t place n v ∷ [])
+      → ((x : Spot) → Valid owns x → onlyAt 2 k c (slotIn owns x) (cellAt x) ≡ cond (heard who (sourceOf x) && eqb (codeOf x) code) c 0)
+      → TookFor run owns table have after have (heard who) (attributeAt t place n v ∷ [])
   for-only k holds g e = record {
     holds = holds;
     having = having-kept (r .ground) (kept-only 2 k c (omega arith) g) (r .having);
-    adds = adds-by (heard standard user) (attributeAt t place n v) (r .ground) g e;
+    adds = adds-by (heard who) (attributeAt t place n v) (r .ground) g e;
   }
 
-  pub for-named : Within standard user (owning owns) → (k : ℕ) → k < 10 → codeOfType t ≡ getD gridCodes k 0 → (had : List (List ℕ)) → Table run after
-      → Given table after (toNamed owns standard user k c) → Having after owns had (owning owns)
-      → TookFor run owns table have after had (heard standard user) (attributeAt t place n v ∷ [])
+  pub for-named : Within who (owning owns) → (k : ℕ) → k < 10 → codeOfType t ≡ getD gridCodes k 0 → (had : List (List ℕ)) → Table run after
+      → Given table after (toNamed owns who k c) → Having after owns had (owning owns)
+      → TookFor run owns table have after had (heard who) (attributeAt t place n v ∷ [])
   for-named w k l e had holds g h = record {
     holds = holds;
     having = h;
-    adds = adds-by (heard standard user) (attributeAt t place n v) (r .ground) g (named-grid owns table (r .ground) standard user w (codeOfType t) (cellOf place n) k l e);
+    adds = adds-by (heard who) (attributeAt t place n v) (r .ground) g (named-grid owns table (r .ground) who w (codeOfType t) (cellOf place n) k l e);
   }
 
-pub for-none : (run : List ℕ) (owns table have : List (List ℕ)) → Ready run owns table have → (standard user t place n : ℕ) (v : List ℕ)
-    → ((x : Spot) → Valid owns x → 0 ≡ cond (heard standard user (sourceOf x) && eqb (codeOf x) (codeOfType t)) (cellOf place n) 0)
-    → TookFor run owns table have table have (heard standard user) (attributeAt t place n v ∷ [])
-for-none run owns table have r standard user t place n v e = record {
+pub for-none : (run : List ℕ) (owns table have : List (List ℕ)) → Ready run owns table have → (who : Applications) (t place n : ℕ) (v : List ℕ)
+    → ((x : Spot) → Valid owns x → 0 ≡ cond (heard who (sourceOf x) && eqb (codeOf x) (codeOfType t)) (cellOf place n) 0)
+    → TookFor run owns table have table have (heard who) (attributeAt t place n v ∷ [])
+for-none run owns table have r who t place n v e = record {
   holds = r .holds;
   having = r .having;
-  adds = adds-by (heard standard user) (attributeAt t place n v) (r .ground) (given-nothing table) e;
+  adds = adds-by (heard who) (attributeAt t place n v) (r .ground) (given-nothing table) e;
 }

@@ -1,28 +1,28 @@
 -- The slot of RSVP-TE's set, by its rule. Assumes nothing.
 use mathlib.Core.Path.{_≡_, refl, sym, ap, ap₂, _∙_, subst}
 use mathlib.Core.Bool.{Bool, true, false}
-use mathlib.Core.Logic.{⊎-elim}
 use mathlib.Core.List.{List, [], _∷_}
 use Prim.Native.Nat.{ℕ}
 use native.Mathlib.Omega.{arith}
 use types.Run.{OneOf}
 use denote.Enum.Declared.{tagOf}
 use Rattle.rules.specs.declared.Names.{Names}
-use Rattle.masks.specs.Applications.{inBoth}
+use Rattle.masks.specs.Applications.{inSet}
 use Rattle.rules.specs.declared.Rule.{Rule}
 use Rattle.rules.specs.declared.Rule.the-variants.{ByL, Naming, General, Legacy, NamingFirst, AloneFirst, LegacyFirst}
 use Rattle.rules.specs.Rules.{rsvpTeRule}
 use Rattle.rules.proofs.Rule.{the-type}
+use Rattle.rules.proofs.Laws.{FromLegacy, from-legacy}
 use Rattle.set_table.specs.Tables.{slotAt, Given}
 use Rattle.isis_index.specs.Settled.{fromOld, slotBy, filledBy, ruleBy, rsvpTeSlot, filledSlot}
 
 -- Every rule but two takes legacy's slot, and every rule but one leaves the slots as they are.
-slot-other : (r : Rule) (s : ℕ) → OneOf (0 ∷ 1 ∷ 3 ∷ 5 ∷ 6 ∷ []) (tagOf the-type r) → (1 ≡ slotBy r s) × (1 ≡ filledBy r s)
+slot-other : (r : Rule) (s : ℕ) → FromLegacy r → (1 ≡ slotBy r s) × (1 ≡ filledBy r s)
 slot-other ByL s h = (refl, refl)
 slot-other (Naming n) s h = (refl, refl)
-slot-other General s h = absurd (⊎-elim (λ e. omega arith) (λ h. ⊎-elim (λ e. omega arith) (λ h. ⊎-elim (λ e. omega arith) (λ h. ⊎-elim (λ e. omega arith) (λ e. omega arith) h) h) h) h)
+slot-other General s h = absurd h
 slot-other Legacy s h = (refl, refl)
-slot-other NamingFirst s h = absurd (⊎-elim (λ e. omega arith) (λ h. ⊎-elim (λ e. omega arith) (λ h. ⊎-elim (λ e. omega arith) (λ h. ⊎-elim (λ e. omega arith) (λ e. omega arith) h) h) h) h)
+slot-other NamingFirst s h = absurd h
 slot-other AloneFirst s h = (refl, refl)
 slot-other LegacyFirst s h = (refl, refl)
 
@@ -35,7 +35,7 @@ first-named false false true e = let z : _≡_ {A = ℕ} 0 1 = cc in absurd (ome
 first-named false false false e = let z : _≡_ {A = ℕ} 0 1 = cc in absurd (omega arith)
 
 -- As the code asks for the rule.
-module _ (named : Names) (x : Bool) (owns : List (List ℕ)) (l n : Bool) (is : l ≡ inBoth (named .lstandard) (named .luser) 0) (iu : n ≡ inBoth (named .standard) (named .user) 0) (r : Rule) (e : r ≡ rsvpTeRule l n x) where
+module _ (named : Names) (x : Bool) (owns : List (List ℕ)) (l n : Bool) (is : l ≡ inSet (named .flagged) 0) (iu : n ≡ inSet (named .named) 0) (r : Rule) (e : r ≡ rsvpTeRule l n x) where
   rule-is : r ≡ ruleBy named x
   rule-is = e ∙ ap₂ (λ (y z : Bool). rsvpTeRule y z x) is iu
 
@@ -49,14 +49,14 @@ module _ (named : Names) (x : Bool) (owns : List (List ℕ)) (l n : Bool) (is : 
   pub own-slot : r ≡ NamingFirst → Told (slotAt owns 7) (slotAt owns 7)
   own-slot i = by-rule NamingFirst i
 
-  pub own-named : r ≡ NamingFirst → inBoth (named .standard) (named .user) 0 ≡ true
+  pub own-named : r ≡ NamingFirst → inSet (named .named) 0 ≡ true
   own-named i = sym iu ∙ first-named l n x (sym e ∙ i)
 
   pub general-slot : r ≡ General → Told 0 1
   general-slot i = by-rule General i
 
   pub old-slot : OneOf (0 ∷ 1 ∷ 3 ∷ 5 ∷ 6 ∷ []) (tagOf the-type r) → Told 1 1
-  old-slot h = let o = slot-other r (slotAt owns 7) h in let t = by-rule r refl in (o .0 ∙ t .0, o .1 ∙ t .1)
+  old-slot h = let o = slot-other r (slotAt owns 7) (from-legacy r h) in let t = by-rule r refl in (o .0 ∙ t .0, o .1 ∙ t .1)
 
 -- Values given to a slot, by another name of it.
 pub given-to : {sets after : List (List ℕ)} {s t : ℕ} → s ≡ t → Given sets after (fromOld sets s) → Given sets after (fromOld sets t)

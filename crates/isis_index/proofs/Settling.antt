@@ -13,7 +13,8 @@ use lib.Seq.{getD-set-other}
 use Rattle.linkstate.specs.Masks.{inNumber}
 use Rattle.grids.specs.Slots.{cell, cellRow, IsSet}
 use Rattle.set_table.specs.Tables.{cellOf, first, CellFits, Table, Value, Given, onlyAt, hasPlace, Gave}
-use Rattle.masks.specs.Applications.{inPair}
+use Rattle.masks.specs.declared.Applications.{Applications}
+use Rattle.masks.specs.Applications.{atPlace}
 use Rattle.set_table.proofs.Tables.{first-none, given-none, given-then, given-as}
 use Rattle.set_table.proofs.Owns.{gave-then, gave-as}
 use Rattle.isis_index.specs.Settled.{withMaximum, settled, fromOld}
@@ -156,22 +157,22 @@ beyond : (m n : ℕ) → m < 2 ^ 64 → 64 ≤ n → inNumber m n ≡ false
 unfolding inNumber
 beyond m n f h = rw (div-eq-of-lt (lt-of-lt-of-le f (pow-mono h)))
 
-pub both-places : (standard user : ℕ) → standard < 2 ^ 64 → (p : ℕ) → hasPlace 0 standard p || hasPlace 64 user p ≡ inPair standard user p
-unfolding hasPlace inPair
-both-places standard user f p = go (ltb p 64) refl
+pub both-places : (who : Applications) → who .standard < 2 ^ 64 → (p : ℕ) → hasPlace 0 (who .standard) p || hasPlace 64 (who .user) p ≡ atPlace who p
+unfolding hasPlace atPlace
+both-places who f p = go (ltb p 64) refl
   where
-    all : leb 0 p && inNumber standard (p - 0) ≡ inNumber standard p
+    all : leb 0 p && inNumber (who .standard) (p - 0) ≡ inNumber (who .standard) p
     all = let e : p - 0 ≡ p = omega arith in rw (le-leb 0 p (omega arith), e)
 
     go : (b : Bool) → ltb p 64 ≡ b
-        → (leb 0 p && inNumber standard (p - 0)) || (leb 64 p && inNumber user (p - 64)) ≡ cond b (inNumber standard p) (inNumber user (p - 64))
-    go true e = ap₂ (λ (x y : Bool). x || (y && inNumber user (p - 64))) all (lt-leb 64 p (ltb-true p 64 e)) ∙ or-false (inNumber standard p)
+        → (leb 0 p && inNumber (who .standard) (p - 0)) || (leb 64 p && inNumber (who .user) (p - 64)) ≡ cond b (inNumber (who .standard) p) (inNumber (who .user) (p - 64))
+    go true e = ap₂ (λ (x y : Bool). x || (y && inNumber (who .user) (p - 64))) all (lt-leb 64 p (ltb-true p 64 e)) ∙ or-false (inNumber (who .standard) p)
       where
         or-false : (b : Bool) → b || false ≡ b
         or-false true = refl
         or-false false = refl
-    go false e = let h = ltb-false p 64 e in ap₂ (λ (x y : Bool). x || (y && inNumber user (p - 64))) (all ∙ beyond standard p f h) (le-leb 64 p h)
+    go false e = let h = ltb-false p 64 e in ap₂ (λ (x y : Bool). x || (y && inNumber (who .user) (p - 64))) (all ∙ beyond (who .standard) p f h) (le-leb 64 p h)
 
-pub gave-both : {own mid after : List (List ℕ)} {s : ℕ} (standard user : ℕ) → standard < 2 ^ 64 → Gave own mid (hasPlace 0 standard) s
-    → Gave mid after (hasPlace 64 user) s → Gave own after (inPair standard user) s
-gave-both standard user f a b = gave-as (λ p h. both-places standard user f p) (gave-then a b)
+pub gave-both : {own mid after : List (List ℕ)} {s : ℕ} (who : Applications) → who .standard < 2 ^ 64 → Gave own mid (hasPlace 0 (who .standard)) s
+    → Gave mid after (hasPlace 64 (who .user)) s → Gave own after (atPlace who) s
+gave-both who f a b = gave-as (λ p h. both-places who f p) (gave-then a b)

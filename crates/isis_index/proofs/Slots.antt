@@ -16,7 +16,7 @@ use Rattle.kinds.specs.Rules.{gridCodes, rowIn}
 use Rattle.isis_kinds.proofs.Computing.{computing}
 use Rattle.isis.proofs.TypeLaws.{wrongOfCode}
 use Rattle.rules.specs.declared.Names.{Names}
-use Rattle.masks.specs.Applications.{inBoth}
+use Rattle.masks.specs.Applications.{inSet}
 use Rattle.grids.specs.Grids.{rowValue, gridValue, bandwidthOf, Alike}
 use Rattle.grids.specs.Slots.{cell, cellRow, slotGrid, linkRows, IsSet}
 use Rattle.grids.proofs.Laws.{grid-at, row-numbers, slot-row, length-slot}
@@ -163,7 +163,7 @@ pub settled-of : {a : List ℕ} {own begun walked table : List (List ℕ)} {l : 
 settled-of {a} {own} {begun} {walked} h w b e i = record { walked = walked; same = h; walk = w; settles = i ∙ ap (λ (x : Bool). set walked 2 (settled (getD walked 2 []) x)) e }
 
 pub settled-ready : {a : List ℕ} {named : Names} {own begun table : List (List ℕ)} {l : Bool} → Started named begun own → Settled a own begun table l
-    → Table a table × (1 < length table) × (inBoth (named .standard) (named .user) 0 ≡ true → IsSet table (slotAt own 7))
+    → Table a table × (1 < length table) × (inSet (named .named) 0 ≡ true → IsSet table (slotAt own 7))
 unfolding turnedPlace
 settled-ready {a} {named} {own} {begun} {table} {l} y s = (
   subst (Table a) (sym (s .settles)) (settled-table (s .walk .holds) (omega (arith, s .same, y .three)) l),

@@ -14,7 +14,8 @@ use Rattle.masks.specs.Sets.{turnedPlace, inSent}
 use Rattle.masks.proofs.Steps.{turned-back}
 use Rattle.rules.specs.declared.Names.{Names}
 use Rattle.rules.specs.Names.{Tells}
-use Rattle.masks.specs.Applications.{inBoth, inPair}
+use Rattle.masks.specs.declared.Applications.{Applications}
+use Rattle.masks.specs.Applications.{inSet, atPlace}
 use Rattle.set_table.specs.Tables.{slotAt, Owned, Begun}
 use Rattle.isis_index.specs.Index.{owning, Ground, Owning}
 use Rattle.isis_index.specs.Started.{Started}
@@ -35,32 +36,19 @@ unowned-rows = record { size = refl; pairs = λ p h. row 128 p h }
     row (suc n) zero h = refl
     row (suc n) (suc p) h = row n p (omega arith)
 
--- The sets of two masks as sent, n as 2 to the n.
-pub turned-both : (s u x y : ℕ) → ((n : ℕ) → n < 64 → inNumber x n ≡ inSent s n) → ((n : ℕ) → n < 64 → inNumber y n ≡ inSent u n) → (n : ℕ) → n < 128
-    → inPair x y n ≡ inBoth s u n
-unfolding inPair inBoth
-turned-both s u x y p q n h = go (ltb n 64) refl
-  where
-    go : (b : Bool) → ltb n 64 ≡ b → cond b (inNumber x n) (inNumber y (n - 64)) ≡ cond b (inSent s n) (inSent u (n - 64))
-    go true e = p n (ltb-true n 64 e)
-    go false e = let l = ltb-false n 64 e in q (n - 64) (omega arith)
-
 -- The slots that `set_table::assign_slots` gave, of a table that has just these.
-module _ (named : Names) (standard user : ℕ) (ts : (n : ℕ) → n < 64 → inNumber standard n ≡ inSent (named .standard) n) (tu : (n : ℕ) → n < 64 → inNumber user n ≡ inSent (named .user) n) where
-  is-named : (n : ℕ) → n < 128 → inPair standard user n ≡ inBoth (named .standard) (named .user) n
-  is-named = turned-both (named .standard) (named .user) standard user ts tu
-
-  pub started : {own filled : List (List ℕ)} {k : ℕ} → Begun unowned own filled standard user k → 3 ≤ k → k ≤ 256 → k ≤ length filled → (sets : List (List ℕ))
+module _ (named : Names) (by : Applications) (is-named : (n : ℕ) → atPlace by n ≡ inSet (named .named) n) where
+  pub started : {own filled : List (List ℕ)} {k : ℕ} → Begun unowned own filled by k → 3 ≤ k → k ≤ 256 → k ≤ length filled → (sets : List (List ℕ))
       → sets ≡ take k filled → Started named sets own
   started {own} {filled} {k} b three most room sets e = record {
     owned = b .owned;
     three = omega (arith, size);
     most = omega (arith, size);
     rows = λ s h. ap (λ (t : List (List ℕ)). getD t s []) e ∙ row s (omega (arith, size)) ∙ b .emptied s (omega (arith, size));
-    slots = λ n h i. let s = b .slots n h (is-named n h ∙ i) in (s .0, omega (arith, size, s .1));
-    apart = λ i j g h p q. b .apart i j g h (is-named i g ∙ p) (is-named j h ∙ q);
-    others = λ n h i. ap (λ (r : List ℕ). getD r 0 0) (b .others n h (is-named n h ∙ i)) ∙ no-mask 128 (turnedPlace n) 0;
-    taken = λ s g h. let t = b .taken s g (omega (arith, size)) in (t .0, t .1, sym (is-named (t .0) (t .1)) ∙ t .2, t .3);
+    slots = λ n h i. let s = b .slots n h (is-named n ∙ i) in (s .0, omega (arith, size, s .1));
+    apart = λ i j g h p q. b .apart i j g h (is-named i ∙ p) (is-named j ∙ q);
+    others = λ n h i. ap (λ (r : List ℕ). getD r 0 0) (b .others n h (is-named n ∙ i)) ∙ no-mask 128 (turnedPlace n) 0;
+    taken = λ s g h. let t = b .taken s g (omega (arith, size)) in (t .0, t .1, sym (is-named (t .0)) ∙ t .2, t .3);
     unclassed = λ p h. b .classes p ∙ no-mask 128 p 1;
   }
     where
@@ -71,7 +59,7 @@ module _ (named : Names) (standard user : ℕ) (ts : (n : ℕ) → n < 64 → in
       row s h = getD-take k filled s [] h
 
   -- As the front of the table is lent.
-  pub started-front : {own filled : List (List ℕ)} {k : ℕ} → Begun unowned own filled standard user k → 3 ≤ k → k ≤ 256 → k ≤ length filled
+  pub started-front : {own filled : List (List ℕ)} {k : ℕ} → Begun unowned own filled by k → 3 ≤ k → k ≤ 256 → k ≤ length filled
       → Started named (take (k - 0) (drop 0 filled)) own
   started-front {own} {filled} {k} b three most room =
       let e : k - 0 ≡ k = omega arith in
@@ -81,10 +69,10 @@ module _ (named : Names) (standard user : ℕ) (ts : (n : ℕ) → n < 64 → in
 
 module _ {named : Names} {sets own : List (List ℕ)} (y : Started named sets own) where
   -- A place with a slot of its own is that of an application that is named.
-  at-place : (p : ℕ) → p < 128 → owning own p ≡ true → inBoth (named .standard) (named .user) (turnedPlace p) ≡ true
-  at-place p h e = go (inBoth (named .standard) (named .user) (turnedPlace p)) refl
+  at-place : (p : ℕ) → p < 128 → owning own p ≡ true → inSet (named .named) (turnedPlace p) ≡ true
+  at-place p h e = go (inSet (named .named) (turnedPlace p)) refl
     where
-      go : (b : Bool) → inBoth (named .standard) (named .user) (turnedPlace p) ≡ b → b ≡ true
+      go : (b : Bool) → inSet (named .named) (turnedPlace p) ≡ b → b ≡ true
       go true i = refl
       go false i = absurd (omega (arith, leb-true 3 (slotAt own p) e, ap (slotAt own) (turned-back p), y .others (turnedPlace p) (place-low p h) i))
 

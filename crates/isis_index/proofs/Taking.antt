@@ -22,7 +22,8 @@ use Rattle.isis_grids.specs.declared.Which.{Which}
 use Rattle.isis_grids.specs.Selected.{selected}
 use Rattle.isis_grids.proofs.Aslas.{selected-other}
 use Rattle.set_table.specs.Tables.{cellOf, Within}
-use Rattle.masks.specs.Applications.{inPair}
+use Rattle.masks.specs.declared.Applications.{Applications}
+use Rattle.masks.specs.Applications.{atPlace}
 use Rattle.isis_index.specs.Index.{cellIn, Source, legacy, live, Spot, takes, sourceOf, codeOf, owning, Valid, Adds, Right, fromLegacy, heardByAll, heard, told, attributeAt, Took, TookFor, Ready, hereIn, partOf, Here, Owning, Told, ReadAs, Gains}
 use Rattle.isis_index.specs.declared.Asla.{Asla}
 use Rattle.isis_index.specs.declared.Asla.the-variants.{Unread, ForAll, ForNamed}
@@ -74,12 +75,12 @@ module _ {a : List ℕ} {at end : ℕ} (y : Here a at end) (asla : getD a at 0 �
         adds = told-here owns table after heardByAll (listIn a from end) all-legacy (t .gives) (k .adds owns (r .ground));
       }
 
-      pub gains-named : (standard user : ℕ) {had : List (List ℕ)} → Told a at end from (heard standard user)
-          → TookFor a owns table have after had (heard standard user) (listIn a from end) → Gains a owns table after had (λ src. takes src (hereIn a at))
-      gains-named standard user t k = record {
+      pub gains-named : (who : Applications) {had : List (List ℕ)} → Told a at end from (heard who)
+          → TookFor a owns table have after had (heard who) (listIn a from end) → Gains a owns table after had (λ src. takes src (hereIn a at))
+      gains-named who t k = record {
         holds = k .holds;
         having = k .having;
-        adds = told-here owns table after (heard standard user) (listIn a from end) (heard-legacy standard user) (t .gives) (k .adds);
+        adds = told-here owns table after (heard who) (listIn a from end) (heard-legacy who) (t .gives) (k .adds);
       }
 
 -- What the header says, by its answer.
@@ -90,17 +91,17 @@ module _ {a : List ℕ} {at end : ℕ} (y : Here a at end) (r : Asla) (is : Read
   pub read-all : (from : ℕ) → r ≡ ForAll from → Told a at end from heardByAll
   read-all from e = subst (ReadAs a at end) e is
 
-  pub read-named : (from standard user : ℕ) → r ≡ ForNamed from standard user
-      → Told a at end from (heard standard user) × ((n : ℕ) → inPair standard user (turnedPlace n) ≡ any (names n) (aslaAdvertisements (hereIn a at)))
-  read-named from standard user e = subst (ReadAs a at end) e is
+  pub read-named : (from : ℕ) (who : Applications) → r ≡ ForNamed from who
+      → Told a at end from (heard who) × ((n : ℕ) → atPlace who (turnedPlace n) ≡ any (names n) (aslaAdvertisements (hereIn a at)))
+  read-named from who e = subst (ReadAs a at end) e is
 
 -- The masks of an ASLA have places with a slot only.
-pub named-within : {a : List ℕ} {at end : ℕ} → Here a at end → (standard user : ℕ) (owns : List (List ℕ))
-    → ((n : ℕ) → inPair standard user (turnedPlace n) ≡ any (names n) (aslaAdvertisements (hereIn a at)))
-    → Owning owns (aslaAdvertisements (hereIn a at)) → Within standard user (owning owns)
-named-within y standard user owns is o p l e =
+pub named-within : {a : List ℕ} {at end : ℕ} → Here a at end → (who : Applications) (owns : List (List ℕ))
+    → ((n : ℕ) → atPlace who (turnedPlace n) ≡ any (names n) (aslaAdvertisements (hereIn a at)))
+    → Owning owns (aslaAdvertisements (hereIn a at)) → Within who (owning owns)
+named-within y who owns is o p l e =
     let n = turnedPlace p in
-    subst (λ (i : ℕ). owning owns i ≡ true) (turned-back p) (o n (place-low p l) (sym (is n) ∙ place-of standard user p ∙ e))
+    subst (λ (i : ℕ). owning owns i ≡ true) (turned-back p) (o n (place-low p l) (sym (is n) ∙ place-of who p ∙ e))
 
 -- ---- a legacy attribute
 

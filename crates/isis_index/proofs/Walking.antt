@@ -21,7 +21,8 @@ use Rattle.isis.specs.RunA.{checkA, aslaAdvertisements, sideA}
 use Rattle.isis_grids.proofs.Walks.{left-all, inside, passed, rest-ok, turn}
 use Rattle.grids.specs.Slots.{cell}
 use Rattle.set_table.specs.Tables.{slotAt, Having}
-use Rattle.masks.specs.Applications.{inPair}
+use Rattle.masks.specs.declared.Applications.{Applications}
+use Rattle.masks.proofs.Sets.{place-none}
 use Rattle.set_table.proofs.Tables.{first-free}
 use Rattle.set_table.proofs.Assigns.{empty-cell, empty-table}
 use Rattle.isis_index.specs.Index.{cellIn, Source, takes, sourceOf, slotIn, cellAt, codeOf, owning, Ground, Ready, inRun, hereIn, Here, Owning, Gains, Empty, Walked}
@@ -41,20 +42,12 @@ no-mask (suc n) zero (suc zero) = refl
 no-mask (suc n) zero (suc (suc i)) = refl
 no-mask (suc n) (suc k) i = no-mask n k i
 
-no-place : (p : ℕ) → inPair 0 0 p ≡ false
-unfolding inPair
-no-place p = rw (zero-none p, zero-none (p - 64)) (go (ltb p 64))
-  where
-    go : (b : Bool) → cond b false false ≡ false
-    go true = refl
-    go false = refl
-
 module _ (a : List ℕ) {owns table : List (List ℕ)} (g : Ground owns table) (e : Empty table) where
   having-none : Having table owns nobody (owning owns)
   having-none = record {
     ten = refl;
     told = λ k p l h n.
-        ap₂ (λ (x y : ℕ). inPair x y p) (no-mask 10 k 0) (no-mask 10 k 1) ∙ no-place p
+        place-none _ (no-mask 10 k 0) (no-mask 10 k 1) p
         ∙ sym (ap not (eq-eqb (cell table (slotAt owns p) k) 0 (empty-cell a table e (slotAt owns p) k (g .slotted .stand p h n .inside))));
   }
 

@@ -17,7 +17,8 @@ use Rattle.masks.specs.Sets.{turnedPlace}
 use Rattle.kinds.specs.Rules.{gridCodes}
 use Rattle.grids.specs.Slots.{cell}
 use Rattle.set_table.specs.Tables.{cellOf, first, Table, slotAt, Slotted, Having, emptyRow}
-use Rattle.masks.specs.Applications.{inPair}
+use Rattle.masks.specs.declared.Applications.{Applications}
+use Rattle.masks.specs.Applications.{atPlace}
 use Rattle.isis.specs.Types.{wrongInA, codeOfType}
 use Rattle.isis.specs.RunA.{checkAttribute, checkA, attributesOf, aslaAdvertisements}
 use Rattle.isis_grids.specs.declared.Which.{Which}
@@ -118,7 +119,7 @@ pub record Right (run : List ℕ) (t place n : ℕ) : Type 0 where
   pub short : n ≤ mostBytes
   pub right : wrongInA t n ≡ false
 
--- Who hears the list of an advertisement without L: that of a general one, and that of two masks as sent, which are not both empty. RSVP-TE alone is bit 7 of
+-- Who hears the list of an advertisement without L: that of a general one, and that of one with masks, which are not both empty. RSVP-TE alone is bit 7 of
 -- the standard mask.
 unfoldable pub heardByAll : Source → Bool
 heardByAll legacy = false
@@ -127,12 +128,12 @@ heardByAll (live General) = true
 heardByAll (live RsvpTeAlone) = false
 heardByAll (live WithoutL) = true
 
-unfoldable pub heard : ℕ → ℕ → Source → Bool
-heard standard user legacy = false
-heard standard user (live (Naming n)) = inPair standard user (turnedPlace n)
-heard standard user (live General) = false
-heard standard user (live RsvpTeAlone) = eqb standard 128 && eqb user 0
-heard standard user (live WithoutL) = true
+unfoldable pub heard : Applications → Source → Bool
+heard who legacy = false
+heard who (live (Naming n)) = atPlace who (turnedPlace n)
+heard who (live General) = false
+heard who (live RsvpTeAlone) = eqb (who .standard) 128 && eqb (who .user) 0
+heard who (live WithoutL) = true
 
 -- Legacy's own.
 unfoldable pub fromLegacy : Source → Bool
@@ -200,11 +201,11 @@ pub record Told (a : List ℕ) (at end from : ℕ) (h : Source → Bool) : Type 
   pub listed : Listed a from end
   pub gives : (w : Which) → selected w (hereIn a at) ≡ told h (each attributesOf (elements 1 from (partOf a from end))) (live w)
 
--- A3, A7, A8. What the header of an ASLA says: nobody hears its list, all hear it, or those of two masks as sent do, whom it names.
+-- A3, A7, A8. What the header of an ASLA says: nobody hears its list, all hear it, or those of a set do, whom it names.
 abbrev pub ReadAs : List ℕ → ℕ → ℕ → Asla → Type 0
 ReadAs a at end Unread = (w : Which) → selected w (hereIn a at) ≡ []
 ReadAs a at end (ForAll from) = Told a at end from heardByAll
-ReadAs a at end (ForNamed from standard user) = Told a at end from (heard standard user) × ((n : ℕ) → inPair standard user (turnedPlace n) ≡ any (names n) (aslaAdvertisements (hereIn a at)))
+ReadAs a at end (ForNamed from who) = Told a at end from (heard who) × ((n : ℕ) → atPlace who (turnedPlace n) ≡ any (names n) (aslaAdvertisements (hereIn a at)))
 
 -- What a table has become where attributes came to its cells, by their source; and who has a value of a kind now.
 pub record Gains (run : List ℕ) (owns table after had : List (List ℕ)) (new : Source → List Attribute) : Type 0 where

@@ -6,7 +6,7 @@ use Prim.Native.Nat.{ℕ}
 use lib.Dec.{eqb}
 use lib.ListN.{length, getD, set}
 use Rattle.rules.specs.declared.Names.{Names}
-use Rattle.masks.specs.Applications.{inBoth}
+use Rattle.masks.specs.Applications.{inSet}
 use Rattle.rules.specs.declared.Rule.{Rule}
 use Rattle.rules.specs.declared.Rule.the-variants.{ByL, Naming, General, Legacy, NamingFirst, AloneFirst, LegacyFirst}
 use Rattle.rules.specs.Rules.{rsvpTeRule}
@@ -55,7 +55,7 @@ filledBy LegacyFirst s = 1
 
 -- RSVP-TE's rule, by four masks and by whether legacy has a value.
 abbrev pub ruleBy : Names → Bool → Rule
-ruleBy named x = rsvpTeRule (inBoth (named .lstandard) (named .luser) 0) (inBoth (named .standard) (named .user) 0) x
+ruleBy named x = rsvpTeRule (inSet (named .flagged) 0) (inSet (named .named) 0) x
 
 abbrev pub rsvpTeSlot : Names → Bool → List (List ℕ) → ℕ
 rsvpTeSlot named x owns = slotBy (ruleBy named x) (slotAt owns 7)

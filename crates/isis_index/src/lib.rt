@@ -9,7 +9,7 @@ ghost use Rattle.linkstate.specs.Replies.{accepted, runA};
 ghost use Rattle.linkstate.specs.Elements.{elements, faults};
 ghost use Rattle.linkstate.specs.Sides.{hasLegacy};
 ghost use Rattle.rules.specs.Names.{Tells};
-ghost use Rattle.masks.specs.Applications.{inBoth, inPair};
+ghost use Rattle.masks.specs.Applications.{inSet, atPlace};
 ghost use Rattle.isis.specs.RunA.{checkA, attributesOf, aslaAdvertisements, sideA};
 ghost use Rattle.grids.specs.Slots.{cell, IsSet};
 ghost use Rattle.set_table.specs.Tables.{first, Table, Given, onlyAt, slotAt, Within, Owned, Gave};
@@ -18,6 +18,7 @@ ghost use Rattle.isis_index.specs.Started.{Started};
 ghost use Rattle.isis_index.specs.Settled.{settled, Settled, fromOld, rsvpTeSlot, filledSlot};
 ghost use Rattle.isis_index.specs.Indexed.{Indexed};
 use kinds::Kind;
+use masks::Applications;
 use rules::Names;
 use rules::Rule;
 
@@ -57,7 +58,7 @@ fn enter_general(a: &[u8], sets: &mut [[u32; 12]], t: u8, place: usize, n: usize
     }
 }
 
-// An attribute of an advertisement with two masks as sent, by its type.
+// An attribute of an advertisement that names a set, by its type.
 fn enter_for(
     a: &[u8],
     sets: &mut [[u32; 12]],
@@ -66,11 +67,10 @@ fn enter_for(
     t: u8,
     place: usize,
     n: usize,
-    standard: u64,
-    user: u64,
+    who: Applications,
 )
-    requires { ⌜ Ready (now a) (now own) (now sets) (now have) × Right (now a) t place n × Within standard user (owning (now own)) ⌝ }
-    ensures { λ _. ⌜ ((v : List ℕ) → TookFor (now (a .entry)) (now (own .entry)) (now (sets .entry)) (now (have .entry)) (now (sets .exit)) (now (have .exit)) (heard standard user) (attributeAt t place n v ∷ [])) ⌝ }
+    requires { ⌜ Ready (now a) (now own) (now sets) (now have) × Right (now a) t place n × Within who (owning (now own)) ⌝ }
+    ensures { λ _. ⌜ ((v : List ℕ) → TookFor (now (a .entry)) (now (own .entry)) (now (sets .entry)) (now (have .entry)) (now (sets .exit)) (now (have .exit)) (heard who) (attributeAt t place n v ∷ [])) ⌝ }
 {
     let rule = isis_kinds::classify_type(t);
     let kind = rule.kind;
@@ -79,13 +79,11 @@ fn enter_for(
             if k == 0 {
                 return set_table::enter_link(sets, 3, place, n);
             }
-            if (standard == 128) & (user == 0) {
+            if (who.standard == 128) & (who.user == 0) {
                 set_table::enter_link(sets, 3 + k, place, n);
             }
         }
-        Kind::Application(k) => {
-            set_table::enter_named(a, sets, own, have, k, place, n, standard, user)
-        }
+        Kind::Application(k) => { set_table::enter_named(a, sets, own, have, k, place, n, who) }
         Kind::Srlg => (),
         Kind::Asla => (),
         Kind::Unknown => (),
@@ -105,7 +103,7 @@ fn general_list(a: &[u8], from: usize, end: usize, sets: &mut [[u32; 12]])
     }
 }
 
-// The list of an advertisement with two masks as sent.
+// The list of an advertisement that names a set.
 fn named_list(
     a: &[u8],
     from: usize,
@@ -113,25 +111,24 @@ fn named_list(
     sets: &mut [[u32; 12]],
     own: &[[u8; 2]; 128],
     have: &mut [[u64; 2]; 10],
-    standard: u64,
-    user: u64,
+    who: Applications,
 )
-    requires { ⌜ Ready (now a) (now own) (now sets) (now have) × Listed (now a) from end × Within standard user (owning (now own)) ⌝ }
-    ensures { λ _. ⌜ TookFor (now (a .entry)) (now (own .entry)) (now (sets .entry)) (now (have .entry)) (now (sets .exit)) (now (have .exit)) (heard standard user) (each attributesOf (elements 1 from (partOf (now (a .entry)) from end))) ⌝ }
+    requires { ⌜ Ready (now a) (now own) (now sets) (now have) × Listed (now a) from end × Within who (owning (now own)) ⌝ }
+    ensures { λ _. ⌜ TookFor (now (a .entry)) (now (own .entry)) (now (sets .entry)) (now (have .entry)) (now (sets .exit)) (now (have .exit)) (heard who) (each attributesOf (elements 1 from (partOf (now (a .entry)) from end))) ⌝ }
 {
     let mut at = from;
     while at < end {
         let n = a[at + 1] as usize;
-        enter_for(a, sets, own, have, a[at], at + 2, n, standard, user);
+        enter_for(a, sets, own, have, a[at], at + 2, n, who);
         at = at + 2 + n;
     }
 }
 
-// What is read of an ASLA: nothing, or its list from a place on, for all or for those of two masks as sent.
+// What is read of an ASLA: nothing, or its list from a place on, for all or for those that it names.
 enum Asla {
     Unread,
     ForAll(usize),
-    ForNamed(usize, u64, u64),
+    ForNamed(usize, Applications),
 }
 
 // The header of an ASLA of an accepted run. With L, or with a mask too long to be read, nobody hears its list.
@@ -148,14 +145,12 @@ fn read_asla(a: &[u8], at: usize, end: usize) -> Asla
         return Asla::Unread;
     }
     let masks = value + 2;
-    let behind = masks + h.standard;
-    let from = behind + h.user;
+    let from = masks + h.standard + h.user;
     if from == masks {
         return Asla::ForAll(from);
     }
-    let standard = masks::with_sent(0, a, masks, h.standard);
-    let user = masks::with_sent(0, a, behind, h.user);
-    Asla::ForNamed(from, standard, user)
+    let who = masks::with_masks(masks::nobody(), a, masks, h.standard, h.user);
+    Asla::ForNamed(from, who)
 }
 
 // An ASLA of an accepted run.
@@ -173,9 +168,7 @@ fn add_asla(
     match read_asla(a, at, end) {
         Asla::Unread => (),
         Asla::ForAll(from) => general_list(a, from, end, sets),
-        Asla::ForNamed(from, standard, user) => {
-            named_list(a, from, end, sets, own, have, standard, user)
-        }
+        Asla::ForNamed(from, who) => named_list(a, from, end, sets, own, have, who),
     }
 }
 
@@ -279,7 +272,7 @@ fn rsvp_te_slot(
     sets: &mut [[u32; 12]],
     own: &[[u8; 2]; 128],
 ) -> usize
-    requires { ⌜ Table (now a) (now sets) × (1 < length (now sets)) × (inBoth (named .standard) (named .user) 0 ≡ true → IsSet (now sets) (slotAt (now own) 7)) ⌝ }
+    requires { ⌜ Table (now a) (now sets) × (1 < length (now sets)) × (inSet (named .named) 0 ≡ true → IsSet (now sets) (slotAt (now own) 7)) ⌝ }
     ensures { λ r. ⌜ (r ≡ rsvpTeSlot named legacy (now (own .entry))) × Table (now (a .entry)) (now (sets .exit)) × Given (now (sets .entry)) (now (sets .exit)) (fromOld (now (sets .entry)) (filledSlot named legacy (now (own .entry)))) ⌝ }
 {
     let l = rules::is_named_with_l(named, 0);
@@ -296,18 +289,18 @@ fn rsvp_te_slot(
 }
 
 // Those that are named with L take legacy's slot.
-fn give_old(standard: u64, user: u64, own: &mut [[u8; 2]; 128])
+fn give_old(who: Applications, own: &mut [[u8; 2]; 128])
     requires { ⌜ Owned (now own) ⌝ }
-    ensures { λ _. ⌜ Gave (now (own .entry)) (now (own .exit)) (inPair standard user) 1 ⌝ }
+    ensures { λ _. ⌜ Gave (now (own .entry)) (now (own .exit)) (atPlace who) 1 ⌝ }
 {
-    set_table::give_slot(standard, 0, 1, own);
-    set_table::give_slot(user, 64, 1, own);
+    set_table::give_slot(who.standard, 0, 1, own);
+    set_table::give_slot(who.user, 64, 1, own);
 }
 
 // The whole of an accepted run A, for a table of empty rows, and then the link's bandwidths.
 fn walk_and_settle(a: &[u8], named: Names, sets: &mut [[u32; 12]], own: &[[u8; 2]; 128])
     requires { ⌜ (faults runA checkA (elements 1 0 (now a)) ≡ accepted) × (length (now a) < 65536) × Ground (now own) (now sets) × Empty (now sets) × Owning (now own) ((sideA (now a)) .live) ⌝ }
-    ensures { λ _. ⌜ Settled (now (a .entry)) (now (own .entry)) (now (sets .entry)) (now (sets .exit)) (inBoth (named .lstandard) (named .luser) 0) ⌝ }
+    ensures { λ _. ⌜ Settled (now (a .entry)) (now (own .entry)) (now (sets .entry)) (now (sets .exit)) (inSet (named .flagged) 0) ⌝ }
 {
     walk(a, sets, own);
     settle(sets, rules::is_named_with_l(named, 0));
@@ -326,6 +319,6 @@ pub fn index_a(
 {
     walk_and_settle(a, named, sets, own);
     let r = rsvp_te_slot(a, named, legacy, sets, own);
-    give_old(named.lstandard, named.luser, own);
+    give_old(named.flagged, own);
     r
 }

@@ -5,7 +5,7 @@ use mathlib.Core.List.{List}
 use Prim.Native.Nat.{ℕ, zero, suc, _+_, _-_, _^_, _<_}
 use native.Mathlib.Omega.{arith}
 use native.Mathlib.Nat.{div-eq-of-lt}
-use borrow.Author.Tests.{eqb-true, ne-eqb, lt-ltb, le-ltb}
+use borrow.Author.Tests.{eqb-true, ne-eqb, le-ltb}
 use lib.Dec.{eqb}
 use lib.ListN.{length}
 use Rattle.linkstate.specs.Lists.{empty, member, numbers}
@@ -19,10 +19,11 @@ use Rattle.isis.specs.RunB.{sideB}
 use Rattle.isis.specs.Link.{linkVerdict, linkSource}
 use Rattle.masks.proofs.Laws.{is-number}
 use Rattle.rivals.proofs.KindLaws.{standard-other, user-other}
-use Rattle.masks.specs.Sets.{inSent}
 use Rattle.rules.specs.declared.Names.{Names}
 use Rattle.rules.specs.Names.{Tells, Joins}
-use Rattle.masks.specs.Applications.{inBoth}
+use Rattle.masks.specs.declared.Applications.{Applications}
+use Rattle.masks.specs.Applications.{inSet, atPlace}
+use Rattle.masks.proofs.Sets.{place-low, place-high}
 use Rattle.rules.proofs.NameLaws.{side-named}
 use Rattle.answering.proofs.Entries.{ask-answered}
 use Rattle.rules.specs.Rules.{givenOn}
@@ -112,28 +113,17 @@ told-names a b c r h s e = subst (λ (x : LinkChecked). NamedSides x a b c) e h
 
 -- What is in the numbers, from what each step says of them: m is whom either side names, with the bytes of masks.
 module _ (a b c : List ℕ) (x y m : Names) (p : Tells ((sideA a) .live) x) (q : Tells ((sideB b c) .live) y) (j : Joins x y m) where
-  either : (n : ℕ) → inBoth (m .standard) (m .user) n ≡ named n (sideA a) || named n (sideB b c)
+  either : (n : ℕ) → inSet (m .named) n ≡ named n (sideA a) || named n (sideB b c)
   either n = j .named n ∙ ap₂ (λ (u v : Bool). u || v) (side-named (sideA a) x p n) (side-named (sideB b c) y q n)
 
-  module _ (t : ℕ) where
-    pub standard-in : ((n : ℕ) → n < 64 → inNumber t n ≡ inSent (m .standard) n) → (s : ℕ) → ((n : ℕ) → inNumber s n ≡ inNumber t n && not (inNumber 1 n))
+  module _ (who : Applications) (ht : (n : ℕ) → atPlace who n ≡ inSet (m .named) n) where
+    pub standard-in : (s : ℕ) → ((n : ℕ) → inNumber s n ≡ inNumber (who .standard) n && not (inNumber 1 n))
         → (n : ℕ) → n < 64 → inNumber s n ≡ (named n (sideA a) || named n (sideB b c)) && not (eqb n 0)
-    unfolding inBoth
-    standard-in ht s hs n h = hs n ∙ ap₂ (λ (u v : Bool). u && not v) (ht n h ∙ low n h ∙ either n) (in-one n)
-      where
-        low : (n : ℕ) → n < 64 → inSent (m .standard) n ≡ inBoth (m .standard) (m .user) n
-        low n h = ap (λ (b : Bool). cond b (inSent (m .standard) n) (inSent (m .user) (n - 64))) (sym (lt-ltb n 64 h))
+    standard-in s hs n h = hs n ∙ ap₂ (λ (u v : Bool). u && not v) (sym (place-low who n h) ∙ ht n ∙ either n) (in-one n)
 
-    pub user-in : ((n : ℕ) → n < 64 → inNumber t n ≡ inSent (m .user) n) → (n : ℕ) → n < 64
-        → inNumber t n ≡ named (user n) (sideA a) || named (user n) (sideB b c)
-    unfolding inBoth user
-    user-in ht n h = ht n h ∙ high n ∙ either (64 + n)
-      where
-        high : (n : ℕ) → inSent (m .user) n ≡ inBoth (m .standard) (m .user) (64 + n)
-        high n =
-            let z : n ≡ 64 + n - 64 = omega arith in
-            ap (inSent (m .user)) z ∙ ap (λ (b : Bool). cond b (inSent (m .standard) (64 + n)) (inSent (m .user) (64 + n - 64)))
-            (sym (le-ltb (64 + n) 64 (omega arith)))
+    pub user-in : (n : ℕ) → n < 64 → inNumber (who .user) n ≡ named (user n) (sideA a) || named (user n) (sideB b c)
+    unfolding user
+    user-in n h = sym (place-high who n) ∙ ht (64 + n) ∙ either (64 + n)
 
 -- Without runs B and C there is no SRLG to answer with.
 pub none-there : (b c : List ℕ) (whom : Subject) (list : List ℕ) → (eqb (length b) 0 && eqb (length c) 0) ≡ true

@@ -208,8 +208,9 @@ pub fn named(a: &[u8], b: &[u8], c: &[u8]) -> Named
             let x = names.a;
             let y = names.b;
             let m = rules::both(x, y);
-            let standard = masks::without(masks::turned(m.standard), 1);
-            let user = masks::turned(m.user);
+            let who = masks::turned_set(m.named);
+            let standard = masks::without(who.standard, 1);
+            let user = who.user;
             Named::Listed { standard, user }
         }
     }

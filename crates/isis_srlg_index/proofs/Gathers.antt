@@ -21,8 +21,10 @@ use Rattle.octets.proofs.Laws.{put-nil, put-then, front-is}
 use Rattle.masks.specs.Sets.{turnedPlace}
 use Rattle.masks.proofs.Steps.{zero-none}
 use Rattle.rules.specs.declared.Names.{Names}
-use Rattle.masks.specs.Applications.{inBoth}
-use Rattle.rules.proofs.NameLaws.{side-flagged, in-none}
+use Rattle.masks.specs.declared.Applications.{Applications}
+use Rattle.masks.specs.Applications.{inSet}
+use Rattle.masks.proofs.Sets.{place-none, set-none}
+use Rattle.rules.proofs.NameLaws.{side-flagged}
 use Rattle.srlg.proofs.Laws.{Order, less, more, same, order}
 use Rattle.srlg_ranks.specs.Ranks.{inWords}
 use Rattle.srlg_ranks.proofs.Bits.{or-none}
@@ -220,7 +222,7 @@ module _ (b : List ℕ) (at : ℕ) (keys₀ keys : List ℕ) (rows : List (List 
             ∙ carried-low rows (k .sources) 1 K ws (omega arith) small (turnedPlace a) v)
             (ap (member v) (none-step (Naming a) (no-names a))) ∙ so .naming a v h;
       }
-  gathering-next r keys′ rows′ fits few room (source s u ws some small named no-general count e f g) =
+  gathering-next r keys′ rows′ fits few room (source who ws some small named no-general count e f g) =
       let n = k .sources in
       let added = map (keyOf n) ws in
       let two = so .few .0 in
@@ -232,21 +234,21 @@ module _ (b : List ℕ) (at : ℕ) (keys₀ keys : List ℕ) (rows : List (List 
         few = (omega arith, few);
         low = rw e (all-append (inRows (n + 1)) K added (all-more (inRows n) (inRows (n + 1)) K (λ x. rows-more n (n + 1) x (omega arith)) (so .low))
             (own-rows n (n + 1) ws (omega arith) small));
-        wide = rw (e, g) (wide-more rows n s u (omega arith) low l (so .wide));
-        blank = rw (e, g) (blank-more rows n s u (omega arith) low l (so .blank));
+        wide = rw (e, g) (wide-more rows n (who .standard) (who .user) (omega arith) low l (so .wide));
+        blank = rw (e, g) (blank-more rows n (who .standard) (who .user) (omega arith) low l (so .blank));
         none = other-numbers 0 n K ws small (λ z. omega arith) ∙ so .none;
         filled = λ j h p. filled-at j h (order j n) (rw e at p);
         general = ap (λ (l : List ℕ). l ++ each (wordsIn General) (left 1 0 b next)) (other-numbers 1 n K ws small (λ z. omega arith))
             ∙ ap (λ (l : List ℕ). numbersOf 1 K ++ l) (none-step General no-general) ∙ so .general;
         naming = λ a v h.
             ap₂ (λ (x y : Bool). x || y) (ap₂ (λ (q : List (List ℕ)) (m : ℕ). carried q m (K ++ added) (turnedPlace a) v) g e
-            ∙ carried-more rows n s u (omega arith) low l K ws small (so .low) (turnedPlace a) v) refl
-            ∙ swap (inWords (s ∷ u ∷ []) (turnedPlace a) && member v ws) (carried rows n K (turnedPlace a) v)
+            ∙ carried-more rows n (who .standard) (who .user) (omega arith) low l K ws small (so .low) (turnedPlace a) v) refl
+            ∙ swap (inWords (who .standard ∷ who .user ∷ []) (turnedPlace a) && member v ws) (carried rows n K (turnedPlace a) v)
             (member v (each (wordsIn (Naming a)) (left 1 0 b next)))
             ∙ ap (λ (x : Bool). carried rows n K (turnedPlace a) v || x)
-            (ap (λ (x : Bool). (x && member v ws) || member v (each (wordsIn (Naming a)) (left 1 0 b next))) (sym (both-words s u a h))
+            (ap (λ (x : Bool). (x && member v ws) || member v (each (wordsIn (Naming a)) (left 1 0 b next))) (sym (both-words who a h))
             ∙ sym (ap (member v) (step (Naming a)) ∙ member-append v (wordsIn (Naming a) (tlvAt b at)) (each (wordsIn (Naming a)) (left 1 0 b next))
-            ∙ ap (λ (x : Bool). x || member v (each (wordsIn (Naming a)) (left 1 0 b next))) (ap (member v) (named a) ∙ member-cond v (inBoth s u a) ws)))
+            ∙ ap (λ (x : Bool). x || member v (each (wordsIn (Naming a)) (left 1 0 b next))) (ap (member v) (named a) ∙ member-cond v (inSet who a) ws)))
             ∙ so .naming a v h;
       }
     where
@@ -422,8 +424,8 @@ pub named-seven : (rows : List (List ℕ)) (j : ℕ) → namedBy rows j 7 ≡ in
 unfolding namedBy
 named-seven rows j = low-bit (getD (getD rows j []) 16 0) (getD (getD rows j []) 17 0) 7 (omega arith)
 
-pub nobody-flagged : (s u : ℕ) → bitOr s u ≡ 0 → (n : ℕ) → inBoth s u n ≡ false
-nobody-flagged s u e n = let (a, b) = or-none s u e in ap₂ (λ (x y : ℕ). inBoth x y n) a b ∙ in-none n
+pub nobody-flagged : (m : Applications) → bitOr (m .standard) (m .user) ≡ 0 → (n : ℕ) → inSet m n ≡ false
+nobody-flagged m e n = let (a, b) = or-none (m .standard) (m .user) e in set-none m (place-none m a b) n
 
 -- ---- all in order
 

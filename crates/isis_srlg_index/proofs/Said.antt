@@ -15,9 +15,7 @@ use Rattle.linkstate.specs.Bytes.{words}
 use Rattle.linkstate.specs.Elements.{Element, element}
 use Rattle.linkstate.specs.Masks.{bit, inMasks}
 use Rattle.linkstate.specs.Sides.{names, general}
-use Rattle.masks.specs.Sets.{turnedPlace, inSent}
 use Rattle.masks.proofs.Laws.{bit-beyond}
-use Rattle.masks.proofs.Steps.{zero-none}
 use Rattle.srlg.proofs.Laws.{length-words}
 use Rattle.srlg_ranks.proofs.Bits.{or-none}
 use Rattle.srlg_sources.specs.declared.Keys.{Keys}
@@ -25,8 +23,9 @@ use Rattle.srlg_sources.specs.Sources.{Small, keyOf, sourceRow}
 use Rattle.isis_check_a.specs.declared.Header.{Header}
 use Rattle.isis_check_a.specs.Headers.{headerOf}
 use Rattle.isis_check_a.proofs.Laws.{rest-is}
-use Rattle.masks.specs.Applications.{inBoth}
-use Rattle.rules.proofs.NameLaws.{in-none}
+use Rattle.masks.specs.declared.Applications.{Applications}
+use Rattle.masks.proofs.Sets.{place-none, set-none, masks-alone}
+use Rattle.masks.specs.Applications.{inSet, atPlace}
 use Rattle.isis.specs.MaskHeader.{lFlag, sabmLength, udabmLength, headerLength, maskTooLong, advertisement}
 use Rattle.isis.specs.RunB.{afterNeighbour, identifierBytes, srlgValues, liveSrlg}
 use Rattle.isis_tlvs_238.specs.declared.Which.{Which}
@@ -46,7 +45,7 @@ no-words v = ap words (drop-length v)
 pub says-nothing : (e : Element) (value : List ℕ) (r : Tlv) → ((w : Which) → wordsIn w e ≡ []) → r ≡ noTlv (length value) → Says e value r
 says-nothing e value r none is =
     rw is record {
-      naming = λ n. none (Naming n) ∙ sym (ap (λ (b : Bool). cond b (words (drop (length value) value)) []) (in-none n));
+      naming = λ n. none (Naming n) ∙ sym (ap (λ (b : Bool). cond b (words (drop (length value) value)) []) (set-none _ (place-none _ refl refl) n));
       generals = none General;
       apart = λ f. absurd (false≢true f);
       within = omega arith;
@@ -92,16 +91,13 @@ module _ (v : List ℕ) (inside : headerLength v ≤ length v) where
       either true = refl
       either false = refl
 
-  -- whom the masks name, as two numbers with their bytes
-  pub sent-names : (s u a n : ℕ) → ((k : ℕ) → inSent s k ≡ inSent 0 k || bit (take a (drop 2 v)) k)
-      → ((k : ℕ) → inSent u k ≡ inSent 0 k || bit (take n (drop (2 + a) v)) k)
-      → a ≡ sabmLength v → n ≡ udabmLength v → (k : ℕ) → inBoth s u k ≡ names k (advertisement v [])
-  unfolding inBoth names inMasks advertisement
-  sent-names s u a n p q e f k =
-      ap₂ (λ (x y : Bool). cond (ltb k 64) x y)
-      (p k ∙ ap₂ (λ (x : Bool) (i : ℕ). x || bit (take i (drop 2 v)) k) (zero-none (turnedPlace k)) e)
-      (q (k - 64) ∙ ap₂ (λ (x : Bool) (i : ℕ). x || bit (take i (drop (2 + a) v)) (k - 64)) (zero-none (turnedPlace (k - 64))) f
-      ∙ ap (λ (i : ℕ). bit (take (udabmLength v) (drop (2 + i) v)) (k - 64)) e)
+  -- whom the masks name
+  pub sent-names : (nobody who : Applications) (a n : ℕ) → ((p : ℕ) → atPlace nobody p ≡ false)
+      → ((k : ℕ) → inSet who k ≡ inSet nobody k || inMasks (take a (drop 2 v)) (take n (drop (2 + a) v)) k)
+      → a ≡ sabmLength v → n ≡ udabmLength v → (k : ℕ) → inSet who k ≡ names k (advertisement v [])
+  unfolding names advertisement
+  sent-names nobody who a n none is e f k =
+      masks-alone _ _ nobody who none is k ∙ ap₂ (λ (i j : ℕ). inMasks (take i (drop 2 v)) (take j (drop (2 + i) v)) k) e f
 
 module _ (at t : ℕ) (value v : List ℕ) (is : t ≡ 238) (e : v ≡ afterNeighbour value) (l : Bool) (f : l ≡ liveSrlg at v) (live : l ≡ true)
     (plain : lFlag v ≡ false) where
@@ -159,12 +155,12 @@ module _ (e : Element) (value : List ℕ) (tlv : Tlv) (says : Says e value tlv) 
   pub adds-none : length value - tlv .start < 4 → Adds e keys rows k k keys rows
   adds-none h =
       let z : ws ≡ [] = none-of ws (omega (arith, count)) in
-      nothing (λ n. says .naming n ∙ no-either (inBoth (tlv .standard) (tlv .user) n) ws z) (says .generals ∙ no-either (tlv .general) ws z) refl refl refl
+      nothing (λ n. says .naming n ∙ no-either (inSet (tlv .who) n) ws z) (says .generals ∙ no-either (tlv .general) ws z) refl refl refl
 
-  pub adds-nobody : tlv .general ≡ false → bitOr (tlv .standard) (tlv .user) ≡ 0 → Adds e keys rows k k keys rows
+  pub adds-nobody : tlv .general ≡ false → bitOr (tlv .who .standard) (tlv .who .user) ≡ 0 → Adds e keys rows k k keys rows
   adds-nobody g h =
-      let (s, u) = or-none (tlv .standard) (tlv .user) h in
-      nothing (λ n. says .naming n ∙ ap (λ (b : Bool). cond b ws []) (ap₂ (λ (x y : ℕ). inBoth x y n) s u ∙ in-none n))
+      let (s, u) = or-none (tlv .who .standard) (tlv .who .user) h in
+      nothing (λ n. says .naming n ∙ ap (λ (b : Bool). cond b ws []) (set-none (tlv .who) (place-none (tlv .who) s u) n))
       (says .generals ∙ ap (λ (b : Bool). cond b ws []) g) refl refl refl
 
   pub adds-generals : (r : Keys) (keys′ : List ℕ) → tlv .general ≡ true
@@ -176,11 +172,11 @@ module _ (e : Element) (value : List ℕ) (tlv : Tlv) (says : Says e value tlv) 
       (p ∙ ap (λ (l : List ℕ). put keys (k .count) (map (keyOf 1) l)) z) refl
 
   pub adds-source : (r : Keys) (keys′ : List ℕ) (rows′ : List (List ℕ)) → tlv .general ≡ false → 4 ≤ length value - tlv .start
-      → (r .count ≡ k .count + length lent) × (r .sources ≡ k .sources + 1) × (rows′ ≡ set rows (k .sources) (sourceRow (tlv .standard) (tlv .user)))
+      → (r .count ≡ k .count + length lent) × (r .sources ≡ k .sources + 1) × (rows′ ≡ set rows (k .sources) (sourceRow (tlv .who .standard) (tlv .who .user)))
       → (keys′ ≡ put keys (k .count) (map (keyOf (k .sources)) lent)) × Small lent → Adds e keys rows k r keys′ rows′
   adds-source r keys′ rows′ g h (c, s, q) (p, small) =
-      source (tlv .standard) (tlv .user) lent (omega (arith, ap length lent-is, count)) small
-      (λ n. says .naming n ∙ ap (λ (l : List ℕ). cond (inBoth (tlv .standard) (tlv .user) n) l []) (sym lent-is))
+      source (tlv .who) lent (omega (arith, ap length lent-is, count)) small
+      (λ n. says .naming n ∙ ap (λ (l : List ℕ). cond (inSet (tlv .who) n) l []) (sym lent-is))
       (says .generals ∙ ap (λ (b : Bool). cond b ws []) g) c s p q
 
   pub lent-few : (n : ℕ) → n ≡ k .count + length lent → n ≤ k .count + length value / 4

@@ -18,7 +18,8 @@ use Rattle.isis.specs.MaskHeader.{sabmLength, udabmLength, headerLength, maskTo
 use Rattle.isis.specs.RunB.{identifierBytes, checkB, sideB}
 use Rattle.linkstate.specs.Replies.{accepted, runB}
 use Rattle.rules.specs.Names.{Tells}
-use Rattle.masks.specs.Applications.{inBoth}
+use Rattle.masks.specs.declared.Applications.{Applications}
+use Rattle.masks.specs.Applications.{inSet}
 use Rattle.rules.specs.declared.Names.{Names}
 use Rattle.srlg_sources.specs.declared.Keys.{Keys}
 use Rattle.srlg_sources.specs.Sources.{Small, keyOf, inRows, numbersOf, sourceRow}
@@ -41,7 +42,7 @@ Passed t value = (at : ℕ) × (checkB at t value ≡ accepted)
 
 -- What is read of a TLV that has no number for anybody.
 abbrev pub noTlv : ℕ → Tlv
-noTlv n = record { general = false; standard = 0; user = 0; start = n }
+noTlv n = record { general = false; who = record { standard = 0; user = 0 }; start = n }
 
 -- A TLV 238 that can be read, by what follows its neighbour bytes: its header is h, its masks are not too long, and they and the identifiers lie within it.
 pub record Readable (v : List ℕ) (h : Header) : Type 0 where
@@ -52,15 +53,15 @@ pub record Readable (v : List ℕ) (h : Header) : Type 0 where
 
 -- What is read of a live TLV 238 without L, by what follows its neighbour bytes.
 pub record Lives (v : List ℕ) (r : Tlv) : Type 0 where
-  pub named : (n : ℕ) → inBoth (r .standard) (r .user) n ≡ names n (advertisement v [])
+  pub named : (n : ℕ) → inSet (r .who) n ≡ names n (advertisement v [])
   pub general : r .general ≡ (eqb (sabmLength v) 0 && eqb (udabmLength v) 0)
   pub start : r .start ≡ 7 + (headerLength v + 1 + identifierBytes v)
 
 -- What is read of a TLV with this value: its SRLG numbers are for those that its masks name, or are general ones, where it has no mask.
 pub record Says (e : Element) (value : List ℕ) (r : Tlv) : Type 0 where
-  pub naming : (n : ℕ) → wordsIn (Naming n) e ≡ cond (inBoth (r .standard) (r .user) n) (words (drop (r .start) value)) []
+  pub naming : (n : ℕ) → wordsIn (Naming n) e ≡ cond (inSet (r .who) n) (words (drop (r .start) value)) []
   pub generals : wordsIn General e ≡ cond (r .general) (words (drop (r .start) value)) []
-  pub apart : r .general ≡ true → (n : ℕ) → inBoth (r .standard) (r .user) n ≡ false
+  pub apart : r .general ≡ true → (n : ℕ) → inSet (r .who) n ≡ false
   pub within : r .start ≤ length value
   pub head : r .start + 4 ≤ length value → r .general ≡ false → leastValue ≤ length value
 
@@ -77,9 +78,9 @@ pub data Adds (e : Element) (keys : List ℕ) (rows : List (List ℕ)) (k : Keys
   nothing : ((n : ℕ) → wordsIn (Naming n) e ≡ []) → wordsIn General e ≡ [] → r ≡ k → keys′ ≡ keys → rows′ ≡ rows → Adds e keys rows k r keys′ rows′
   generals : ((n : ℕ) → wordsIn (Naming n) e ≡ []) → Small (wordsIn General e) → r .count ≡ k .count + length (wordsIn General e) → r .sources ≡ k .sources
       → keys′ ≡ put keys (k .count) (map (keyOf 1) (wordsIn General e)) → rows′ ≡ rows → Adds e keys rows k r keys′ rows′
-  source : (s u : ℕ) (ws : List ℕ) → 0 < length ws → Small ws → ((n : ℕ) → wordsIn (Naming n) e ≡ cond (inBoth s u n) ws []) → wordsIn General e ≡ []
+  source : (who : Applications) (ws : List ℕ) → 0 < length ws → Small ws → ((n : ℕ) → wordsIn (Naming n) e ≡ cond (inSet who n) ws []) → wordsIn General e ≡ []
       → r .count ≡ k .count + length ws → r .sources ≡ k .sources + 1 → keys′ ≡ put keys (k .count) (map (keyOf (k .sources)) ws)
-      → rows′ ≡ set rows (k .sources) (sourceRow s u)
+      → rows′ ≡ set rows (k .sources) (sourceRow (who .standard) (who .user))
       → Adds e keys rows k r keys′ rows′
 
 -- The keys and sources of the TLVs before an offset: with the numbers of what is left there, they are those of all.
@@ -104,7 +105,7 @@ Gathered b keys₀ keys rows k = Gathering b (length b) keys₀ keys rows k
 
 -- Run C need not be read: nobody is named with L, and some source has a number for RSVP-TE.
 pub record Unused (who : Names) (rows : List (List ℕ)) (sources : ℕ) : Type 0 where
-  pub nobody : (n : ℕ) → inBoth (who .lstandard) (who .luser) n ≡ false
+  pub nobody : (n : ℕ) → inSet (who .flagged) n ≡ false
   pub source : (j : ℕ) × (1 < j) × (j < sources) × (namedBy rows j 7 ≡ true)
 
 -- What is known where run C is taken or not: all of run B was gathered in a list that was `keys₀`, and the names are those of its advertisements.

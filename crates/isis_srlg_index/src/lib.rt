@@ -11,14 +11,14 @@ ghost use Rattle.isis.specs.MaskHeader.{lFlag};
 ghost use Rattle.isis.specs.RunB.{checkB, liveSrlg, sideB};
 ghost use Rattle.isis_srlg_index.specs.Sources.{noTlv, Passed, Readable, Lives, Says, RoomAt, Adds, Gathered, Unused, WithLegacy, Room, Ready, Indexes};
 use isis_check_a::Header;
+use masks::Applications;
 use rules::Names;
 use srlg_sources::Keys;
 
-// What a TLV of run B says of SRLGs: whether its numbers are general ones, or for whom they are, as its masks were sent, and where in its value they begin.
+// What a TLV of run B says of SRLGs: whether its numbers are general ones, or for whom they are, and where in its value they begin.
 struct Tlv {
     general: bool,
-    standard: u64,
-    user: u64,
+    who: Applications,
     start: usize,
 }
 
@@ -26,10 +26,13 @@ struct Tlv {
 fn no_tlv(n: usize) -> Tlv
     ensures { λ r. ⌜ r ≡ noTlv n ⌝ }
 {
-    Tlv {
-        general: false,
+    let who = Applications {
         standard: 0,
         user: 0,
+    };
+    Tlv {
+        general: false,
+        who,
         start: n,
     }
 }
@@ -39,15 +42,12 @@ fn live_tlv(v: &[u8], h: Header) -> Tlv
     requires { ⌜ Readable (now v) h ⌝ }
     ensures { λ r. ⌜ Lives (now (v .entry)) r ⌝ }
 {
-    let behind = 2 + h.standard;
-    let standard = masks::with_sent(0, v, 2, h.standard);
-    let user = masks::with_sent(0, v, behind, h.user);
-    let length_byte = behind + h.user;
+    let who = masks::with_masks(masks::nobody(), v, 2, h.standard, h.user);
+    let length_byte = 2 + h.standard + h.user;
     let identifiers = v[length_byte] as usize;
     Tlv {
         general: (h.standard == 0) & (h.user == 0),
-        standard,
-        user,
+        who,
         start: 7 + length_byte + 1 + identifiers,
     }
 }
@@ -104,10 +104,11 @@ fn add_tlv(t: u8, value: &[u8], keys: &mut [u64], rows: &mut [[u64; 18]], k: Key
             sources: k.sources,
         };
     }
-    if tlv.standard | tlv.user == 0 {
+    let who = tlv.who;
+    if who.standard | who.user == 0 {
         return k;
     }
-    srlg_sources::add_source(&value[start..], tlv.standard, tlv.user, keys, rows, k)
+    srlg_sources::add_source(&value[start..], who.standard, who.user, keys, rows, k)
 }
 
 // The keys of run B's TLVs, in byte order at the front of the list, and a row for each source. Source 0 has none yet.
@@ -150,7 +151,8 @@ fn legacy_used(named: Names, rows: &[[u64; 18]], sources: usize) -> bool
     requires { ⌜ sources ≤ length (now rows) ⌝ }
     ensures { λ r. ⌜ (r ≡ false → Unused named (now (rows .entry)) sources) ⌝ }
 {
-    if named.lstandard | named.luser != 0 {
+    let flagged = named.flagged;
+    if flagged.standard | flagged.user != 0 {
         return true;
     }
     !names_rsvp_te(rows, sources)

@@ -91,14 +91,7 @@ fn sort_front(out: &mut [u32], k: usize) -> usize
 }
 
 // The SRLGs of a subject, ascending, at the front of the list, by whom side B names and whether run C has a value; how many there are. What stands behind them is of no meaning.
-pub fn srlgs_of(
-    b: &[u8],
-    c: &[u8],
-    whom: Subject,
-    m: Names,
-    legacy: bool,
-    out: &mut [u32],
-) -> usize
+pub fn srlgs_of(b: &[u8], c: &[u8], whom: Subject, m: Names, legacy: bool, out: &mut [u32]) -> usize
     requires { ⌜ Passed (now b) (now c) × (length (now b) / 4 ≤ length (now out)) × (length (now c) / 4 ≤ length (now out)) × (numberTooHigh (subjectOf whom) ≡ false) × Tells ((sideB (now b) (now c)) .live) m × (legacy ≡ hasLegacy (sideB (now b) (now c))) ⌝ }
     ensures { λ r. ⌜ (take r (now (out .exit)) ≡ srlgs (givenOn (subjectOf whom) 1096 (sideB (now (b .entry)) (now (c .entry))))) × (r ≤ 512) × (r ≤ length (now (out .entry))) ⌝ }
 {

@@ -1,14 +1,16 @@
--- Applications in two numbers, one for the standard ones and one for the user's (rule A8): 64 and more are the user's.
+-- A set of applications, standard and user (rule A8), by its two masks as they are sent.
 use mathlib.Core.Bool.{Bool, cond}
 use Prim.Native.Nat.{ℕ, _-_}
 use lib.Dec.{ltb}
 use Rattle.linkstate.specs.Masks.{inNumber}
 use Rattle.masks.specs.Sets.{inSent}
+use Rattle.masks.specs.declared.Applications.{Applications}
 
--- Whether bit p of the two is set. Of numbers in which application n is 2 to the n this is whether they have application p.
-unfoldable pub inPair : ℕ → ℕ → ℕ → Bool
-inPair standard user p = cond (ltb p 64) (inNumber standard p) (inNumber user (p - 64))
+-- A8. Whether application n is in a set: `inMasks`, of the numbers of the masks.
+unfoldable pub inSet : Applications → ℕ → Bool
+inSet m n = cond (ltb n 64) (inSent (m .standard) n) (inSent (m .user) (n - 64))
 
--- A8. Whether two numbers with the bytes of a standard and a user mask, as they were sent, hold application n: `inMasks`, of numbers.
-unfoldable pub inBoth : ℕ → ℕ → ℕ → Bool
-inBoth standard user n = cond (ltb n 64) (inSent standard n) (inSent user (n - 64))
+-- Whether the bit at place p of a set is 1: of the standard mask from 0 on, of the user mask from 64 on. Application n stands at place `turnedPlace n`
+-- (`place-set` of `proofs/Sets`); in a set that is turned, application n as 2 to the n, it stands at place n.
+unfoldable pub atPlace : Applications → ℕ → Bool
+atPlace m p = cond (ltb p 64) (inNumber (m .standard) p) (inNumber (m .user) (p - 64))

@@ -1,11 +1,18 @@
 // Masks of applications: read from their bytes, kept as 64-bit numbers (application n is 2 to the n; or as sent, the first byte the lowest), and written.
 ghost use mathlib.Core.Path.{_≡_};
-ghost use mathlib.Core.Bool.{_||_, _&&_, not};
+ghost use mathlib.Core.Bool.{false, _||_, _&&_, not};
 ghost use Prim.Native.Nat.{ℕ, _+_, _≤_, _<_};
 ghost use lib.ListN.{length, take, drop};
 ghost use Rattle.linkstate.specs.Lists.{put};
 ghost use Rattle.linkstate.specs.Masks.{bit, inMasks, asNumber, inNumber, lastBelow, maskSize, mask};
 ghost use Rattle.masks.specs.Sets.{lastOf, IsNext, littleEndian, inSent, turnedPlace, fourBytes, exchanged};
+ghost use Rattle.masks.specs.Applications.{inSet, atPlace};
+
+// A set of applications, standard and user, as masks have them: the number of a mask's bytes, the first the lowest.
+pub struct Applications {
+    pub standard: u64,
+    pub user: u64,
+}
 
 // The bits of m at the places of q, and those k above them, in each other's place.
 fn exchange(q: u64, m: u64, k: u32) -> u64
@@ -95,7 +102,7 @@ fn front_bytes(s: &[u8], at: usize, n: usize) -> u64
 }
 
 // A set in the order of a mask's bytes, with the applications of the mask of n bytes at a place of a run. Eight bytes are read where the run has them.
-pub fn with_sent(m: u64, s: &[u8], at: usize, n: usize) -> u64
+fn with_sent(m: u64, s: &[u8], at: usize, n: usize) -> u64
     requires { ⌜ (at + n ≤ length (now s)) × (n ≤ 8) × (length (now s) < 4294967296) ⌝ }
     ensures { λ r. ⌜ ((k : ℕ) → inSent r k ≡ inSent m k || bit (take n (drop at (now (s .entry)))) k) ⌝ }
 {
@@ -159,6 +166,75 @@ pub fn names(standard: &[u8], user: &[u8], a: u32) -> bool
         has_bit(standard, a)
     } else {
         has_bit(user, a - 64)
+    }
+}
+
+// No application.
+pub fn nobody() -> Applications
+    ensures { λ r. ⌜ ((p : ℕ) → atPlace r p ≡ false) ⌝ }
+{
+    Applications {
+        standard: 0,
+        user: 0,
+    }
+}
+
+// Whether application n is in a set: 64 and more are the user's.
+pub fn is_in(m: Applications, n: u32) -> bool
+    requires { ⌜ n < 128 ⌝ }
+    ensures { λ r. ⌜ r ≡ inSet m n ⌝ }
+{
+    if n < 64 {
+        return has(m.standard, n / 8 * 8 + (7 - n % 8));
+    }
+    let k = n - 64;
+    has(m.user, k / 8 * 8 + (7 - k % 8))
+}
+
+// The applications of either set.
+pub fn join(a: Applications, b: Applications) -> Applications
+    ensures { λ r. ⌜ ((p : ℕ) → atPlace r p ≡ atPlace a p || atPlace b p) ⌝ }
+{
+    Applications {
+        standard: joined(a.standard, b.standard),
+        user: joined(a.user, b.user),
+    }
+}
+
+// The applications of the first set that are not in the second.
+pub fn except(a: Applications, b: Applications) -> Applications
+    ensures { λ r. ⌜ ((p : ℕ) → atPlace r p ≡ atPlace a p && not (atPlace b p)) ⌝ }
+{
+    Applications {
+        standard: without(a.standard, b.standard),
+        user: without(a.user, b.user),
+    }
+}
+
+// The set with application n at place n: as 2 to the n.
+pub fn turned_set(m: Applications) -> Applications
+    ensures { λ r. ⌜ ((n : ℕ) → atPlace r n ≡ inSet m n) ⌝ }
+{
+    Applications {
+        standard: turned(m.standard),
+        user: turned(m.user),
+    }
+}
+
+// A set with the applications of two masks, a standard one at a place of a run and the user's behind it.
+pub fn with_masks(
+    m: Applications,
+    s: &[u8],
+    at: usize,
+    standard: usize,
+    user: usize,
+) -> Applications
+    requires { ⌜ (standard ≤ 8) × (user ≤ 8) × (at + standard + user ≤ length (now s)) × (length (now s) < 4294967296) ⌝ }
+    ensures { λ r. ⌜ ((n : ℕ) → inSet r n ≡ inSet m n || inMasks (take standard (drop at (now (s .entry)))) (take user (drop (at + standard) (now (s .entry)))) n) ⌝ }
+{
+    Applications {
+        standard: with_sent(m.standard, s, at, standard),
+        user: with_sent(m.user, s, at + standard, user),
     }
 }
 

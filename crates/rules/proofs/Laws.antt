@@ -1,7 +1,10 @@
 -- What each rule takes is what Sides gives, and the rule as the code finds it.
 use mathlib.Core.Path.{_≡_, refl, sym, ap, ap₂, _∙_, subst}
 use mathlib.Core.Bool.{Bool, true, false, cond, _&&_, _||_, not}
+use mathlib.Core.Logic.{⊎-elim}
 use mathlib.Core.List.{List, [], _∷_, _++_}
+use types.Run.{OneOf}
+use denote.Enum.Declared.{tagOf}
 use Prim.Native.Nat.{ℕ, _+_, _<_}
 use native.Mathlib.Omega.{arith}
 use borrow.Author.Tests.{eq-eqb, ne-eqb, ltb-false}
@@ -18,10 +21,11 @@ use Rattle.replies.specs.declared.Subject.the-variants as W
 use Rattle.replies.specs.Told.{subjectOf}
 use Rattle.rules.specs.declared.Names.{Names}
 use Rattle.rules.specs.Names.{Tells}
-use Rattle.masks.specs.Applications.{inBoth}
+use Rattle.masks.specs.Applications.{inSet}
 use Rattle.rules.proofs.NameLaws.{side-named, side-flagged}
 use Rattle.rules.specs.declared.Rule.{Rule}
 use Rattle.rules.specs.declared.Rule.the-variants.{ByL, Naming, General, Legacy, NamingFirst, AloneFirst, LegacyFirst}
+use Rattle.rules.proofs.Rule.{the-type}
 use Rattle.rules.specs.Rules.{applicationRule, rsvpTeRule, bandwidthRule, subjectRule, ruleOn, takenBy, setOn, givenOn}
 
 -- ---- who is not named
@@ -142,7 +146,7 @@ rule-takes whom k s r e = ap (λ (x : Rule). takenBy x k s) e ∙ rule-taken who
 
 -- ---- with names that were told: l and y are what the masks say of n
 
-module _ (s : Side) (m : Names) (t : Tells (s .live) m) (n : ℕ) (l y : Bool) (p : l ≡ inBoth (m .lstandard) (m .luser) n) (q : y ≡ inBoth (m .standard) (m .user) n) (r : Rule) where
+module _ (s : Side) (m : Names) (t : Tells (s .live) m) (n : ℕ) (l y : Bool) (p : l ≡ inSet (m .flagged) n) (q : y ≡ inSet (m .named) n) (r : Rule) where
   is-l : l ≡ namedWithL n s
   is-l = p ∙ side-flagged s m t n
 
@@ -215,3 +219,23 @@ Decides whom k m x r =
 
 pub both-of : (whom : Subject) (k : ℕ) (m : Names) (x : Bool) (r : Rule) → ((s : Side) → Tells (s .live) m → x ≡ hasLegacy s → r ≡ ruleOn whom k s) → Decides whom k m x r
 both-of whom k m x r e = (λ s t h. rule-takes whom k s r (e s t h), e)
+
+-- ---- the rules of RSVP-TE that take legacy: all but two, as a match on them has it
+
+abbrev pub FromLegacy : Rule → Type 0
+FromLegacy ByL = Unit {0}
+FromLegacy (Naming n) = Unit {0}
+FromLegacy General = ⊥
+FromLegacy Legacy = Unit {0}
+FromLegacy NamingFirst = ⊥
+FromLegacy AloneFirst = Unit {0}
+FromLegacy LegacyFirst = Unit {0}
+
+pub from-legacy : (r : Rule) → OneOf (0 ∷ 1 ∷ 3 ∷ 5 ∷ 6 ∷ []) (tagOf the-type r) → FromLegacy r
+from-legacy ByL h = tt
+from-legacy (Naming n) h = tt
+from-legacy General h = ⊎-elim (λ e. omega arith) (λ h. ⊎-elim (λ e. omega arith) (λ h. ⊎-elim (λ e. omega arith) (λ h. ⊎-elim (λ e. omega arith) (λ e. omega arith) h) h) h) h
+from-legacy Legacy h = tt
+from-legacy NamingFirst h = ⊎-elim (λ e. omega arith) (λ h. ⊎-elim (λ e. omega arith) (λ h. ⊎-elim (λ e. omega arith) (λ h. ⊎-elim (λ e. omega arith) (λ e. omega arith) h) h) h) h
+from-legacy AloneFirst h = tt
+from-legacy LegacyFirst h = tt

@@ -1,39 +1,42 @@
--- What four masks tell of advertisements: who is named, and who with L (rules W2, W3), for every number.
+-- What names tell of advertisements: who is named, and who with L (rules W2, W3), for every number.
 use mathlib.Core.Path.{_≡_}
-use mathlib.Core.Bool.{Bool, cond, _&&_, _||_}
+use mathlib.Core.Bool.{Bool, _&&_, _||_}
 use mathlib.Core.List.{List, []}
-use Prim.Native.Nat.{ℕ, _-_}
-use lib.Dec.{ltb}
+use Prim.Native.Nat.{ℕ, _+_}
+use lib.ListN.{take, drop}
 use Rattle.linkstate.specs.Lists.{any}
 use Rattle.linkstate.specs.Replies.{Verdict, accepted, refused}
 use Rattle.linkstate.specs.Sides.{Advertisement, Side, names, hasLegacy}
-use Rattle.masks.specs.Sets.{inSent}
 use Rattle.replies.specs.Told.{toldRefusal}
 use Rattle.rules.specs.declared.Names.{Names}
 use Rattle.rules.specs.declared.Checking.{Checking}
 use Rattle.rules.specs.declared.Checking.the-variants.{Refused, Accepted}
 use Rattle.rules.specs.declared.SideChecked.{SideChecked}
 use Rattle.rules.specs.declared.SideChecked.the-variants as Checked
-use Rattle.masks.specs.Applications.{inBoth}
+use Rattle.masks.specs.Applications.{inSet}
 
 -- The advertisement of an L-flag and two masks; whom it names does not depend on its attributes.
 abbrev pub advertised : Bool → List ℕ → List ℕ → Advertisement
 advertised l standard user = record { L = l; standardMask = standard; userMask = user; attributes = [] }
 
--- Four masks hold whom some of these advertisements name, and whom some with L. Of the live ones of a side these are `named` and `namedWithL` (`proofs/Laws`).
-pub record Tells (ds : List Advertisement) (m : Names) : Type 0 where
-  pub named : (n : ℕ) → inBoth (m .standard) (m .user) n ≡ any (names n) ds
-  pub flagged : (n : ℕ) → inBoth (m .lstandard) (m .luser) n ≡ any (λ d. d .L && names n d) ds
+-- The same of masks that stand at a place of a run.
+abbrev pub advertisedAt : Bool → ℕ → ℕ → List ℕ → ℕ → Advertisement
+advertisedAt l standard user s at = advertised l (take standard (drop at s)) (take user (drop (at + standard) s))
 
--- The masks r hold whom m holds, and whom these advertisements name.
+-- Names hold whom some of these advertisements name, and whom some with L. Of the live ones of a side these are `named` and `namedWithL` (`proofs/Laws`).
+pub record Tells (ds : List Advertisement) (m : Names) : Type 0 where
+  pub named : (n : ℕ) → inSet (m .named) n ≡ any (names n) ds
+  pub flagged : (n : ℕ) → inSet (m .flagged) n ≡ any (λ d. d .L && names n d) ds
+
+-- The names r hold whom m holds, and whom these advertisements name.
 pub record Adds (m : Names) (ds : List Advertisement) (r : Names) : Type 0 where
-  pub named : (n : ℕ) → inBoth (r .standard) (r .user) n ≡ inBoth (m .standard) (m .user) n || any (names n) ds
-  pub flagged : (n : ℕ) → inBoth (r .lstandard) (r .luser) n ≡ inBoth (m .lstandard) (m .luser) n || any (λ d. d .L && names n d) ds
+  pub named : (n : ℕ) → inSet (r .named) n ≡ inSet (m .named) n || any (names n) ds
+  pub flagged : (n : ℕ) → inSet (r .flagged) n ≡ inSet (m .flagged) n || any (λ d. d .L && names n d) ds
 
 -- Those of two.
 pub record Joins (x y r : Names) : Type 0 where
-  pub named : (n : ℕ) → inBoth (r .standard) (r .user) n ≡ inBoth (x .standard) (x .user) n || inBoth (y .standard) (y .user) n
-  pub flagged : (n : ℕ) → inBoth (r .lstandard) (r .luser) n ≡ inBoth (x .lstandard) (x .luser) n || inBoth (y .lstandard) (y .luser) n
+  pub named : (n : ℕ) → inSet (r .named) n ≡ inSet (x .named) n || inSet (y .named) n
+  pub flagged : (n : ℕ) → inSet (r .flagged) n ≡ inSet (x .flagged) n || inSet (y .flagged) n
 
 -- What an answer of checks says, and what its names tell.
 abbrev pub toldChecking : Checking → Verdict
@@ -54,13 +57,13 @@ abbrev pub toldSide : SideChecked → Verdict
 toldSide (Checked.Refused r) = refused (toldRefusal r)
 toldSide (Checked.Accepted m legacy) = accepted
 
-abbrev pub Asked : SideChecked → Side → Type 0
-Asked (Checked.Refused r) s = Unit {0}
-Asked (Checked.Accepted m legacy) s = Tells (s .live) m × (legacy ≡ hasLegacy s)
+abbrev pub Telling : SideChecked → Side → Type 0
+Telling (Checked.Refused r) s = Unit {0}
+Telling (Checked.Accepted m legacy) s = Tells (s .live) m × (legacy ≡ hasLegacy s)
 
 pub record ChecksSide (v : Verdict) (s : Side) (r : SideChecked) : Type 0 where
   pub told : toldSide r ≡ v
-  pub asked : Asked r s
+  pub tells : Telling r s
 
 -- The same of a part, behind bytes that name m: the refusal, or m with those that the part names.
 abbrev pub Added : Names → Checking → List Advertisement → Type 0

@@ -1,27 +1,27 @@
 // By which rule a subject gets a kind, from whom a side names, whom it names with L (document 01, "Who gets what"), and whether its legacy attributes have a
 // value for RSVP-TE (document 02, E2). No byte of any format is read here.
 ghost use mathlib.Core.Path.{_≡_};
-ghost use mathlib.Core.List.{List, []};
-ghost use Prim.Native.Nat.{_<_};
+ghost use mathlib.Core.List.{List, [], _∷_};
+ghost use Prim.Native.Nat.{_+_, _≤_, _<_};
+ghost use lib.ListN.{length};
 ghost use Rattle.linkstate.specs.Replies.{fault};
 ghost use Rattle.linkstate.specs.Sides.{Advertisement, Side, hasLegacy};
 ghost use Rattle.replies.specs.Told.{toldRun, subjectOf};
-ghost use Rattle.rules.specs.Names.{Tells, Joins, Checks, ChecksBehind};
-ghost use Rattle.masks.specs.Applications.{inBoth};
+ghost use Rattle.rules.specs.Names.{advertisedAt, Tells, Adds, Joins, Checks, ChecksBehind};
+ghost use Rattle.masks.specs.Applications.{inSet};
 ghost use Rattle.rules.specs.declared.Names.{Names};
 ghost use mathlib.Core.Bool.{false};
 ghost use Rattle.linkstate.specs.Questions.{numberTooHigh};
 ghost use Rattle.rules.specs.Rules.{applicationRule, rsvpTeRule, bandwidthRule, subjectRule, ruleOn, takenBy, givenOn};
+use masks::Applications;
 use replies::Refusal;
 use replies::Run;
 use replies::Subject;
 
-// The applications that are named, and those that are named with L, as masks have them: the number of a mask's bytes, the first the lowest.
+// The applications that are named, and those that are named with L.
 pub struct Names {
-    pub standard: u64,
-    pub user: u64,
-    pub lstandard: u64,
-    pub luser: u64,
+    pub named: Applications,
+    pub flagged: Applications,
 }
 
 // What the checks of a run found: the first refusal, or whom the run names.
@@ -39,11 +39,10 @@ pub enum SideChecked {
 pub fn nobody() -> Names
     ensures { λ r. ⌜ Tells [] r ⌝ }
 {
+    let named = masks::nobody();
     Names {
-        standard: 0,
-        user: 0,
-        lstandard: 0,
-        luser: 0,
+        named,
+        flagged: named,
     }
 }
 
@@ -51,43 +50,38 @@ pub fn nobody() -> Names
 pub fn both(x: Names, y: Names) -> Names
     ensures { λ r. ⌜ Joins x y r ⌝ }
 {
-    let s = masks::joined(x.standard, y.standard);
-    let u = masks::joined(x.user, y.user);
-    let ls = masks::joined(x.lstandard, y.lstandard);
-    let lu = masks::joined(x.luser, y.luser);
-    Names {
-        standard: s,
-        user: u,
-        lstandard: ls,
-        luser: lu,
-    }
+    let named = masks::join(x.named, y.named);
+    let flagged = masks::join(x.flagged, y.flagged);
+    Names { named, flagged }
 }
 
-// Whether application n is in two masks: 64 and more are the user's.
-fn in_both(standard: u64, user: u64, n: u32) -> bool
-    requires { ⌜ n < 128 ⌝ }
-    ensures { λ r. ⌜ r ≡ inBoth standard user n ⌝ }
+// The names with those of an advertisement: its L-flag, and its masks, of so many bytes, that stand at a place of the run.
+pub fn names_with(names: Names, l: bool, standard: usize, user: usize, s: &[u8], at: usize) -> Names
+    requires { ⌜ (standard ≤ 8) × (user ≤ 8) × (at + standard + user ≤ length (now s)) × (length (now s) < 4294967296) ⌝ }
+    ensures { λ r. ⌜ Adds names (advertisedAt l standard user (now (s .entry)) at ∷ []) r ⌝ }
 {
-    if n < 64 {
-        return masks::has(standard, n / 8 * 8 + (7 - n % 8));
+    let named = masks::with_masks(names.named, s, at, standard, user);
+    if l {
+        let flagged = masks::with_masks(names.flagged, s, at, standard, user);
+        return Names { named, flagged };
     }
-    let k = n - 64;
-    masks::has(user, k / 8 * 8 + (7 - k % 8))
+    let flagged = names.flagged;
+    Names { named, flagged }
 }
 
 // Whether application n is named, and whether it is so with L.
 pub fn is_named(m: Names, n: u32) -> bool
     requires { ⌜ n < 128 ⌝ }
-    ensures { λ r. ⌜ r ≡ inBoth (m .standard) (m .user) n ⌝ }
+    ensures { λ r. ⌜ r ≡ inSet (m .named) n ⌝ }
 {
-    in_both(m.standard, m.user, n)
+    masks::is_in(m.named, n)
 }
 
 pub fn is_named_with_l(m: Names, n: u32) -> bool
     requires { ⌜ n < 128 ⌝ }
-    ensures { λ r. ⌜ r ≡ inBoth (m .lstandard) (m .luser) n ⌝ }
+    ensures { λ r. ⌜ r ≡ inSet (m .flagged) n ⌝ }
 {
-    in_both(m.lstandard, m.luser, n)
+    masks::is_in(m.flagged, n)
 }
 
 // A refusal for an element of a run.

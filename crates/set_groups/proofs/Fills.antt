@@ -1,20 +1,20 @@
--- The table filled with the groups of all named applications: the next one, the table before and after it has joined, and masks that were turned. Assumes nothing.
-use mathlib.Core.Path.{_≡_, refl, sym, _∙_, ap, fun-ext, subst}
+-- The table filled with the groups of all named applications: the next one, the table before and after it has joined. Assumes nothing.
+use mathlib.Core.Path.{_≡_, refl, sym, _∙_, ap, subst}
 use mathlib.Core.Bool.{Bool, true, false, cond}
 use mathlib.Core.List.{List, [], _∷_}
-use Prim.Native.Nat.{ℕ, suc, _+_, _-_, _^_, _≤_, _<_}
-use native.Mathlib.Nat.{div-eq-of-lt, lt-of-lt-of-le}
+use Prim.Native.Nat.{ℕ, suc, _+_, _-_, _≤_, _<_}
 use native.Mathlib.Omega.{arith}
-use borrow.Author.Tests.{lt-ltb, le-ltb, ltb-true, ltb-false}
+use borrow.Author.Tests.{ltb-true, ltb-false}
 use lib.Dec.{eqb, ltb}
 use lib.ListN.{length, getD, replicate, getD-replicate}
-use lib.Pow.{pow-mono}
 use Rattle.linkstate.specs.Lists.{numbers, keep}
 use Rattle.linkstate.specs.Masks.{inNumber}
 use Rattle.linkstate.specs.Meaning.{Meaning, row}
-use Rattle.masks.specs.Sets.{IsNext, turnedPlace, inSent}
+use Rattle.masks.specs.Sets.{IsNext, turnedPlace}
 use Rattle.masks.proofs.Laws.{walk-next, walk-member}
-use Rattle.masks.specs.Applications.{inBoth, inPair}
+use Rattle.masks.specs.declared.Applications.{Applications}
+use Rattle.masks.specs.Applications.{atPlace}
+use Rattle.masks.proofs.Sets.{place-low, place-user}
 use Rattle.srlg_sources.specs.Classes.{classOf}
 use Rattle.grids.specs.Grids.{setOf}
 use Rattle.grids.specs.Slots.{slotGrid, slotOf}
@@ -25,38 +25,30 @@ use Rattle.set_groups.proofs.Tlvs.{groups-start}
 
 -- ---- the next named application
 
-module _ (s u : ℕ) where
-  standard-in : (j : ℕ) → j < 64 → inPair s u j ≡ inNumber s j
-  unfolding inPair
-  standard-in j h = rw (lt-ltb j 64 h)
-
-  user-in : (j : ℕ) → 64 ≤ j → inPair s u j ≡ inNumber u (j - 64)
-  unfolding inPair
-  user-in j h = rw (le-ltb j 64 h)
-
-  pub next-standard : (from n : ℕ) → IsNext 64 (inNumber s) from n → n < 64 → IsNext 128 (inPair s u) from n
+module _ (m : Applications) where
+  pub next-standard : (from n : ℕ) → IsNext 64 (inNumber (m .standard)) from n → n < 64 → IsNext 128 (atPlace m) from n
   next-standard from n r l =
-      record { low = r .low; high = omega arith; skips = λ j a b. standard-in j (omega arith) ∙ r .skips j a b; there = λ h. standard-in n l ∙ r .there l }
+      record { low = r .low; high = omega arith; skips = λ j a b. place-low m j (omega arith) ∙ r .skips j a b; there = λ h. place-low m n l ∙ r .there l }
 
-  last : (k : ℕ) → (k < 64 → inNumber u k ≡ true) → 64 + k < 128 → inPair s u (64 + k) ≡ true
-  last k there h = let e : 64 + k - 64 ≡ k = omega arith in user-in (64 + k) (omega arith) ∙ ap (inNumber u) e ∙ there (omega arith)
+  last : (k : ℕ) → (k < 64 → inNumber (m .user) k ≡ true) → 64 + k < 128 → atPlace m (64 + k) ≡ true
+  last k there h = let e : 64 + k - 64 ≡ k = omega arith in place-user m (64 + k) (omega arith) ∙ ap (inNumber (m .user)) e ∙ there (omega arith)
 
-  pub next-later : (from n k : ℕ) → IsNext 64 (inNumber s) from n → 64 ≤ n → IsNext 64 (inNumber u) 0 k → IsNext 128 (inPair s u) from (64 + k)
+  pub next-later : (from n k : ℕ) → IsNext 64 (inNumber (m .standard)) from n → 64 ≤ n → IsNext 64 (inNumber (m .user)) 0 k → IsNext 128 (atPlace m) from (64 + k)
   next-later from n k r l q =
       let low = r .low in
       let high = r .high in
       let most = q .high in
       record { low = omega arith; high = omega arith; skips = λ j a b. go j a b (ltb j 64) refl; there = last k (q .there) }
     where
-      go : (j : ℕ) → from ≤ j → j < 64 + k → (b : Bool) → ltb j 64 ≡ b → inPair s u j ≡ false
-      go j a b true e = let h = ltb-true j 64 e in standard-in j h ∙ r .skips j a (omega arith)
-      go j a b false e = let h = ltb-false j 64 e in user-in j h ∙ q .skips (j - 64) (omega arith) (omega arith)
+      go : (j : ℕ) → from ≤ j → j < 64 + k → (b : Bool) → ltb j 64 ≡ b → atPlace m j ≡ false
+      go j a b true e = let h = ltb-true j 64 e in place-low m j h ∙ r .skips j a (omega arith)
+      go j a b false e = let h = ltb-false j 64 e in place-user m j h ∙ q .skips (j - 64) (omega arith) (omega arith)
 
-  pub next-user : (from k : ℕ) → 64 ≤ from → IsNext 64 (inNumber u) (from - 64) k → IsNext 128 (inPair s u) from (64 + k)
+  pub next-user : (from k : ℕ) → 64 ≤ from → IsNext 64 (inNumber (m .user)) (from - 64) k → IsNext 128 (atPlace m) from (64 + k)
   next-user from k l q =
       let low = q .low in
       let most = q .high in
-      record { low = omega arith; high = omega arith; skips = λ j a b. user-in j (omega arith) ∙ q .skips (j - 64) (omega arith) (omega arith); there = last k (q .there) }
+      record { low = omega arith; high = omega arith; skips = λ j a b. place-user m j (omega arith) ∙ q .skips (j - 64) (omega arith) (omega arith); there = last k (q .there) }
 
 -- How many are left.
 module _ (p : ℕ → Bool) where
@@ -162,32 +154,6 @@ module _ (run : List ℕ) (sets own : List (List ℕ)) (p : ℕ → Bool) where
           owned = was .owned;
           grouped = λ srlgs k differ classes m g. was .grouped srlgs k differ classes m g ∙ ap (groupsBelow m) e;
         }
-
--- ---- masks that were turned
-
-beyond : (m n : ℕ) → m < 2 ^ 64 → 64 ≤ n → inNumber m n ≡ false
-unfolding inNumber
-beyond m n f h = rw (div-eq-of-lt (lt-of-lt-of-le f (pow-mono h)))
-
-high-place : (n : ℕ) → 64 ≤ n → 64 ≤ turnedPlace n
-unfolding turnedPlace
-high-place n h = omega arith
-
-module _ (standard users s u : ℕ) (fs : standard < 2 ^ 64) (fu : users < 2 ^ 64) (ft : s < 2 ^ 64) (fv : u < 2 ^ 64)
-    (ts : (n : ℕ) → n < 64 → inNumber s n ≡ inSent standard n) (tu : (n : ℕ) → n < 64 → inNumber u n ≡ inSent users n) where
-  at-one : (m t n : ℕ) → m < 2 ^ 64 → t < 2 ^ 64 → ((i : ℕ) → i < 64 → inNumber t i ≡ inSent m i) → inNumber t n ≡ inSent m n
-  at-one m t n fm ft e = go (ltb n 64) refl
-    where
-      go : (b : Bool) → ltb n 64 ≡ b → inNumber t n ≡ inSent m n
-      go true q = e n (ltb-true n 64 q)
-      go false q = let h = ltb-false n 64 q in beyond t n ft h ∙ sym (beyond m (turnedPlace n) fm (high-place n h))
-
-  turned-same : (n : ℕ) → inPair s u n ≡ inBoth standard users n
-  unfolding inPair inBoth
-  turned-same n = rw (at-one standard s n fs ft ts, at-one users u (n - 64) fu fv tu)
-
-  pub turned-are : inPair s u ≡ inBoth standard users
-  turned-are = fun-ext turned-same
 
 -- ---- the slot and the class of an application
 

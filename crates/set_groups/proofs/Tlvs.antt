@@ -15,7 +15,8 @@ use Rattle.masks.proofs.Laws.{in-number, size-same, mask-same}
 use Rattle.kinds.proofs.Computing.{computing}
 use Rattle.masks.specs.Sets.{turnedPlace}
 use Rattle.masks.proofs.Steps.{turned-back, turned-below}
-use Rattle.masks.specs.Applications.{inBoth}
+use Rattle.masks.specs.declared.Applications.{Applications}
+use Rattle.masks.specs.Applications.{inSet}
 use Rattle.set_groups.specs.Groups.{group, valueIn, groupTlv, groupBelow, groupsBelow}
 
 -- ---- an ASLA depends on the 128 applications and the eleven kinds only
@@ -49,9 +50,9 @@ unfolding valueIn row computing
 row-back f = refl
 
 -- The TLV of a group by any set of its values.
-pub tlv-is : (f : ℕ → List ℕ) (s u : ℕ) → groupTlv (group (row f) s u) ≡ bytesOf (tlv 1122 (aslaValue (inBoth s u) f))
+pub tlv-is : (f : ℕ → List ℕ) (s u : ℕ) → groupTlv (group (row f) s u) ≡ bytesOf (tlv 1122 (aslaValue (inSet (record { standard = s; user = u })) f))
 unfolding groupTlv group
-tlv-is f s u = ap (λ (v : List ℕ). bytesOf (tlv 1122 v)) (asla-row (inBoth s u) (valueIn (row f)) f (row-back f))
+tlv-is f s u = ap (λ (v : List ℕ). bytesOf (tlv 1122 v)) (asla-row (inSet (record { standard = s; user = u })) (valueIn (row f)) f (row-back f))
 
 -- ---- the groups of all
 
@@ -72,8 +73,11 @@ module _ (p : ℕ → Bool) where
   abbrev users : ℕ
   users = asNumber (λ i. ltb (user (turnedPlace i)) 128 && p (user (turnedPlace i)))
 
-  members-are : (n : ℕ) → n < 128 → inBoth standards users n ≡ p n
-  unfolding inBoth user
+  abbrev these : Applications
+  these = record { standard = standards; user = users }
+
+  members-are : (n : ℕ) → n < 128 → inSet these n ≡ p n
+  unfolding inSet user
   members-are n h = go (ltb n 64) refl
     where
       go : (b : Bool) → ltb n 64 ≡ b → cond b (inNumber standards (turnedPlace n)) (inNumber users (turnedPlace (n - 64))) ≡ p n
@@ -91,7 +95,7 @@ module _ (m : Meaning) where
   unfolding groupBelow groupValue
   one-tlv l =
       tlv-is (m .set l) (standards (inGroup m l)) (users (inGroup m l))
-      ∙ ap (λ (v : List ℕ). bytesOf (tlv 1122 v)) (asla-same (inBoth (standards (inGroup m l)) (users (inGroup m l))) (inGroup m l) (m .set l) (members-are (inGroup m l)))
+      ∙ ap (λ (v : List ℕ). bytesOf (tlv 1122 v)) (asla-same (inSet (these (inGroup m l))) (inGroup m l) (m .set l) (members-are (inGroup m l)))
 
   pub groups-are : each groupTlv (groupsBelow m 128) ≡ each bytesOf (map (tlv 1122) (map (groupValue m) (leaders m)))
   unfolding groupsBelow leaders others

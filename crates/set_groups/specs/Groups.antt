@@ -11,7 +11,8 @@ use Rattle.linkstate.specs.Meaning.{Meaning, row}
 use Rattle.linkstate.specs.Export.{tlv, bytesOf, aslaValue, inGroup}
 use Rattle.kinds.specs.Rules.{rowIn}
 use Rattle.masks.specs.Sets.{turnedPlace}
-use Rattle.masks.specs.Applications.{inBoth}
+use Rattle.masks.specs.declared.Applications.{Applications}
+use Rattle.masks.specs.Applications.{inSet}
 
 -- The values of the set that its members share, kinds ascending, and its members as two masks that are sent, of standard and of user applications.
 pub record Group : Type 0 where
@@ -35,9 +36,13 @@ join n vs (g ∷ gs) = cond (sameRows (g .values) vs) (added n g ∷ gs) (g ∷ 
 unfoldable pub valueIn : List (List ℕ) → ℕ → List ℕ
 valueIn vs c = getD vs (rowIn applicationCodes c) []
 
+-- The members of a group.
+abbrev pub members : Group → Applications
+members g = record { standard = g .standard; user = g .users }
+
 -- L3. The ASLA TLV of a group.
 unfoldable pub groupTlv : Group → List ℕ
-groupTlv g = bytesOf (tlv 1122 (aslaValue (inBoth (g .standard) (g .users)) (valueIn (g .values))))
+groupTlv g = bytesOf (tlv 1122 (aslaValue (inSet (members g)) (valueIn (g .values))))
 
 -- L3, L7. The group that l leads, of its members below k, and the groups of all leaders below k.
 unfoldable pub groupBelow : Meaning → ℕ → ℕ → Group

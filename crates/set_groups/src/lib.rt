@@ -6,10 +6,11 @@ ghost use lib.Dec.{eqb};
 ghost use lib.ListN.{length, replicate};
 ghost use Rattle.linkstate.specs.Masks.{user, asNumber, inNumber};
 ghost use Rattle.masks.specs.Sets.{IsNext, turnedPlace};
-ghost use Rattle.masks.specs.Applications.{inBoth, inPair};
+ghost use Rattle.masks.specs.Applications.{inSet, atPlace};
 ghost use Rattle.grids.specs.Slots.{slotMark, IsSet, Slots};
 ghost use Rattle.set_groups.specs.Table.{word, slotIn, classIn, nextIn, bucketOf, bucketIn, Same, Tells, Latest, Entries, Chained, Finds, Joined, left, Placed, Filled};
 ghost use Rattle.set_groups.specs.Members.{withMember};
+use masks::Applications;
 
 // The slot, the class and the next entry that the third number of an entry says.
 pub fn slot_in(x: u64) -> usize
@@ -153,36 +154,35 @@ fn join(
     count + 1
 }
 
-// The first application of two sets, standard and user, from `from` on, or 128.
-fn next_named(standard: u64, user: u64, from: usize) -> usize
+// The first place of a set from `from` on, or 128.
+fn next_named(m: Applications, from: usize) -> usize
     requires { ⌜ from ≤ 128 ⌝ }
-    ensures { λ r. ⌜ IsNext 128 (inPair standard user) from r ⌝ }
+    ensures { λ r. ⌜ IsNext 128 (atPlace m) from r ⌝ }
 {
     if from < 64 {
-        let n = masks::next_bit(standard, from as u32);
+        let n = masks::next_bit(m.standard, from as u32);
         if n < 64 {
             return n as usize;
         }
-        return 64 + masks::next_bit(user, 0) as usize;
+        return 64 + masks::next_bit(m.user, 0) as usize;
     }
-    64 + masks::next_bit(user, (from - 64) as u32) as usize
+    64 + masks::next_bit(m.user, (from - 64) as u32) as usize
 }
 
-// All named applications but RSVP-TE join, ascending; how many entries there are then.
+// All applications of a set, n at place n, but RSVP-TE join, ascending; how many entries there are then.
 fn join_all(
     run: &[u8],
     sets: &[[u32; 12]],
     own: &[[u8; 2]; 128],
-    standard: u64,
-    user: u64,
+    m: Applications,
     groups: &mut [[u64; 3]],
     buckets: &mut [u8; 128],
 ) -> usize
-    requires { ⌜ Slots (now run) (now sets) × Placed (now sets) (now own) (inPair standard user) × (1 + left (inPair standard user) 1 ≤ length (now groups)) × (now buckets ≡ replicate 128 0) ⌝ }
-    ensures { λ r. ⌜ Filled (now (run .entry)) (now (sets .entry)) (now (own .entry)) (inPair standard user) (now (groups .exit)) r ⌝ }
+    requires { ⌜ Slots (now run) (now sets) × Placed (now sets) (now own) (atPlace m) × (1 + left (atPlace m) 1 ≤ length (now groups)) × (now buckets ≡ replicate 128 0) ⌝ }
+    ensures { λ r. ⌜ Filled (now (run .entry)) (now (sets .entry)) (now (own .entry)) (atPlace m) (now (groups .exit)) r ⌝ }
 {
     let mut count = 1;
-    let mut n = next_named(standard, user, 1);
+    let mut n = next_named(m, 1);
     while n < 128 {
         let j = masks::turned_place(n);
         count = join(
@@ -195,31 +195,22 @@ fn join_all(
             wide(own[j][0]),
             wide(own[j][1]),
         );
-        n = next_named(standard, user, n + 1);
+        n = next_named(m, n + 1);
     }
     count
 }
 
-// The groups of the applications of two masks that are sent, RSVP-TE apart; how many entries the table has then, from 1 on.
+// The groups of the applications of a set, RSVP-TE apart; how many entries the table has then, from 1 on.
 pub fn fill_groups(
     run: &[u8],
     sets: &[[u32; 12]],
     own: &[[u8; 2]; 128],
-    standard: u64,
-    user: u64,
+    m: Applications,
     groups: &mut [[u64; 3]],
 ) -> usize
-    requires { ⌜ Slots (now run) (now sets) × Placed (now sets) (now own) (inBoth standard user) × (1 + left (inBoth standard user) 1 ≤ length (now groups)) ⌝ }
-    ensures { λ r. ⌜ Filled (now (run .entry)) (now (sets .entry)) (now (own .entry)) (inBoth standard user) (now (groups .exit)) r ⌝ }
+    requires { ⌜ Slots (now run) (now sets) × Placed (now sets) (now own) (inSet m) × (1 + left (inSet m) 1 ≤ length (now groups)) ⌝ }
+    ensures { λ r. ⌜ Filled (now (run .entry)) (now (sets .entry)) (now (own .entry)) (inSet m) (now (groups .exit)) r ⌝ }
 {
     let mut buckets = [0u8; 128];
-    join_all(
-        run,
-        sets,
-        own,
-        masks::turned(standard),
-        masks::turned(user),
-        groups,
-        &mut buckets,
-    )
+    join_all(run, sets, own, masks::turned_set(m), groups, &mut buckets)
 }

@@ -16,12 +16,13 @@ use Rattle.srlg_ranks.proofs.Bits.{lowest}
 use Rattle.grids.specs.Slots.{cell}
 use Rattle.set_table.specs.Marks.{valueMark, valueSize, total, setMark, setSize}
 use Rattle.set_table.specs.Tables.{CellFits, rowValues, Fitting, Summed, Table, slotAt, Owned, howMany, emptyRow, Assigned, Begun}
-use Rattle.masks.specs.Applications.{inPair}
+use Rattle.masks.specs.declared.Applications.{Applications}
+use Rattle.masks.specs.Applications.{atPlace}
 use Rattle.set_table.proofs.Marks.{none-mark, none-size, total-none}
 use Rattle.set_table.proofs.Tables.{value-at, ten-values, no-value}
 use Rattle.set_table.proofs.Bits.{lowestBit, others, bit-low, bit-there, others-less, other-was}
 use Rattle.set_table.proofs.Owns.{placed-here, placed-other, placed-owned, placed-class}
-use Rattle.set_table.proofs.Named.{pair-low, pair-high}
+use Rattle.masks.proofs.Sets as sets
 
 -- ---- how many there are
 
@@ -247,11 +248,11 @@ unfolding howMany
 many-split p n zero = let e : n + 0 ≡ n = omega arith in ap (howMany p) e ∙ omega arith
 many-split p n (suc k) = let e : n + suc k ≡ suc (n + k) = omega arith in ap (howMany p) e ∙ omega (arith, many-split p n k)
 
-pub many-pair : (standard user : ℕ) → howMany (inPair standard user) 128 ≡ howMany (inNumber standard) 64 + howMany (inNumber user) 64
-many-pair standard user =
-    many-split (inPair standard user) 64 64
-    ∙ ap₂ (λ (x y : ℕ). x + y) (many-same (inPair standard user) (inNumber standard) 64 (λ j h. pair-low standard user j h))
-    (many-same (λ j. inPair standard user (64 + j)) (inNumber user) 64 (λ j h. pair-high standard user j))
+pub many-pair : (m : Applications) → howMany (atPlace m) 128 ≡ howMany (inNumber (m .standard)) 64 + howMany (inNumber (m .user)) 64
+many-pair m =
+    many-split (atPlace m) 64 64
+    ∙ ap₂ (λ (x y : ℕ). x + y) (many-same (atPlace m) (inNumber (m .standard)) 64 (λ j h. sets.place-low m j h))
+    (many-same (λ j. atPlace m (64 + j)) (inNumber (m .user)) 64 (λ j h. sets.place-high m j))
 
 turned-high : (n : ℕ) → turnedPlace (64 + n) ≡ 64 + turnedPlace n
 unfolding turnedPlace
@@ -273,8 +274,8 @@ side n h = go (ltb n 64) refl
     go true e = low-side (ltb-true n 64 e)
     go false e = let l = ltb-false n 64 e in high-side (n - 64) (omega arith) (omega arith)
 
-module _ (standard user : ℕ) {own table mid middle after filled : List (List ℕ)} {j k : ℕ} (z : (s : ℕ) → s < 3 → getD table s [] ≡ emptyRow)
-    (a : Assigned own table mid middle 0 (inNumber standard) 3 j) (b : Assigned mid middle after filled 64 (inNumber user) j k) where
+module _ (m : Applications) {own table mid middle after filled : List (List ℕ)} {j k : ℕ} (z : (s : ℕ) → s < 3 → getD table s [] ≡ emptyRow)
+    (a : Assigned own table mid middle 0 (inNumber (m .standard)) 3 j) (b : Assigned mid middle after filled 64 (inNumber (m .user)) j k) where
   low-place : (n : ℕ) → n < 64 → getD after (turnedPlace n) [] ≡ getD mid (0 + turnedPlace n) []
   low-place n h =
       let e : 0 + turnedPlace n ≡ turnedPlace n = omega arith in
@@ -286,13 +287,13 @@ module _ (standard user : ℕ) {own table mid middle after filled : List (List �
   high-slot : (n i : ℕ) → n ≡ 64 + i → slotAt after (turnedPlace n) ≡ slotAt after (64 + turnedPlace i)
   high-slot n i e = ap (slotAt after) (ap turnedPlace e ∙ turned-high i)
 
-  in-low : (n : ℕ) → n < 64 → inPair standard user n ≡ true → inNumber standard n ≡ true
-  in-low n h e = sym (pair-low standard user n h) ∙ e
+  in-low : (n : ℕ) → n < 64 → atPlace m n ≡ true → inNumber (m .standard) n ≡ true
+  in-low n h e = sym (sets.place-low m n h) ∙ e
 
-  in-high : (n i : ℕ) → n ≡ 64 + i → inPair standard user n ≡ true → inNumber user i ≡ true
-  in-high n i f e = sym (pair-high standard user i) ∙ ap (inPair standard user) (sym f) ∙ e
+  in-high : (n i : ℕ) → n ≡ 64 + i → atPlace m n ≡ true → inNumber (m .user) i ≡ true
+  in-high n i f e = sym (sets.place-high m i) ∙ ap (atPlace m) (sym f) ∙ e
 
-  pub begun : Begun own after filled standard user k
+  pub begun : Begun own after filled m k
   begun = record {
     owned = b .owned;
     slots = λ n h e. slots n e (side n h);
@@ -303,12 +304,12 @@ module _ (standard user : ℕ) {own table mid middle after filled : List (List �
     taken = λ s g h. takes s g h (ltb s j) refl;
   }
     where
-      takes : (s : ℕ) → 3 ≤ s → s < k → (x : Bool) → ltb s j ≡ x → (n : ℕ) × (n < 128) × (inPair standard user n ≡ true) × (slotAt after (turnedPlace n) ≡ s)
-      takes s g h true e = let t = a .taken s g (ltb-true s j e) in let i = t .1 in (t .0, omega arith, pair-low standard user (t .0) i ∙ t .2, low-slot (t .0) i ∙ t .3)
+      takes : (s : ℕ) → 3 ≤ s → s < k → (x : Bool) → ltb s j ≡ x → (n : ℕ) × (n < 128) × (atPlace m n ≡ true) × (slotAt after (turnedPlace n) ≡ s)
+      takes s g h true e = let t = a .taken s g (ltb-true s j e) in let i = t .1 in (t .0, omega arith, sets.place-low m (t .0) i ∙ t .2, low-slot (t .0) i ∙ t .3)
       takes s g h false e =
-          let t = b .taken s (ltb-false s j e) h in let i = t .1 in (64 + t .0, omega arith, pair-high standard user (t .0) ∙ t .2, high-slot (64 + t .0) (t .0) refl ∙ t .3)
+          let t = b .taken s (ltb-false s j e) h in let i = t .1 in (64 + t .0, omega arith, sets.place-high m (t .0) ∙ t .2, high-slot (64 + t .0) (t .0) refl ∙ t .3)
 
-      slots : (n : ℕ) → inPair standard user n ≡ true → Side n → (3 ≤ slotAt after (turnedPlace n)) × (slotAt after (turnedPlace n) < k)
+      slots : (n : ℕ) → atPlace m n ≡ true → Side n → (3 ≤ slotAt after (turnedPlace n)) × (slotAt after (turnedPlace n) < k)
       slots n e (low-side h) =
           let s = a .slots n h (in-low n h e) in
           let o = b .order in
@@ -318,7 +319,7 @@ module _ (standard user : ℕ) {own table mid middle after filled : List (List �
           let o = a .order in
           (omega (arith, high-slot n i f, s .0), omega (arith, high-slot n i f, s .1))
 
-      apart : (x y : ℕ) → inPair standard user x ≡ true → inPair standard user y ≡ true → slotAt after (turnedPlace x) ≡ slotAt after (turnedPlace y) → Side x → Side y → x ≡ y
+      apart : (x y : ℕ) → atPlace m x ≡ true → atPlace m y ≡ true → slotAt after (turnedPlace x) ≡ slotAt after (turnedPlace y) → Side x → Side y → x ≡ y
       apart x y d e f (low-side g) (low-side h) = a .apart x y g h (in-low x g d) (in-low y h e) (sym (low-slot x g) ∙ f ∙ low-slot y h)
       apart x y d e f (low-side g) (high-side i h u) =
           absurd (omega (arith, f, low-slot x g, a .slots x g (in-low x g d) .1, high-slot y i u, b .slots i h (in-high y i u e) .0))
@@ -327,15 +328,15 @@ module _ (standard user : ℕ) {own table mid middle after filled : List (List �
       apart x y d e f (high-side i g u) (high-side l h v) =
           omega (arith, u, v, b .apart i l g h (in-high x i u d) (in-high y l v e) (sym (high-slot x i u) ∙ f ∙ high-slot y l v))
 
-      no-low : (n : ℕ) → n < 64 → inPair standard user n ≡ false → (i : ℕ) → i < 64 → inNumber standard i ≡ true → 0 + turnedPlace n ≡ 0 + turnedPlace i → ⊥
-      no-low n h e i l d f = false≢true (sym e ∙ pair-low standard user n h ∙ ap (inNumber standard) (turned-apart 0 n i f) ∙ d)
+      no-low : (n : ℕ) → n < 64 → atPlace m n ≡ false → (i : ℕ) → i < 64 → inNumber (m .standard) i ≡ true → 0 + turnedPlace n ≡ 0 + turnedPlace i → ⊥
+      no-low n h e i l d f = false≢true (sym e ∙ sets.place-low m n h ∙ ap (inNumber (m .standard)) (turned-apart 0 n i f) ∙ d)
 
-      no-high : (n x : ℕ) → n ≡ 64 + x → inPair standard user n ≡ false → (i : ℕ) → i < 64 → inNumber user i ≡ true → turnedPlace n ≡ 64 + turnedPlace i → ⊥
+      no-high : (n x : ℕ) → n ≡ 64 + x → atPlace m n ≡ false → (i : ℕ) → i < 64 → inNumber (m .user) i ≡ true → turnedPlace n ≡ 64 + turnedPlace i → ⊥
       no-high n x u e i l d f =
           let y : x ≡ i = turned-apart 64 x i (sym (ap turnedPlace u ∙ turned-high x) ∙ f) in
-          false≢true (sym e ∙ ap (inPair standard user) u ∙ pair-high standard user x ∙ ap (inNumber user) y ∙ d)
+          false≢true (sym e ∙ ap (atPlace m) u ∙ sets.place-high m x ∙ ap (inNumber (m .user)) y ∙ d)
 
-      keeps : (n : ℕ) → inPair standard user n ≡ false → Side n → getD after (turnedPlace n) [] ≡ getD own (turnedPlace n) []
+      keeps : (n : ℕ) → atPlace m n ≡ false → Side n → getD after (turnedPlace n) [] ≡ getD own (turnedPlace n) []
       keeps n e (low-side h) =
           let q : 0 + turnedPlace n ≡ turnedPlace n = omega arith in
           low-place n h ∙ a .others (0 + turnedPlace n) (no-low n h e) ∙ ap (λ (p : ℕ). getD own p []) q

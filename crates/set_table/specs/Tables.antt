@@ -13,7 +13,8 @@ use Rattle.grids.specs.Grids.{rowValue}
 use Rattle.grids.specs.Slots.{cell, cellRow, IsSet}
 use Rattle.tlv_bytes.specs.Tlvs.{front, valueAt}
 use Rattle.set_table.specs.Marks.{valueMark, setMark, setSize}
-use Rattle.masks.specs.Applications.{inPair}
+use Rattle.masks.specs.declared.Applications.{Applications}
+use Rattle.masks.specs.Applications.{atPlace}
 
 -- A cell of place and length.
 abbrev pub cellOf : ℕ → ℕ → ℕ
@@ -93,32 +94,36 @@ pub record Free (sets own : List (List ℕ)) (base bits k : ℕ) : Type 0 where
   pub free : (j : ℕ) → j < 64 → inNumber bits j ≡ true → cell sets (slotAt own (base + j)) k ≡ 0
   pub apart : (i j : ℕ) → i < 64 → j < 64 → inNumber bits i ≡ true → inNumber bits j ≡ true → slotAt own (base + i) ≡ slotAt own (base + j) → i ≡ j
 
--- Whether two masks have a place; whether a slot is that of such a place, and what comes to the cells of kind k of such slots.
-unfoldable pub reaches : List (List ℕ) → ℕ → ℕ → ℕ → Bool
-reaches own standard user s = any (λ p. inPair standard user p && eqb (slotAt own p) s) (numbers 0 128)
+-- Whether a slot is that of a place of a set, and what comes to the cells of kind k of such slots.
+unfoldable pub reaches : List (List ℕ) → Applications → ℕ → Bool
+reaches own m s = any (λ p. atPlace m p && eqb (slotAt own p) s) (numbers 0 128)
 
-abbrev pub toNamed : List (List ℕ) → ℕ → ℕ → ℕ → ℕ → ℕ → ℕ → ℕ
-toNamed own standard user k c s j = cond (eqb j k && reaches own standard user s) c 0
+abbrev pub toNamed : List (List ℕ) → Applications → ℕ → ℕ → ℕ → ℕ → ℕ
+toNamed own m k c s j = cond (eqb j k && reaches own m s) c 0
 
--- The slots of the places of two masks: each stands for a set, has no value of kind k, and is that of one place alone.
-pub record Fresh (table own : List (List ℕ)) (standard user k : ℕ) : Type 0 where
-  pub stand : (p : ℕ) → p < 128 → inPair standard user p ≡ true → IsSet table (slotAt own p)
-  pub free : (p : ℕ) → p < 128 → inPair standard user p ≡ true → cell table (slotAt own p) k ≡ 0
-  pub apart : (p q : ℕ) → p < 128 → q < 128 → inPair standard user p ≡ true → inPair standard user q ≡ true → slotAt own p ≡ slotAt own q → p ≡ q
+-- The slots of the places of a set: each stands for a set, has no value of kind k, and is that of one place alone.
+pub record Fresh (table own : List (List ℕ)) (m : Applications) (k : ℕ) : Type 0 where
+  pub stand : (p : ℕ) → p < 128 → atPlace m p ≡ true → IsSet table (slotAt own p)
+  pub free : (p : ℕ) → p < 128 → atPlace m p ≡ true → cell table (slotAt own p) k ≡ 0
+  pub apart : (p q : ℕ) → p < 128 → q < 128 → atPlace m p ≡ true → atPlace m q ≡ true → slotAt own p ≡ slotAt own q → p ≡ q
 
 -- The places that are named have a slot each, which stands for a set.
 pub record Slotted (table own : List (List ℕ)) (names : ℕ → Bool) : Type 0 where
   pub stand : (p : ℕ) → p < 128 → names p ≡ true → IsSet table (slotAt own p)
   pub apart : (p q : ℕ) → p < 128 → q < 128 → names p ≡ true → names q ≡ true → slotAt own p ≡ slotAt own q → p ≡ q
 
--- For each kind two masks have the named places whose slot has a value of it.
+-- The set of two numbers that stand in a row.
+abbrev pub setIn : List ℕ → Applications
+setIn row = record { standard = getD row 0 0; user = getD row 1 0 }
+
+-- For each kind a row has the named places whose slot has a value of it.
 pub record Having (table own have : List (List ℕ)) (names : ℕ → Bool) : Type 0 where
   pub ten : length have ≡ 10
-  pub told : (k p : ℕ) → k < 10 → p < 128 → names p ≡ true → inPair (getD (getD have k []) 0 0) (getD (getD have k []) 1 0) p ≡ not (eqb (cell table (slotAt own p) k) 0)
+  pub told : (k p : ℕ) → k < 10 → p < 128 → names p ≡ true → atPlace (setIn (getD have k [])) p ≡ not (eqb (cell table (slotAt own p) k) 0)
 
--- Two masks have named places only.
-abbrev pub Within : ℕ → ℕ → (ℕ → Bool) → Type 0
-Within standard user names = (p : ℕ) → p < 128 → inPair standard user p ≡ true → names p ≡ true
+-- A set has named places only.
+abbrev pub Within : Applications → (ℕ → Bool) → Type 0
+Within m names = (p : ℕ) → p < 128 → atPlace m p ≡ true → names p ≡ true
 
 -- The table of slot and class by place: 128 rows of two.
 pub record Owned (own : List (List ℕ)) : Type 0 where
@@ -157,13 +162,13 @@ pub record Assigned (own table after filled : List (List ℕ)) (base : ℕ) (d :
   pub classes : (p : ℕ) → getD (getD after p []) 1 0 ≡ getD (getD own p []) 1 0
   pub taken : (s : ℕ) → from ≤ s → s < k → (n : ℕ) × (n < 64) × (d n ≡ true) × (slotAt after (base + turnedPlace n) ≡ s)
 
--- The applications of two sets have slots from 3 on and below k, one each, and every such slot is one of theirs; those rows and the first three are empty. The other places keep what
+-- The applications of a set, n at place n, have slots from 3 on and below k, one each, and every such slot is one of theirs; those rows and the first three are empty. The other places keep what
 -- they have, and all keep their classes.
-pub record Begun (own after filled : List (List ℕ)) (standard user k : ℕ) : Type 0 where
+pub record Begun (own after filled : List (List ℕ)) (m : Applications) (k : ℕ) : Type 0 where
   pub owned : Owned after
-  pub slots : (n : ℕ) → n < 128 → inPair standard user n ≡ true → (3 ≤ slotAt after (turnedPlace n)) × (slotAt after (turnedPlace n) < k)
-  pub apart : (i j : ℕ) → i < 128 → j < 128 → inPair standard user i ≡ true → inPair standard user j ≡ true → slotAt after (turnedPlace i) ≡ slotAt after (turnedPlace j) → i ≡ j
-  pub others : (n : ℕ) → n < 128 → inPair standard user n ≡ false → getD after (turnedPlace n) [] ≡ getD own (turnedPlace n) []
+  pub slots : (n : ℕ) → n < 128 → atPlace m n ≡ true → (3 ≤ slotAt after (turnedPlace n)) × (slotAt after (turnedPlace n) < k)
+  pub apart : (i j : ℕ) → i < 128 → j < 128 → atPlace m i ≡ true → atPlace m j ≡ true → slotAt after (turnedPlace i) ≡ slotAt after (turnedPlace j) → i ≡ j
+  pub others : (n : ℕ) → n < 128 → atPlace m n ≡ false → getD after (turnedPlace n) [] ≡ getD own (turnedPlace n) []
   pub emptied : (s : ℕ) → s < k → getD filled s [] ≡ emptyRow
   pub classes : (p : ℕ) → getD (getD after p []) 1 0 ≡ getD (getD own p []) 1 0
-  pub taken : (s : ℕ) → 3 ≤ s → s < k → (n : ℕ) × (n < 128) × (inPair standard user n ≡ true) × (slotAt after (turnedPlace n) ≡ s)
+  pub taken : (s : ℕ) → 3 ≤ s → s < k → (n : ℕ) × (n < 128) × (atPlace m n ≡ true) × (slotAt after (turnedPlace n) ≡ s)

@@ -10,7 +10,8 @@ ghost use Rattle.tlv_bytes.specs.Tlvs.{front, valueAt};
 ghost use Rattle.grids.specs.Slots.{slotSize, IsSet};
 ghost use Rattle.set_table.specs.Marks.{mixed, valueMark};
 ghost use Rattle.set_table.specs.Tables.{cellOf, Table, Given, onlyAt, Value, enteredRow, entered, Entry, toReached, Free, toNamed, Fresh, Slotted, Having, Within, Owned, hasPlace, Gave, howMany, emptyRow, Assigned, Begun};
-ghost use Rattle.masks.specs.Applications.{inPair};
+ghost use Rattle.masks.specs.Applications.{atPlace};
+use masks::Applications;
 
 // The numbers of a part of a run, mixed. A rest of under four bytes is no number.
 fn mix(run: &[u8], place: usize, n: usize) -> u64
@@ -146,7 +147,7 @@ fn enter_bits(
     }
 }
 
-// A value for the applications of two masks, each of which has none of its kind.
+// A value for the applications of a set, each of which has none of its kind.
 fn enter_both(
     run: &[u8],
     sets: &mut [[u32; 12]],
@@ -154,20 +155,19 @@ fn enter_both(
     k: usize,
     place: usize,
     n: usize,
-    standard: u64,
-    user: u64,
+    m: Applications,
 )
-    requires { ⌜ Table (now run) (now sets) × (k < 10) × Value (now run) place n × Fresh (now sets) (now own) standard user k ⌝ }
-    ensures { λ _. ⌜ Table (now (run .entry)) (now (sets .exit)) × Given (now (sets .entry)) (now (sets .exit)) (toNamed (now (own .entry)) standard user k (cellOf place n)) ⌝ }
+    requires { ⌜ Table (now run) (now sets) × (k < 10) × Value (now run) place n × Fresh (now sets) (now own) m k ⌝ }
+    ensures { λ _. ⌜ Table (now (run .entry)) (now (sets .exit)) × Given (now (sets .entry)) (now (sets .exit)) (toNamed (now (own .entry)) m k (cellOf place n)) ⌝ }
 {
     let cell = cell_of(place, n);
     let mark = value_mark(run, place, n, k);
     let size = value_size(n);
-    enter_bits(sets, own, 0, standard, k, cell, mark, size);
-    enter_bits(sets, own, 64, user, k, cell, mark, size);
+    enter_bits(sets, own, 0, m.standard, k, cell, mark, size);
+    enter_bits(sets, own, 64, m.user, k, cell, mark, size);
 }
 
-// A value for the applications of two masks that have none of its kind yet.
+// A value for the applications of a set that have none of its kind yet.
 pub fn enter_named(
     run: &[u8],
     sets: &mut [[u32; 12]],
@@ -176,22 +176,25 @@ pub fn enter_named(
     k: usize,
     place: usize,
     n: usize,
-    standard: u64,
-    user: u64,
+    m: Applications,
 )
-    requires { ⌜ Table (now run) (now sets) × (k < 10) × Value (now run) place n × ((names : ℕ → Bool) × Slotted (now sets) (now own) names × Having (now sets) (now own) (now have) names × Within standard user names) ⌝ }
-    ensures { λ _. ⌜ Table (now (run .entry)) (now (sets .exit)) × Given (now (sets .entry)) (now (sets .exit)) (toNamed (now (own .entry)) standard user k (cellOf place n)) × ((names : ℕ → Bool) → Slotted (now (sets .entry)) (now (own .entry)) names → Having (now (sets .entry)) (now (own .entry)) (now (have .entry)) names → Within standard user names → Having (now (sets .exit)) (now (own .entry)) (now (have .exit)) names) ⌝ }
+    requires { ⌜ Table (now run) (now sets) × (k < 10) × Value (now run) place n × ((names : ℕ → Bool) × Slotted (now sets) (now own) names × Having (now sets) (now own) (now have) names × Within m names) ⌝ }
+    ensures { λ _. ⌜ Table (now (run .entry)) (now (sets .exit)) × Given (now (sets .entry)) (now (sets .exit)) (toNamed (now (own .entry)) m k (cellOf place n)) × ((names : ℕ → Bool) → Slotted (now (sets .entry)) (now (own .entry)) names → Having (now (sets .entry)) (now (own .entry)) (now (have .entry)) names → Within m names → Having (now (sets .exit)) (now (own .entry)) (now (have .exit)) names) ⌝ }
 {
     let s = have[k][0];
     let u = have[k][1];
-    let newstandard = masks::without(standard, s);
-    let newuser = masks::without(user, u);
-    if (newstandard == 0) & (newuser == 0) {
+    let old = Applications {
+        standard: s,
+        user: u,
+    };
+    let fresh = masks::except(m, old);
+    if (fresh.standard == 0) & (fresh.user == 0) {
         return;
     }
-    let both = [masks::joined(s, standard), masks::joined(u, user)];
+    let all = masks::join(old, m);
+    let both = [all.standard, all.user];
     have[k] = both;
-    enter_both(run, sets, own, k, place, n, newstandard, newuser);
+    enter_both(run, sets, own, k, place, n, fresh);
 }
 
 // A slot's number, to keep.
@@ -252,17 +255,12 @@ fn empty_first(sets: &mut [[u32; 12]])
     }
 }
 
-// The slots of applications, in the order of their numbers, from 3 on; those and the first three made empty. How many slots there are.
-pub fn assign_slots(
-    standard: u64,
-    user: u64,
-    own: &mut [[u8; 2]; 128],
-    sets: &mut [[u32; 12]],
-) -> usize
-    requires { ⌜ Owned (now own) × (3 + howMany (inPair standard user) 128 ≤ length (now sets)) × (length (now sets) ≤ 256) ⌝ }
-    ensures { λ r. ⌜ (r ≡ 3 + howMany (inPair standard user) 128) × Begun (now (own .entry)) (now (own .exit)) (now (sets .exit)) standard user r × (length (now (sets .exit)) ≡ length (now (sets .entry))) ⌝ }
+// The slots of the applications of a set, n at place n, in the order of their numbers, from 3 on; those and the first three made empty. How many slots there are.
+pub fn assign_slots(m: Applications, own: &mut [[u8; 2]; 128], sets: &mut [[u32; 12]]) -> usize
+    requires { ⌜ Owned (now own) × (3 + howMany (atPlace m) 128 ≤ length (now sets)) × (length (now sets) ≤ 256) ⌝ }
+    ensures { λ r. ⌜ (r ≡ 3 + howMany (atPlace m) 128) × Begun (now (own .entry)) (now (own .exit)) (now (sets .exit)) m r × (length (now (sets .exit)) ≡ length (now (sets .entry))) ⌝ }
 {
     empty_first(sets);
-    let k = assign_bits(standard, 0, own, sets, 3);
-    assign_bits(user, 64, own, sets, k)
+    let k = assign_bits(m.standard, 0, own, sets, 3);
+    assign_bits(m.user, 64, own, sets, k)
 }

@@ -12,6 +12,7 @@ use Rattle.linkstate.specs.Masks.{inNumber}
 use Rattle.linkstate.proofs.ListLaws.{and-l, and-r, keep-mem, numbers-mem}
 use Rattle.srlg.proofs.Laws.{Order, less, more, same, order}
 use Rattle.masks.proofs.Steps.{zero-none}
+use Rattle.masks.specs.declared.Applications.{Applications}
 use Rattle.rules.specs.declared.Names.{Names}
 use Rattle.srlg_ranks.specs.Ranks.{inWords}
 use Rattle.srlg_ranks.proofs.Bits.{half-in, even-in, odd-in}
@@ -167,17 +168,17 @@ minus-pair s u t v x y e f =
     (λ j h. e j ∙ ap₂ (λ (p q : Bool). p && not q) (sym (low-bit s u j h)) (sym (low-bit t v j h)))
     (λ j h. f j ∙ ap₂ (λ (p q : Bool). p && not q) (sym (high-bit s u j h)) (sym (high-bit t v j h)))
 
-pub plain-pair : (named : Names) (x y : ℕ) → ((n : ℕ) → inNumber x n ≡ inNumber (named .standard) n && not (inNumber (named .lstandard) n))
-    → ((n : ℕ) → inNumber y n ≡ inNumber (named .user) n && not (inNumber (named .luser) n)) → (a : ℕ) → a < 128 → inWords (x ∷ y ∷ []) a ≡ plain named a
+pub plain-pair : (named : Names) (x y : ℕ) → ((n : ℕ) → inNumber x n ≡ inNumber (named .named .standard) n && not (inNumber (named .flagged .standard) n))
+    → ((n : ℕ) → inNumber y n ≡ inNumber (named .named .user) n && not (inNumber (named .flagged .user) n)) → (a : ℕ) → a < 128 → inWords (x ∷ y ∷ []) a ≡ plain named a
 unfolding plain
-plain-pair named x y e f = minus-pair (named .standard) (named .user) (named .lstandard) (named .luser) x y e f
+plain-pair named x y e f = minus-pair (named .named .standard) (named .named .user) (named .flagged .standard) (named .flagged .user) x y e f
 
 -- They are no more than all that are named.
-pub plain-few : (named : Names) (x y : ℕ) → ((a : ℕ) → a < 128 → inWords (x ∷ y ∷ []) a ≡ plain named a) → sizeOf (inWords (x ∷ y ∷ [])) ≤ sizeOf (inWords (named .standard ∷ named .user ∷ []))
+pub plain-few : (named : Names) (x y : ℕ) → ((a : ℕ) → a < 128 → inWords (x ∷ y ∷ []) a ≡ plain named a) → sizeOf (inWords (x ∷ y ∷ [])) ≤ sizeOf (inWords (named .named .standard ∷ named .named .user ∷ []))
 unfolding plain without
 plain-few named x y e =
-    let p = inWords (named .standard ∷ named .user ∷ []) in
-    let q = inWords (named .lstandard ∷ named .luser ∷ []) in
+    let p = inWords (named .named .standard ∷ named .named .user ∷ []) in
+    let q = inWords (named .flagged .standard ∷ named .flagged .user ∷ []) in
     omega (arith, size-same (inWords (x ∷ y ∷ [])) (λ a. p a && not (q a)) e, size-split p q)
 
 some-member : (p : ℕ → Bool) (xs : List ℕ) → 0 < length (keep p xs) → (a : ℕ) × List·Memᴰ a (keep p xs)
@@ -248,14 +249,14 @@ named-none rows n words named classes heads buckets own count e h t =
 
 -- ---- general, then legacy
 
-pub first-own : (standard user : ℕ) (named : Names) (first : First) (own mid after : List (List ℕ)) (x y : ℕ) → ((n : ℕ) → inNumber x n ≡ inNumber standard n && not (inNumber (named .standard) n))
-    → ((n : ℕ) → inNumber y n ≡ inNumber user n && not (inNumber (named .user) n)) → Gave (inWords (x ∷ y ∷ [])) (first .general) own mid → Gave (inWords (named .lstandard ∷ named .luser ∷ [])) (first .legacy) mid after
-    → FirstOwn standard user named first own after
-first-own standard user named first own mid after x y e f p q =
+pub first-own : (who : Applications) (named : Names) (first : First) (own mid after : List (List ℕ)) (x y : ℕ) → ((n : ℕ) → inNumber x n ≡ inNumber (who .standard) n && not (inNumber (named .named .standard) n))
+    → ((n : ℕ) → inNumber y n ≡ inNumber (who .user) n && not (inNumber (named .named .user) n)) → Gave (inWords (x ∷ y ∷ [])) (first .general) own mid → Gave (inWords (named .flagged .standard ∷ named .flagged .user ∷ [])) (first .legacy) mid after
+    → FirstOwn who named first own after
+first-own who named first own mid after x y e f p q =
     record {
       slots = slots-then own mid after (p .slots) (q .slots);
       flagged = λ a h l. q .classes a h ∙ ap (λ (b : Bool). cond b (first .legacy) (classAt mid a)) l;
       others = λ a h l w.
           q .classes a h ∙ ap (λ (b : Bool). cond b (first .legacy) (classAt mid a)) l ∙ p .classes a h
-          ∙ ap (λ (b : Bool). cond b (first .general) (classAt own a)) (minus-pair standard user (named .standard) (named .user) x y e f a h ∙ w);
+          ∙ ap (λ (b : Bool). cond b (first .general) (classAt own a)) (minus-pair (who .standard) (who .user) (named .named .standard) (named .named .user) x y e f a h ∙ w);
     }

@@ -15,10 +15,11 @@ use Rattle.linkstate.specs.Attributes.{Attribute, ofKind, srlgs, valueOf}
 use Rattle.linkstate.specs.Sides.{Side, names, named, namedWithL, ofLive, generalSet, applicationSet, hasLegacy, takesGeneral, rsvpTeKind}
 use Rattle.linkstate.proofs.ListLaws.{any-keep, empty-nil}
 use Rattle.masks.specs.Sets.{turnedPlace}
+use Rattle.masks.specs.declared.Applications.{Applications}
+use Rattle.masks.specs.Applications.{inSet}
 use Rattle.rules.specs.declared.Names.{Names}
 use Rattle.rules.specs.Names as naming
 use Rattle.rules.specs.Names.{Tells}
-use Rattle.masks.specs.Applications.{inBoth}
 use Rattle.rules.specs.Rules.{rsvpTeRule}
 use Rattle.rules.proofs.NameLaws.{side-named, side-flagged}
 use Rattle.rules.proofs.Laws.{never}
@@ -48,15 +49,15 @@ unfolding turnedPlace
 turned-user n h = omega arith
 
 -- A number's membership in two masks as sent is its bit's.
-pub both-words : (s u n : ℕ) → n < 128 → inBoth s u n ≡ inWords (s ∷ u ∷ []) (turnedPlace n)
-unfolding inBoth
-both-words s u n h = go (ltb n 64) refl
+pub both-words : (m : Applications) (n : ℕ) → n < 128 → inSet m n ≡ inWords (m .standard ∷ m .user ∷ []) (turnedPlace n)
+unfolding inSet
+both-words m n h = go (ltb n 64) refl
   where
-    go : (b : Bool) → ltb n 64 ≡ b → cond b (inNumber s (turnedPlace n)) (inNumber u (turnedPlace (n - 64))) ≡ inWords (s ∷ u ∷ []) (turnedPlace n)
-    go true e = sym (low-bit s u (turnedPlace n) (turned-standard n (ltb-true n 64 e)))
+    go : (b : Bool) → ltb n 64 ≡ b → cond b (inNumber (m .standard) (turnedPlace n)) (inNumber (m .user) (turnedPlace (n - 64))) ≡ inWords (m .standard ∷ m .user ∷ []) (turnedPlace n)
+    go true e = sym (low-bit (m .standard) (m .user) (turnedPlace n) (turned-standard n (ltb-true n 64 e)))
     go false e =
         let l = ltb-false n 64 e in
-        sym (ap (inWords (s ∷ u ∷ [])) (turned-user n l) ∙ high-bit s u (turnedPlace (n - 64)) (turned-standard (n - 64) (omega arith)))
+        sym (ap (inWords (m .standard ∷ m .user ∷ [])) (turned-user n l) ∙ high-bit (m .standard) (m .user) (turnedPlace (n - 64)) (turned-standard (n - 64) (omega arith)))
 
 -- ---- no numbers
 
@@ -82,16 +83,16 @@ not-named n side e =
 
 module _ (values : List ℕ) (rows : List (List ℕ)) (n words : ℕ) (side : Side) (names-of : Names) (so : Sourced values rows n side) (tells : Tells (side .live) names-of) (short : length values ≤ 64 * words) where
   abbrev L : ℕ → Bool
-  L a = inWords (names-of .lstandard ∷ names-of .luser ∷ []) (turnedPlace a)
+  L a = inWords (names-of .flagged .standard ∷ names-of .flagged .user ∷ []) (turnedPlace a)
 
   abbrev P : ℕ → Bool
-  P a = inWords (names-of .standard ∷ names-of .user ∷ []) (turnedPlace a)
+  P a = inWords (names-of .named .standard ∷ names-of .named .user ∷ []) (turnedPlace a)
 
   is-flagged : (a : ℕ) → a < 128 → L a ≡ namedWithL a side
-  is-flagged a h = sym (both-words (names-of .lstandard) (names-of .luser) a h) ∙ side-flagged side names-of tells a
+  is-flagged a h = sym (both-words (names-of .flagged) a h) ∙ side-flagged side names-of tells a
 
   is-named : (a : ℕ) → a < 128 → P a ≡ named a side
-  is-named a h = sym (both-words (names-of .standard) (names-of .user) a h) ∙ side-named side names-of tells a
+  is-named a h = sym (both-words (names-of .named) a h) ∙ side-named side names-of tells a
 
   is-plain : (a : ℕ) → plain names-of (turnedPlace a) ≡ P a && not (L a)
   unfolding plain without
@@ -168,10 +169,6 @@ nobody : (s u t v a : ℕ) → inWords (s ∷ u ∷ []) a ≡ true → inWords (
 unfolding without
 nobody s u t v a e f = rw (e, f)
 
-seven-bit : (s u : ℕ) → inNumber s 7 ≡ inWords (s ∷ u ∷ []) (turnedPlace 0)
-unfolding turnedPlace
-seven-bit s u = sym (low-bit s u 7 (omega arith))
-
 no-values : (p : ℕ → Bool) (values : List ℕ) → length values ≤ 0 → keepFrom p 0 values ≡ []
 unfolding keepFrom
 no-values p [] h = refl
@@ -198,8 +195,8 @@ seven : turnedPlace 0 ≡ 7
 unfolding turnedPlace
 seven = refl
 
-module _ (rows : List (List ℕ)) (n words standard user : ℕ) (names-of : Names) (c₁ h₁ : List (List ℕ)) (b₁ : List ℕ) (first : First) (own₀ own₁ : List (List ℕ)) (c₂ h₂ : List (List ℕ)) (b₂ : List ℕ) (own₂ : List (List ℕ)) (count : ℕ)
-    (firsts : Firsts rows n words c₁ h₁ b₁ first) (given : FirstOwn standard user names-of first own₀ own₁) (own : NamedOwn rows n words names-of c₁ own₁ c₂ h₂ b₂ own₂ (first .count) count) where
+module _ (rows : List (List ℕ)) (n words : ℕ) (who : Applications) (names-of : Names) (c₁ h₁ : List (List ℕ)) (b₁ : List ℕ) (first : First) (own₀ own₁ : List (List ℕ)) (c₂ h₂ : List (List ℕ)) (b₂ : List ℕ) (own₂ : List (List ℕ)) (count : ℕ)
+    (firsts : Firsts rows n words c₁ h₁ b₁ first) (given : FirstOwn who names-of first own₀ own₁) (own : NamedOwn rows n words names-of c₁ own₁ c₂ h₂ b₂ own₂ (first .count) count) where
   stays : (c : ℕ) (p : ℕ → Bool) → HasBits rows words c₁ (first .count) c p → HasBits rows words c₂ count c p
   stays c p so = record { low = omega (arith, so .low, own .more); bits = rw (own .kept c (so .low)) (so .bits) }
 
@@ -212,15 +209,15 @@ module _ (rows : List (List ℕ)) (n words standard user : ℕ) (names-of : Name
   module _ (values : List ℕ) (side : Side) (so : Sourced values rows n side) (tells : Tells (side .live) names-of) (x : Bool) (old : x ≡ hasLegacy side) (short : length values ≤ 64 * words) (few : words ≤ 16) (in-rows : n ≤ length rows)
       (r : Classes) (is-general : r .general ≡ first .general) (is-rsvp : r .rsvp ≡ rsvpClass names-of x own₂ first) (is-count : r .count ≡ count) where
     abbrev LL : ℕ → Bool
-    LL a = inWords (names-of .lstandard ∷ names-of .luser ∷ []) (turnedPlace a)
+    LL a = inWords (names-of .flagged .standard ∷ names-of .flagged .user ∷ []) (turnedPlace a)
 
     abbrev PP : ℕ → Bool
-    PP a = inWords (names-of .standard ∷ names-of .user ∷ []) (turnedPlace a)
+    PP a = inWords (names-of .named .standard ∷ names-of .named .user ∷ []) (turnedPlace a)
 
     table : Classed values rows c₂ count
     table = classed values rows n words c₂ h₂ b₂ count (own .table) (so .ascends) short few in-rows (so .within)
 
-    application : (a : ℕ) → a < 128 → inBoth standard user a ≡ true → Has values rows c₂ count (classOf own₂ a) (srlgs (applicationSet a side))
+    application : (a : ℕ) → a < 128 → inSet who a ≡ true → Has values rows c₂ count (classOf own₂ a) (srlgs (applicationSet a side))
     application a h asked = application-class values rows n words side names-of so tells short c₂ count a (classOf own₂ a) h legacy mine general
       where
         at : ℕ
@@ -247,7 +244,7 @@ module _ (rows : List (List ℕ)) (n words standard user : ℕ) (names-of : Name
         general : LL a ≡ false → PP a ≡ false → HasBits rows words c₂ count (classOf own₂ a) (inWords (getD rows 1 []))
         general e f =
             bits (first .general) (inWords (getD rows 1 []))
-            (not-plain false false e f refl ∙ given .others at low e (nobody standard user (names-of .standard) (names-of .user) at (sym (both-words standard user a h) ∙ asked) f))
+            (not-plain false false e f refl ∙ given .others at low e (nobody (who .standard) (who .user) (names-of .named .standard) (names-of .named .user) at (sym (both-words who a h) ∙ asked) f))
             general-bits
 
     -- whether RSVP-TE takes the general ones
@@ -283,7 +280,7 @@ module _ (rows : List (List ℕ)) (n words standard user : ℕ) (names-of : Name
             rsvp-own values rows n words side names-of so tells short c₂ count (classAt own₂ 7) has (takes true y f g) e
             (λ z. eqb-false (classAt own₂ 7) 0 h (table .different (classAt own₂ 7) 0 (own-numbers .low) (table .none .0) (own-numbers .numbers ∙ z ∙ sym (table .none .1))))
 
-    pub settled : Classified values rows c₂ own₂ (inBoth standard user) side r
+    pub settled : Classified values rows c₂ own₂ (inSet who) side r
     unfolding rsvpClass
     settled =
         rw is-count
@@ -291,15 +288,15 @@ module _ (rows : List (List ℕ)) (n words standard user : ℕ) (names-of : Name
           table = table;
           application = λ a p h asked. application a h asked;
           general = rw is-general (general-class values rows n words side names-of so tells short c₂ count (first .general) general-bits);
-          rsvp = rw (is-rsvp, seven-bit (names-of .lstandard) (names-of .luser), seven-bit (names-of .standard) (names-of .user)) (rsvp (LL 0) (PP 0) x refl refl refl);
+          rsvp = rw (is-rsvp, both-words (names-of .flagged) 0 (omega arith), both-words (names-of .named) 0 (omega arith)) (rsvp (LL 0) (PP 0) x refl refl refl);
         }
 
 -- ---- without numbers
 
-pub settled-none : (rows classes own : List (List ℕ)) (n standard user : ℕ) (names-of : Names) (r : Classes) (values : List ℕ) (side : Side) → length values ≤ 64 * 0 → 0 < length classes → ((a : ℕ) → a < 128 → classAt own a ≡ 0)
-    → r .general ≡ 0 → r .rsvp ≡ 0 → r .count ≡ 1 → Sourced values rows n side → Tells (side .live) names-of → Classified values rows (set classes 0 none-row) own (inBoth standard user) side r
+pub settled-none : (rows classes own : List (List ℕ)) (n : ℕ) (who : Applications) (names-of : Names) (r : Classes) (values : List ℕ) (side : Side) → length values ≤ 64 * 0 → 0 < length classes → ((a : ℕ) → a < 128 → classAt own a ≡ 0)
+    → r .general ≡ 0 → r .rsvp ≡ 0 → r .count ≡ 1 → Sourced values rows n side → Tells (side .live) names-of → Classified values rows (set classes 0 none-row) own (inSet who) side r
 unfolding picked keepFrom
-settled-none rows classes own n standard user names-of r values side short room none eg er ec so tells =
+settled-none rows classes own n who names-of r values side short room none eg er ec so tells =
     rw ec
     record {
       table = classed-none values rows classes (omega arith) room;

@@ -8,6 +8,8 @@ use lib.ListN.{length, getD}
 use Rattle.linkstate.specs.Limits.{mostSources}
 use Rattle.linkstate.specs.Lists.{numbers, any}
 use Rattle.linkstate.specs.Masks.{inNumber}
+use Rattle.masks.specs.declared.Applications.{Applications}
+use Rattle.masks.specs.Applications.{inSet}
 use Rattle.rules.specs.declared.Names.{Names}
 use Rattle.rules.specs.declared.Rule.{Rule}
 use Rattle.rules.specs.declared.Rule.the-variants.{ByL, Naming, General, Legacy, NamingFirst, AloneFirst, LegacyFirst}
@@ -45,7 +47,7 @@ without s u t v a = inWords (s ∷ u ∷ []) a && not (inWords (t ∷ v ∷ []) 
 
 -- The applications that are named, and not with L.
 unfoldable pub plain : Names → ℕ → Bool
-plain named a = without (named .standard) (named .user) (named .lstandard) (named .luser) a
+plain named a = without (named .named .standard) (named .named .user) (named .flagged .standard) (named .flagged .user) a
 
 -- Whether an advertisement that names the application of bit a has the number at place i: one of the sources below n.
 unfoldable pub inNamed : List (List ℕ) → ℕ → ℕ → ℕ → Bool
@@ -83,10 +85,10 @@ pub record NamedOwn (rows : List (List ℕ)) (m words : ℕ) (named : Names) (cl
   pub outside : (a : ℕ) → a < 128 → plain named a ≡ false → classAt own a ≡ classAt own₀ a
 
 -- The applications that nothing names have the general class, and those that are named with L the legacy class.
-pub record FirstOwn (standard user : ℕ) (named : Names) (first : First) (own after : List (List ℕ)) : Type 0 where
+pub record FirstOwn (who : Applications) (named : Names) (first : First) (own after : List (List ℕ)) : Type 0 where
   pub slots : Slots own after
-  pub flagged : (a : ℕ) → a < 128 → inWords (named .lstandard ∷ named .luser ∷ []) a ≡ true → classAt after a ≡ first .legacy
-  pub others : (a : ℕ) → a < 128 → inWords (named .lstandard ∷ named .luser ∷ []) a ≡ false → without standard user (named .standard) (named .user) a ≡ true → classAt after a ≡ first .general
+  pub flagged : (a : ℕ) → a < 128 → inWords (named .flagged .standard ∷ named .flagged .user ∷ []) a ≡ true → classAt after a ≡ first .legacy
+  pub others : (a : ℕ) → a < 128 → inWords (named .flagged .standard ∷ named .flagged .user ∷ []) a ≡ false → without (who .standard) (who .user) (named .named .standard) (named .named .user) a ≡ true → classAt after a ≡ first .general
 
 -- W8, W9, W10, E2a. The class of RSVP-TE, by its rule and the class of its own numbers: class 0 has none.
 abbrev pub classBy : Rule → ℕ → First → ℕ
@@ -98,14 +100,14 @@ classBy NamingFirst c first = cond (eqb c 0) (first .legacy) c
 classBy AloneFirst c first = first .legacy
 classBy LegacyFirst c first = first .legacy
 
--- By four masks, and by whether legacy has a value. RSVP-TE's bit is the eighth of a standard mask as sent.
+-- By whom a side names, and by whether its legacy has a value. RSVP-TE's own class is at place 7.
 unfoldable pub rsvpClass : Names → Bool → List (List ℕ) → First → ℕ
-rsvpClass named x own first = classBy (rsvpTeRule (inNumber (named .lstandard) 7) (inNumber (named .standard) 7) x) (classAt own 7) first
+rsvpClass named x own first = classBy (rsvpTeRule (inSet (named .flagged) 0) (inSet (named .named) 0) x) (classAt own 7) first
 
 -- What the tables must have room for: three classes, and one for each application that is named.
 pub record Roomy (rows : List (List ℕ)) (used : Used) (named : Names) (classes own : List (List ℕ)) : Type 0 where
   pub words : used .words ≤ 16
   pub sources : (2 ≤ used .sources) × (used .sources ≤ mostSources) × (used .sources ≤ length rows)
-  pub room : 3 + sizeOf (inWords (named .standard ∷ named .user ∷ [])) ≤ length classes
+  pub room : 3 + sizeOf (inWords (named .named .standard ∷ named .named .user ∷ [])) ≤ length classes
   pub few : length classes ≤ 131
   pub whole : length own ≡ 128

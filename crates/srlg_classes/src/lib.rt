@@ -7,12 +7,13 @@ ghost use Prim.Native.Nat.{ℕ, _+_, _*_, _≤_, _<_};
 ghost use lib.ListN.{length, getD};
 ghost use Rattle.linkstate.specs.Sides.{Side, hasLegacy};
 ghost use Rattle.rules.specs.Names.{Tells};
-ghost use Rattle.masks.specs.Applications.{inBoth};
+ghost use Rattle.masks.specs.Applications.{inSet};
 ghost use Rattle.srlg_ranks.specs.Ranks.{inWords};
 ghost use Rattle.srlg_table.specs.Blocks.{sizeOf};
 ghost use Rattle.srlg_table.specs.Tables.{Rowed, Table};
 ghost use Rattle.srlg_classes.specs.Owned.{classAt, Slots, inHalf, Gave, Firsts, Assigned, NamedOwn, rsvpClass, FirstOwn, Roomy};
 ghost use Rattle.srlg_classes.specs.Sided.{Sourced, Classified};
+use masks::Applications;
 use rules::Names;
 use rules::Rule;
 use srlg_table::Used;
@@ -118,11 +119,13 @@ fn give_named(
     blocks: &mut [[u64; 4]],
     count: usize,
 ) -> usize
-    requires { ⌜ (used .words ≤ 16) × (2 ≤ used .sources) × (used .sources ≤ 128) × (used .sources ≤ length (now rows)) × (sizeOf (inWords (named .standard ∷ named .user ∷ [])) ≤ length (now blocks)) × (count + sizeOf (inWords (named .standard ∷ named .user ∷ [])) ≤ length (now classes)) × (count + sizeOf (inWords (named .standard ∷ named .user ∷ [])) ≤ length (now heads)) × (length (now classes) ≤ 256) × (length (now buckets) ≡ 128) × (length (now own) ≡ 128) × Table (now rows) (used .sources) (used .words) (now classes) (now heads) (now buckets) count ⌝ }
+    requires { ⌜ (used .words ≤ 16) × (2 ≤ used .sources) × (used .sources ≤ 128) × (used .sources ≤ length (now rows)) × (sizeOf (inWords (named .named .standard ∷ named .named .user ∷ [])) ≤ length (now blocks)) × (count + sizeOf (inWords (named .named .standard ∷ named .named .user ∷ [])) ≤ length (now classes)) × (count + sizeOf (inWords (named .named .standard ∷ named .named .user ∷ [])) ≤ length (now heads)) × (length (now classes) ≤ 256) × (length (now buckets) ≡ 128) × (length (now own) ≡ 128) × Table (now rows) (used .sources) (used .words) (now classes) (now heads) (now buckets) count ⌝ }
     ensures { λ r. ⌜ NamedOwn (now (rows .entry)) (used .sources) (used .words) named (now (classes .entry)) (now (own .entry)) (now (classes .exit)) (now (heads .exit)) (now (buckets .exit)) (now (own .exit)) count r ⌝ }
 {
-    let s = masks::without(named.standard, named.lstandard);
-    let u = masks::without(named.user, named.luser);
+    let by = named.named;
+    let flagged = named.flagged;
+    let s = masks::without(by.standard, flagged.standard);
+    let u = masks::without(by.user, flagged.user);
     if !srlg_table::meets(s, u) {
         return count;
     }
@@ -137,13 +140,13 @@ fn wide(c: u8) -> usize
     c as usize
 }
 
-// The class of RSVP-TE by its rule: of its own numbers, where it is named without L and has some, of the general ones, else of the legacy ones. It is bit 7 of a
-// standard mask as sent.
+// The class of RSVP-TE by its rule: of its own numbers, where it is named without L and has some, of the general ones, else of the legacy ones. It has
+// place 7.
 fn rsvp_class(named: Names, legacy: bool, own: &[[u8; 2]; 128], first: First) -> usize
     ensures { λ r. ⌜ r ≡ rsvpClass named legacy (now (own .entry)) first ⌝ }
 {
-    let l = masks::has(named.lstandard, 7);
-    let n = masks::has(named.standard, 7);
+    let l = rules::is_named_with_l(named, 0);
+    let n = rules::is_named(named, 0);
     match rules::rsvp_te_rule(l, n, legacy) {
         Rule::NamingFirst => {
             let c = wide(own[7][1]);
@@ -158,22 +161,23 @@ fn rsvp_class(named: Names, legacy: bool, own: &[[u8; 2]; 128], first: First) ->
 }
 
 // The applications that nothing names get the general numbers, and those that are named with L the legacy ones.
-fn give_firsts(standard: u64, user: u64, named: Names, first: First, own: &mut [[u8; 2]; 128])
+fn give_firsts(who: Applications, named: Names, first: First, own: &mut [[u8; 2]; 128])
     requires { ⌜ (length (now own) ≡ 128) × (first .legacy < 256) × (first .general < 256) ⌝ }
-    ensures { λ _. ⌜ FirstOwn standard user named first (now (own .entry)) (now (own .exit)) ⌝ }
+    ensures { λ _. ⌜ FirstOwn who named first (now (own .entry)) (now (own .exit)) ⌝ }
 {
-    let s = masks::without(standard, named.standard);
-    let u = masks::without(user, named.user);
+    let by = named.named;
+    let flagged = named.flagged;
+    let s = masks::without(who.standard, by.standard);
+    let u = masks::without(who.user, by.user);
     give_both(s, u, first.general as u8, own);
-    give_both(named.lstandard, named.luser, first.legacy as u8, own);
+    give_both(flagged.standard, flagged.user, first.legacy as u8, own);
 }
 
 // The classes of all subjects, with lent room: heads for the classes, and blocks.
 fn classify_in(
     rows: &[[u64; 18]],
     used: Used,
-    standard: u64,
-    user: u64,
+    who: Applications,
     named: Names,
     legacy: bool,
     classes: &mut [[u64; 4]],
@@ -181,12 +185,12 @@ fn classify_in(
     heads: &mut [[u32; 2]],
     blocks: &mut [[u64; 4]],
 ) -> Classes
-    requires { ⌜ Roomy (now rows) used named (now classes) (now own) × (3 + sizeOf (inWords (named .standard ∷ named .user ∷ [])) ≤ length (now heads)) × (sizeOf (inWords (named .standard ∷ named .user ∷ [])) ≤ length (now blocks)) ⌝ }
-    ensures { λ r. ⌜ Slots (now (own .entry)) (now (own .exit)) × ((values : List ℕ) (side : Side) → length values ≤ 64 * used .words → Sourced values (now (rows .entry)) (used .sources) side → Tells (side .live) named → legacy ≡ hasLegacy side → Classified values (now (rows .entry)) (now (classes .exit)) (now (own .exit)) (inBoth standard user) side r) ⌝ }
+    requires { ⌜ Roomy (now rows) used named (now classes) (now own) × (3 + sizeOf (inWords (named .named .standard ∷ named .named .user ∷ [])) ≤ length (now heads)) × (sizeOf (inWords (named .named .standard ∷ named .named .user ∷ [])) ≤ length (now blocks)) ⌝ }
+    ensures { λ r. ⌜ Slots (now (own .entry)) (now (own .exit)) × ((values : List ℕ) (side : Side) → length values ≤ 64 * used .words → Sourced values (now (rows .entry)) (used .sources) side → Tells (side .live) named → legacy ≡ hasLegacy side → Classified values (now (rows .entry)) (now (classes .exit)) (now (own .exit)) (inSet who) side r) ⌝ }
 {
     let mut buckets = [0u8; 128];
     let first = first_classes(rows, used, classes, heads, &mut buckets);
-    give_firsts(standard, user, named, first, own);
+    give_firsts(who, named, first, own);
     let count = give_named(
         rows,
         used,
@@ -209,23 +213,21 @@ fn classify_in(
 fn classify_few(
     rows: &[[u64; 18]],
     used: Used,
-    standard: u64,
-    user: u64,
+    who: Applications,
     named: Names,
     legacy: bool,
     classes: &mut [[u64; 4]],
     own: &mut [[u8; 2]; 128],
 ) -> Classes
     requires { ⌜ Roomy (now rows) used named (now classes) (now own) × (length (now classes) ≤ 16) ⌝ }
-    ensures { λ r. ⌜ Slots (now (own .entry)) (now (own .exit)) × ((values : List ℕ) (side : Side) → length values ≤ 64 * used .words → Sourced values (now (rows .entry)) (used .sources) side → Tells (side .live) named → legacy ≡ hasLegacy side → Classified values (now (rows .entry)) (now (classes .exit)) (now (own .exit)) (inBoth standard user) side r) ⌝ }
+    ensures { λ r. ⌜ Slots (now (own .entry)) (now (own .exit)) × ((values : List ℕ) (side : Side) → length values ≤ 64 * used .words → Sourced values (now (rows .entry)) (used .sources) side → Tells (side .live) named → legacy ≡ hasLegacy side → Classified values (now (rows .entry)) (now (classes .exit)) (now (own .exit)) (inSet who) side r) ⌝ }
 {
     let mut heads = [[0u32; 2]; 16];
     let mut blocks = [[0u64; 4]; 16];
     classify_in(
         rows,
         used,
-        standard,
-        user,
+        who,
         named,
         legacy,
         classes,
@@ -238,23 +240,21 @@ fn classify_few(
 fn classify_many(
     rows: &[[u64; 18]],
     used: Used,
-    standard: u64,
-    user: u64,
+    who: Applications,
     named: Names,
     legacy: bool,
     classes: &mut [[u64; 4]],
     own: &mut [[u8; 2]; 128],
 ) -> Classes
     requires { ⌜ Roomy (now rows) used named (now classes) (now own) ⌝ }
-    ensures { λ r. ⌜ Slots (now (own .entry)) (now (own .exit)) × ((values : List ℕ) (side : Side) → length values ≤ 64 * used .words → Sourced values (now (rows .entry)) (used .sources) side → Tells (side .live) named → legacy ≡ hasLegacy side → Classified values (now (rows .entry)) (now (classes .exit)) (now (own .exit)) (inBoth standard user) side r) ⌝ }
+    ensures { λ r. ⌜ Slots (now (own .entry)) (now (own .exit)) × ((values : List ℕ) (side : Side) → length values ≤ 64 * used .words → Sourced values (now (rows .entry)) (used .sources) side → Tells (side .live) named → legacy ≡ hasLegacy side → Classified values (now (rows .entry)) (now (classes .exit)) (now (own .exit)) (inSet who) side r) ⌝ }
 {
     let mut heads = [[1u32; 2]; 131];
     let mut blocks = [[1u64; 4]; 128];
     classify_in(
         rows,
         used,
-        standard,
-        user,
+        who,
         named,
         legacy,
         classes,
@@ -264,21 +264,20 @@ fn classify_many(
     )
 }
 
-// The classes of what subjects get: of the applications of two masks, which are all that are asked for, of the general set and of RSVP-TE. `named` is whom this side names,
+// The classes of what subjects get: of the applications of a set, which are all that are asked for, of the general set and of RSVP-TE. `named` is whom this side names,
 // `legacy` whether its legacy attributes have a value of the kinds of applications.
 // Where no word of bits is used nobody has a number, and all applications keep class 0.
 pub fn classify(
     rows: &[[u64; 18]],
     used: Used,
-    standard: u64,
-    user: u64,
+    who: Applications,
     named: Names,
     legacy: bool,
     classes: &mut [[u64; 4]],
     own: &mut [[u8; 2]; 128],
 ) -> Classes
     requires { ⌜ (0 < used .words → Roomy (now rows) used named (now classes) (now own)) × (used .words ≡ 0 → (0 < length (now classes)) × (length (now own) ≡ 128) × ((a : ℕ) → a < 128 → classAt (now own) a ≡ 0)) ⌝ }
-    ensures { λ r. ⌜ Slots (now (own .entry)) (now (own .exit)) × ((values : List ℕ) (side : Side) → length values ≤ 64 * used .words → Sourced values (now (rows .entry)) (used .sources) side → Tells (side .live) named → legacy ≡ hasLegacy side → Classified values (now (rows .entry)) (now (classes .exit)) (now (own .exit)) (inBoth standard user) side r) ⌝ }
+    ensures { λ r. ⌜ Slots (now (own .entry)) (now (own .exit)) × ((values : List ℕ) (side : Side) → length values ≤ 64 * used .words → Sourced values (now (rows .entry)) (used .sources) side → Tells (side .live) named → legacy ≡ hasLegacy side → Classified values (now (rows .entry)) (now (classes .exit)) (now (own .exit)) (inSet who) side r) ⌝ }
 {
     if used.words == 0 {
         let none = [0u64; 4];
@@ -290,7 +289,7 @@ pub fn classify(
         };
     }
     if classes.len() <= 16 {
-        return classify_few(rows, used, standard, user, named, legacy, classes, own);
+        return classify_few(rows, used, who, named, legacy, classes, own);
     }
-    classify_many(rows, used, standard, user, named, legacy, classes, own)
+    classify_many(rows, used, who, named, legacy, classes, own)
 }

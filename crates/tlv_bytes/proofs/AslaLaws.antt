@@ -14,6 +14,7 @@ use Rattle.linkstate.specs.Export.{tlv, bytesOf, aslaValue}
 use Rattle.linkstate.proofs.MaskLaws.{length-mask}
 use Rattle.octets.proofs.Laws.{put-then}
 use Rattle.masks.specs.Sets.{inSent}
+use Rattle.masks.specs.declared.Applications.{Applications}
 use Rattle.masks.proofs.Laws.{size-same, mask-same}
 use Rattle.tlv_bytes.specs.Tlvs.{inTlvs, Wrote}
 use Rattle.tlv_bytes.proofs.Laws.{tlvs-same, same-write, behind-room, behind-write}
@@ -39,20 +40,20 @@ pub put-head : (d e f : List ℕ) (at s u n : ℕ) → s ≤ 8 → u ≤ 8 → e
 unfolding two
 put-head d e f at s u n hs hu p q h = put-then d e f at (two 1122 ++ two n) (at + 4) (s ∷ u ∷ 0 ∷ 0 ∷ []) p (q ∙ ap (put e (at + 4)) (sizes-four s u hs hu)) refl (omega arith)
 
-module _ (standard users : ℕ) where
+module _ (m : Applications) where
   abbrev S : ℕ
-  S = maskSize (inSent standard)
+  S = maskSize (inSent (m .standard))
 
   abbrev U : ℕ
-  U = maskSize (inSent users)
+  U = maskSize (inSent (m .user))
 
   abbrev masks : List ℕ
-  masks = mask (inSent standard) ++ mask (inSent users)
+  masks = mask (inSent (m .standard)) ++ mask (inSent (m .user))
 
   pub length-masks : length masks ≡ S + U
-  length-masks = length-append (mask (inSent standard)) (mask (inSent users)) ∙ ap₂ (λ (i j : ℕ). i + j) (length-mask (inSent standard)) (length-mask (inSent users))
+  length-masks = length-append (mask (inSent (m .standard))) (mask (inSent (m .user))) ∙ ap₂ (λ (i j : ℕ). i + j) (length-mask (inSent (m .standard))) (length-mask (inSent (m .user)))
 
-  pub size-is : frontSize standard users ≡ 8 + (S + U)
+  pub size-is : frontSize m ≡ 8 + (S + U)
   unfolding frontSize
   size-is = omega arith
 
@@ -64,15 +65,15 @@ module _ (standard users : ℕ) where
     unfolding two
     length-head = refl
 
-    front-is : head ++ masks ≡ aslaFront standard users size
+    front-is : head ++ masks ≡ aslaFront m size
     unfolding aslaFront
-    front-is = sym (append-assoc head (mask (inSent standard)) (mask (inSent users)))
+    front-is = sym (append-assoc head (mask (inSent (m .standard))) (mask (inSent (m .user))))
 
-    pub length-front : length (aslaFront standard users size) ≡ frontSize standard users
+    pub length-front : length (aslaFront m size) ≡ frontSize m
     length-front = ap length (sym front-is) ∙ length-append head masks ∙ omega (arith, length-head, length-masks, size-is)
 
     -- The head written, then the masks.
-    module _ (d : List ℕ) (at : ℕ) (room : at + frontSize standard users ≤ length d) (s u n : ℕ) (es : s ≡ S) (eu : u ≡ U) (en : n ≡ 4 + s + u + size) (e : List ℕ)
+    module _ (d : List ℕ) (at : ℕ) (room : at + frontSize m ≤ length d) (s u n : ℕ) (es : s ≡ S) (eu : u ≡ U) (en : n ≡ 4 + s + u + size) (e : List ℕ)
         (is : e ≡ put d at (two 1122 ++ two n ++ (s ∷ u ∷ 0 ∷ 0 ∷ []))) (kept : length e ≡ length d) where
       head-wrote : Wrote d at head (at + 8) e
       head-wrote =
@@ -88,26 +89,26 @@ module _ (standard users : ℕ) where
       pub masks-room : at + 8 + (S + U) ≤ length e
       masks-room = omega (arith, size-is)
 
-      pub front-written : {r : ℕ} {o : List ℕ} → Wrote e (at + 8) masks r o → Wrote d at (aslaFront standard users size) r o
+      pub front-written : {r : ℕ} {o : List ℕ} → Wrote e (at + 8) masks r o → Wrote d at (aslaFront m size) r o
       front-written w = same-write front-is d at (behind-write d at head masks whole-room kept head-wrote w)
 
 -- ---- with the set, it is the TLV
 
-module _ (standard users : ℕ) (p : ℕ → Bool) (f h : ℕ → List ℕ) (s : (n : ℕ) → n < 64 → p n ≡ inSent standard n) (u : (n : ℕ) → n < 64 → p (user n) ≡ inSent users n) (same : row f ≡ row h) where
-  pub asla-is : bytesOf (tlv 1122 (aslaValue p f)) ≡ aslaFront standard users (length (inTlvs h applicationCodes)) ++ inTlvs h applicationCodes
+module _ (m : Applications) (p : ℕ → Bool) (f h : ℕ → List ℕ) (s : (n : ℕ) → n < 64 → p n ≡ inSent (m .standard) n) (u : (n : ℕ) → n < 64 → p (user n) ≡ inSent (m .user) n) (same : row f ≡ row h) where
+  pub asla-is : bytesOf (tlv 1122 (aslaValue p f)) ≡ aslaFront m (length (inTlvs h applicationCodes)) ++ inTlvs h applicationCodes
   unfolding bytesOf aslaValue row aslaFront
   asla-is =
-      let a = size-same p (inSent standard) s in
-      let b = size-same (λ n. p (user n)) (inSent users) u in
-      let c = mask-same p (inSent standard) s in
-      let d = mask-same (λ n. p (user n)) (inSent users) u in
+      let a = size-same p (inSent (m .standard)) s in
+      let b = size-same (λ n. p (user n)) (inSent (m .user)) u in
+      let c = mask-same p (inSent (m .standard)) s in
+      let d = mask-same (λ n. p (user n)) (inSent (m .user)) u in
       let t = tlvs-same f h applicationCodes same in
-      rw (a, b, c, d, t) (go (mask (inSent standard)) (mask (inSent users)) (inTlvs h applicationCodes) (length-mask (inSent standard)) (length-mask (inSent users)))
+      rw (a, b, c, d, t) (go (mask (inSent (m .standard))) (mask (inSent (m .user))) (inTlvs h applicationCodes) (length-mask (inSent (m .standard))) (length-mask (inSent (m .user))))
     where
-      go : (x y z : List ℕ) → length x ≡ maskSize (inSent standard) → length y ≡ maskSize (inSent users)
-          → two 1122 ++ two (length (maskSize (inSent standard) ∷ maskSize (inSent users) ∷ 0 ∷ 0 ∷ x ++ y ++ z)) ++ (maskSize (inSent standard) ∷ maskSize (inSent users) ∷ 0 ∷ 0 ∷ x ++ y ++ z)
-          ≡ two 1122 ++ two (4 + maskSize (inSent standard) + maskSize (inSent users) + length z) ++ (maskSize (inSent standard) ∷ maskSize (inSent users) ∷ 0 ∷ 0 ∷ []) ++ x ++ y ++ z
+      go : (x y z : List ℕ) → length x ≡ maskSize (inSent (m .standard)) → length y ≡ maskSize (inSent (m .user))
+          → two 1122 ++ two (length (maskSize (inSent (m .standard)) ∷ maskSize (inSent (m .user)) ∷ 0 ∷ 0 ∷ x ++ y ++ z)) ++ (maskSize (inSent (m .standard)) ∷ maskSize (inSent (m .user)) ∷ 0 ∷ 0 ∷ x ++ y ++ z)
+          ≡ two 1122 ++ two (4 + maskSize (inSent (m .standard)) + maskSize (inSent (m .user)) + length z) ++ (maskSize (inSent (m .standard)) ∷ maskSize (inSent (m .user)) ∷ 0 ∷ 0 ∷ []) ++ x ++ y ++ z
       go x y z e k =
-          let l : length (maskSize (inSent standard) ∷ maskSize (inSent users) ∷ 0 ∷ 0 ∷ x ++ y ++ z) ≡ 4 + maskSize (inSent standard) + maskSize (inSent users) + length z =
+          let l : length (maskSize (inSent (m .standard)) ∷ maskSize (inSent (m .user)) ∷ 0 ∷ 0 ∷ x ++ y ++ z) ≡ 4 + maskSize (inSent (m .standard)) + maskSize (inSent (m .user)) + length z =
           omega (arith, length-append (x ++ y) z, length-append x y) in
           rw l (simp append-assoc)

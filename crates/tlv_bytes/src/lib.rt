@@ -10,21 +10,22 @@ ghost use Rattle.masks.specs.Sets.{inSent};
 ghost use Rattle.tlv_bytes.specs.Tlvs.{Wrote, valueAt, valueSize};
 ghost use Rattle.tlv_bytes.specs.Fronts.{frontSize, aslaFront};
 ghost use Rattle.linkstate.specs.Export.{tlv, bytesOf};
+use masks::Applications;
 
 // How many bytes it has.
-pub fn front_size(standard: u64, user: u64) -> usize
-    ensures { λ r. ⌜ (r ≡ frontSize standard user) × (r ≤ 24) ⌝ }
+pub fn front_size(m: Applications) -> usize
+    ensures { λ r. ⌜ (r ≡ frontSize m) × (r ≤ 24) ⌝ }
 {
-    8 + masks::mask_size(standard) + masks::mask_size(user)
+    8 + masks::mask_size(m.standard) + masks::mask_size(m.user)
 }
 
 // The masks as they were sent; the place after them.
-fn write_masks(standard: u64, user: u64, out: &mut [u8], at: usize) -> usize
-    requires { ⌜ at + (maskSize (inSent standard) + maskSize (inSent user)) ≤ length (now out) ⌝ }
-    ensures { λ r. ⌜ Wrote (now (out .entry)) at (mask (inSent standard) ++ mask (inSent user)) r (now (out .exit)) ⌝ }
+fn write_masks(m: Applications, out: &mut [u8], at: usize) -> usize
+    requires { ⌜ at + (maskSize (inSent (m .standard)) + maskSize (inSent (m .user))) ≤ length (now out) ⌝ }
+    ensures { λ r. ⌜ Wrote (now (out .entry)) at (mask (inSent (m .standard)) ++ mask (inSent (m .user))) r (now (out .exit)) ⌝ }
 {
-    let next = masks::write_mask(standard, out, at);
-    masks::write_mask(user, out, next)
+    let next = masks::write_mask(m.standard, out, at);
+    masks::write_mask(m.user, out, next)
 }
 
 // The first eight bytes: type and length of the value, the lengths s and u of the masks, and two zero bytes.
@@ -37,14 +38,14 @@ fn write_asla_head(s: usize, u: usize, len: usize, out: &mut [u8], at: usize)
 }
 
 // The whole, before a set whose TLVs have so many bytes; the place after it.
-pub fn write_front(standard: u64, user: u64, size: usize, out: &mut [u8], at: usize) -> usize
-    requires { ⌜ (size < 65000) × (at + frontSize standard user ≤ length (now out)) ⌝ }
-    ensures { λ r. ⌜ Wrote (now (out .entry)) at (aslaFront standard user size) r (now (out .exit)) ⌝ }
+pub fn write_front(m: Applications, size: usize, out: &mut [u8], at: usize) -> usize
+    requires { ⌜ (size < 65000) × (at + frontSize m ≤ length (now out)) ⌝ }
+    ensures { λ r. ⌜ Wrote (now (out .entry)) at (aslaFront m size) r (now (out .exit)) ⌝ }
 {
-    let s = masks::mask_size(standard);
-    let u = masks::mask_size(user);
+    let s = masks::mask_size(m.standard);
+    let u = masks::mask_size(m.user);
     write_asla_head(s, u, 4 + s + u + size, out, at);
-    write_masks(standard, user, out, at + 8)
+    write_masks(m, out, at + 8)
 }
 
 // How many bytes the TLV of a value of n bytes has: what is in front of it counts.

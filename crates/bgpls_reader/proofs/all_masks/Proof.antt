@@ -22,6 +22,7 @@ use Rattle.bgpls_reader.proofs.all_masks.Lts as lts
 use Rattle.octets.proofs.read16.Reads as read16-reads
 use Rattle.bgpls_find.proofs.is_chosen.Reads as is-chosen-reads
 use Rattle.bgpls_reader.proofs.join_masks.Reads as join-masks-reads
+use Rattle.masks.proofs.nobody.Reads as nobody-reads
 
 abbrev Inv-loop : tie.InvT-loop
 Inv-loop r m₀ at₀ m at = (at ≤ length r) × Passes r at × Held m r at
@@ -30,11 +31,11 @@ abbrev μ-loop : tie.MeasureT-loop
 μ-loop r m₀ at₀ m at = length r - at
 
 abbrev Known : Type 0
-Known = lts.After-read162 (read16-reads.Asked, read16-reads.Learnt, is-chosen-reads.Asked, is-chosen-reads.Learnt, join-masks-reads.Asked, join-masks-reads.Learnt) reads.Pre reads.Post Inv-loop μ-loop
+Known = lts.After-read162 (nobody-reads.Asked, nobody-reads.Learnt, read16-reads.Asked, read16-reads.Learnt, is-chosen-reads.Asked, is-chosen-reads.Learnt, join-masks-reads.Asked, join-masks-reads.Learnt) reads.Pre reads.Post Inv-loop μ-loop
 
 -- The run, the position, and the type and the length that were read.
 abbrev run : Known → List ℕ
-run k = k .before .before .before .before .before .args .r .now
+run k = k .before .before .before .before .before .before .args .r .now
 
 abbrev place : Known → ℕ
 place k = k .before .before .before .loop .at
@@ -56,8 +57,11 @@ passes k = k .before .before .before .loop .inv .1
 asla : (k : Known) → Taken Every (type k) (bytesAt (run k) (place k + 4) (size k)) ≡ true → IsAsla Every (run k) (place k) (place k) (size k)
 asla k e = is-asla Every (run k) (place k) (type k) (size k) (whole k) (passes k) (place k) (omega arith) refl e
 
+nobody-requires : tie.Need-nobody-requires Inv-loop μ-loop
+nobody-requires c κs = search needs
+
 loop-holds : tie.Need-loop-holds Inv-loop μ-loop
-loop-holds c = let r = c .before .args .r .now in (omega arith, run-passes r (c .before .pre), held-start r _ refl refl)
+loop-holds c = let r = c .before .before .args .r .now in (omega arith, run-passes r (c .before .before .pre), held-start r _ (c .nobody .ensures))
 
 read16-requires : tie.Need-read16-requires Inv-loop μ-loop
 read16-requires c κs = omega (arith, head-fits checkTop 0 _ _ (c .loop-test .taken) (left-passes _ _ (c .before .loop .inv .1)))
@@ -102,7 +106,7 @@ join-masks-requires c κs =
     let n = part-length (run k) (place k + 4) (size k) (a .within) in
     let e = part-is (run k) (place k + 4) (size k) in
     let h = ap aslaHeader e in
-    (omega (arith, a .fixed), ap notIgnored e ∙ a .live, omega (arith, a .masks))
+    (omega (arith, a .fixed), ap notIgnored e ∙ a .live, omega (arith, a .masks), omega (arith, k .read162 .ensures .1))
 
 loop-less : tie.Need-loop-less Inv-loop μ-loop
 loop-less c = let f = whole (c .before .before .before .before .before) in omega arith
@@ -130,7 +134,7 @@ loop-again-2 c =
 returns : tie.Need-returns Inv-loop μ-loop
 returns c =
     let l = c .before .loop in
-    let r = c .before .before .before .args .r .now in
+    let r = c .before .before .before .before .args .r .now in
     held-end r (l .m) (l .at) (l .inv .2) (aslas-end Every r (l .at) (omega arith))
 
 pub all-masks-spec : {M : Type 1} → statement M
@@ -139,6 +143,7 @@ all-masks-spec =
     (tie.spec
     Inv-loop
     μ-loop
+    nobody-requires
     loop-holds
     read16-requires
     add-read16

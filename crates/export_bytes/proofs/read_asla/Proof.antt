@@ -22,23 +22,23 @@ slot-in-requires c κs = search needs
 class-in-requires : tie.Need-class-in-requires
 class-in-requires c κs = search needs
 
-mul-t6 : tie.Need-mul-t6
-mul-t6 c = search needs
+mul-standard : tie.Need-mul-standard
+mul-standard c = search needs
 
-index-1-t10 : tie.Need-index-1-t10
-index-1-t10 c = search needs
+index-1-standard : tie.Need-index-1-standard
+index-1-standard c = search needs
 
-index-2-t10 : tie.Need-index-2-t10
-index-2-t10 c = search needs
+index-2-standard : tie.Need-index-2-standard
+index-2-standard c = search needs
 
-mul-t14 : tie.Need-mul-t14
-mul-t14 c = search needs
+mul-user : tie.Need-mul-user
+mul-user c = search needs
 
-index-1-t18 : tie.Need-index-1-t18
-index-1-t18 c = search needs
+index-1-user : tie.Need-index-1-user
+index-1-user c = search needs
 
-index-2-t18 : tie.Need-index-2-t18
-index-2-t18 c = search needs
+index-2-user : tie.Need-index-2-user
+index-2-user c = search needs
 
 returns : tie.Need-returns
 returns c = let a = c .before .before .before .before .before .args in asla-read (getD (now (a .groups)) (a .i) []) _ _ (c .before .before .before .slot-in .ensures .0) (c .before .before .class-in .ensures .0)
@@ -52,10 +52,10 @@ read-asla-spec =
     index-2-x
     slot-in-requires
     class-in-requires
-    mul-t6
-    index-1-t10
-    index-2-t10
-    mul-t14
-    index-1-t18
-    index-2-t18
+    mul-standard
+    index-1-standard
+    index-2-standard
+    mul-user
+    index-1-user
+    index-2-user
     returns)

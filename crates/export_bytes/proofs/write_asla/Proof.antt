@@ -37,7 +37,7 @@ write-set-requires c κs =
     let p = s .pre in
     let f = x .write-front in
     set-asks (p .0 .tables) (p .0) (p .1) (a .i) (p .2) (p .3) _ (x .before .before .before .read-asla .ensures) _ (x .before .before .set-size .ensures .0)
-    (f .kept .1 .1 .1 .0) (f .ensures) _ (c .before .before .before .grid-of .ensures)
+    (f .kept .1 .1 .0) (f .ensures) _ (c .before .before .before .grid-of .ensures)
 
 same-length : tie.Need-same-length
 same-length c = search needs
@@ -54,7 +54,7 @@ returns c =
     let p = s .pre in
     let f = x .write-front in
     entry-written (p .0 .tables) (p .0) (p .1) (a .i) (p .2) (p .3) _ (x .before .before .before .read-asla .ensures) _
-    (x .before .before .set-size .ensures .0) (f .kept .1 .1 .1 .0) (f .ensures) _ (y .before .before .before .before .grid-of .ensures) (y .write-set .ensures)
+    (x .before .before .set-size .ensures .0) (f .kept .1 .1 .0) (f .ensures) _ (y .before .before .before .before .grid-of .ensures) (y .write-set .ensures)
 
 pub write-asla-spec : {M : Type 1} → statement M
 write-asla-spec =

@@ -22,7 +22,7 @@ returns-2 c e =
     let k = c .before .before .count-to in
     let l = leb-true (c .count-to2 .result) _ e in
     let h = k .ensures (c .before .if1 .left) in
-    omega (arith, l, h, c .count-to2 .ensures l, many-pair (s .args .standard) (s .args .user))
+    omega (arith, l, h, c .count-to2 .ensures l, many-pair (s .args .who))
 
 pub at-most-spec : {M : Type 1} → statement M
 at-most-spec = tie.close (tie.spec count-to-requires returns count-to-requires-2 returns-2)

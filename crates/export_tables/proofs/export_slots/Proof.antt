@@ -8,7 +8,7 @@ use lib.ListN.{length}
 use borrow.Author.Needs.{needs}
 use Rattle.linkstate.specs.Sides.{Side}
 use Rattle.srlg_classes.specs.Sided.{Classified}
-use Rattle.masks.specs.Applications.{inBoth}
+use Rattle.masks.specs.Applications.{inSet}
 use Rattle.export_tables.specs.Resolved.{Listed}
 use Rattle.export_tables.proofs.Described.{placed, general-low, room, tables, entered, describes}
 use Rattle.export_tables.proofs.export_slots.Statement.{statement}
@@ -25,16 +25,16 @@ abbrev grouped : tie.After-export-parts → tie.After-group
 grouped q = q .before .before .before .before .before .before
 
 abbrev classes-in : tie.After-classify → List (List ℕ)
-classes-in k = k .classify .last .1 .1 .1 .1 .1 .1 .0
+classes-in k = k .classify .last .1 .1 .1 .1 .1 .0
 
 abbrev own-in : tie.After-classify → List (List ℕ)
-own-in k = k .classify .last .1 .1 .1 .1 .1 .1 .1 .0
+own-in k = k .classify .last .1 .1 .1 .1 .1 .1 .0
 
 abbrev asked : tie.After-classify → ℕ → Bool
-asked k = inBoth (start k .args .n .standard) (start k .args .n .user)
+asked k = inSet (start k .args .n .who)
 
 few : (k : tie.After-classify) → length (classes-in k) ≤ 131
-few k = omega (arith, start k .pre .room .few, k .classify .kept .1 .1 .1 .1 .1 .1 .0)
+few k = omega (arith, start k .pre .room .few, k .classify .kept .1 .1 .1 .1 .1 .0)
 
 module _ (k : tie.After-classify) (side : Side)
     (l : Listed (now (start k .args .values)) (now (start k .args .rows)) (start k .args .n .used) (start k .args .n .names) (start k .args .n .legacy) side) where
@@ -69,7 +69,7 @@ export-parts-requires c κs =
       tables = tables s (k .classify .ensures .0) of (few k) (l .most) (l .small);
       entered = entered s (k .classify .ensures .0) of (few k) (f .1) (f .2);
       top = (s .top, omega (arith, of .general .low, of .rsvp .low));
-      placed = omega (arith, of .table .room, p .room .placed, k .classify .kept .1 .1 .1 .1 .1 .1 .0);
+      placed = omega (arith, of .table .room, p .room .placed, k .classify .kept .1 .1 .1 .1 .1 .0);
       unwritten = p .room .unwritten;
     }
 

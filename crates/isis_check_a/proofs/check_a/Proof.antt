@@ -37,7 +37,7 @@ unfolding sideA
 returns c = let l = c .before .before .before in
     let e = sym (c .before .before .frame-one .ensures) ∙ c .enum-told .given .1 in
     let w = walked-end runA checkA aslaAdvertisements _ _ _ (l .loop .inv .1) e in
-    record { told = w .told; asked = (w .names, met-end _ _ _ (l .loop .inv .2) e ∙ side-legacy _ (sym (w .told))) }
+    record { told = w .told; tells = (w .names, met-end _ _ _ (l .loop .inv .2) e ∙ side-legacy _ (sym (w .told))) }
 
 enum-told-2 : tie.Need-enum-told-2 Inv-loop μ-loop
 enum-told-2 c = search needs
@@ -49,7 +49,7 @@ returns-2 : tie.Need-returns-2 Inv-loop μ-loop
 unfolding sideA fault
 returns-2 c = let l = c .before .before .before .before in
     let e = sym (c .before .before .before .frame-one .ensures) ∙ c .before .enum-told2 .given .1 in
-    record { told = ap refused (c .refuse-at .ensures) ∙ walked-cut runA checkA aslaAdvertisements _ _ _ (l .loop .inv .1) e; asked = tt }
+    record { told = ap refused (c .refuse-at .ensures) ∙ walked-cut runA checkA aslaAdvertisements _ _ _ (l .loop .inv .1) e; tells = tt }
 
 enum-known-len : tie.Need-enum-known-len Inv-loop μ-loop
 enum-known-len c = search needs
@@ -80,7 +80,7 @@ unfolding sideA
 returns-3 c = let k = c .before .before .before .before .before .before in
     let w = walked-refused runA checkA aslaAdvertisements _ _ _ (k .before .before .before .before .loop .inv .1) _ (whole k) _
     (asla-checks _ _ _ _ _ (omega arith) (c .before .before .before .check-asla .ensures)) _ (c .before .r .given .1) in
-    record { told = w .told; asked = tt }
+    record { told = w .told; tells = tt }
 
 enum-known-all : tie.Need-enum-known-all Inv-loop μ-loop
 enum-known-all c = search needs
@@ -98,7 +98,7 @@ returns-4 : tie.Need-returns-4 Inv-loop μ-loop
 unfolding sideA fault
 returns-4 c = let k = c .before .before .before .before .before .before in
     let e = sym (c .before .before .wrong-length .ensures) ∙ c .before .if2 .taken in
-    record { told = ap refused (c .refuse-at2 .ensures) ∙ legacy-wrong _ _ _ (k .before .before .before .before .loop .inv .1) _ (whole k) (λ i. omega (arith, i)) e; asked = tt }
+    record { told = ap refused (c .refuse-at2 .ensures) ∙ legacy-wrong _ _ _ (k .before .before .before .before .loop .inv .1) _ (whole k) (λ i. omega (arith, i)) e; tells = tt }
 
 loop-less : tie.Need-loop-less Inv-loop μ-loop
 loop-less c = let f = whole (c .before .before .before .before .before .before) in omega arith

@@ -11,7 +11,7 @@ abbrev start : tie.After-fill-sets → tie.Start
 start k = k .before .before .before .before .before .before .before
 
 abbrev filled : tie.After-export-rows-arg → tie.After-fill-sets
-filled c = c .before .before .before .before
+filled c = c .before .before .before .before .before
 
 abbrev lent : tie.After-export-rows → tie.After-export-rows-arg
 lent q = q .before .before .before .before .before .before

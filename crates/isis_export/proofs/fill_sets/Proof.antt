@@ -7,33 +7,30 @@ use borrow.Author.Needs.{needs}
 use Rattle.isis_export.proofs.fill_sets.Statement.{statement}
 use Rattle.isis_export.proofs.fill_sets.Tie as tie
 
--- the masks, turned
-abbrev start : tie.After-turned2 → tie.Start
-start c = c .before .before .before
+-- the set, turned
+abbrev start : tie.After-turned-set → tie.Start
+start c = c .before .before
 
-abbrev turns : tie.After-assign-slots → tie.After-turned2
+abbrev turns : tie.After-assign-slots → tie.After-turned-set
 turns k = k .before .before .before
 
 -- the slots lie in the table
-room : (k : tie.After-assign-slots) → k .assign-slots .result ≤ length (k .assign-slots .last .1 .1 .1 .0)
+room : (k : tie.After-assign-slots) → k .assign-slots .result ≤ length (k .assign-slots .last .1 .1 .0)
 room k =
     let t = turns k in
     let s = start t in
     let e = k .assign-slots .ensures in
-    omega (arith, e .0, e .2, s .pre .2, turned-many (s .args .named) _ _ (t .before .turned .ensures) (t .turned2 .ensures))
+    omega (arith, e .0, e .2, s .pre .2, turned-many (s .args .named) _ (t .turned-set .ensures))
 
-turned-requires : tie.Need-turned-requires
-turned-requires c κs = search needs
-
-turned-requires-2 : tie.Need-turned-requires-2
-turned-requires-2 c κs = search needs
+turned-set-requires : tie.Need-turned-set-requires
+turned-set-requires c κs = search needs
 
 assign-slots-requires : tie.Need-assign-slots-requires
 assign-slots-requires c κs =
     let t = c .before .before in
     let s = start t in
     let p = s .pre in
-    (unowned-owned _ (p .1), omega (arith, p .2, turned-many (s .args .named) _ _ (t .before .turned .ensures) (t .turned2 .ensures)), p .3)
+    (unowned-owned _ (p .1), omega (arith, p .2, turned-many (s .args .named) _ (t .turned-set .ensures)), p .3)
 
 index-slots-requires : tie.Need-index-slots-requires
 index-slots-requires c κs =
@@ -44,7 +41,7 @@ index-slots-requires c κs =
     let e = k .assign-slots .ensures in (
       p .0,
       room k,
-      begun-started (s .args .named) _ _ (t .before .turned .ensures) (t .turned2 .ensures) (p .1) (e .1) (e .0) (room k)
+      begun-started (s .args .named) _ (t .turned-set .ensures) (p .1) (e .1) (e .0) (room k)
           (omega (arith, e .2, p .3)),
     )
 
@@ -60,8 +57,7 @@ pub fill-sets-spec : {M : Type 1} → statement M
 fill-sets-spec =
     tie.close
     (tie.spec
-    turned-requires
-    turned-requires-2
+    turned-set-requires
     assign-slots-requires
     index-slots-requires
     same-length

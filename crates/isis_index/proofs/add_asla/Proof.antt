@@ -24,8 +24,8 @@ enum-known-from-2 c = search needs
 
 named-list-requires : tie.Need-named-list-requires
 named-list-requires c κs = let s = c .before .before .before .before .before .before .before in
-    let t = read-named (s .pre .1) _ (c .before .before .before .before .before .read-asla .ensures) _ _ _ (c .before .before .before .from2 .given .1) in
-    (s .pre .0, t .0 .listed, named-within (s .pre .1) _ _ (now (s .args .own)) (t .1) (s .pre .3))
+    let t = read-named (s .pre .1) _ (c .before .before .before .before .before .read-asla .ensures) _ _ (c .before .before .before .from2 .given .1) in
+    (s .pre .0, t .0 .listed, named-within (s .pre .1) _ (now (s .args .own)) (t .1) (s .pre .3))
 
 returns : tie.Need-returns
 returns c = let s = c .before .before .before .before in
@@ -44,8 +44,8 @@ same-length-2 c = search needs
 
 returns-3 : tie.Need-returns-3
 returns-3 c = let s = c .before .before .before .before .before .before .before .before .before in
-    let t = read-named (s .pre .1) _ (c .before .before .before .before .before .before .before .read-asla .ensures) _ _ _ (c .before .before .before .before .before .from2 .given .1) in
-    gains-named (s .pre .1) (s .pre .2) (s .pre .0) _ _ (t .0) (c .before .named-list .ensures)
+    let t = read-named (s .pre .1) _ (c .before .before .before .before .before .before .before .read-asla .ensures) _ _ (c .before .before .before .before .before .from2 .given .1) in
+    gains-named (s .pre .1) (s .pre .2) (s .pre .0) _ (t .0) (c .before .named-list .ensures)
 
 pub add-asla-spec : {M : Type 1} → statement M
 add-asla-spec =

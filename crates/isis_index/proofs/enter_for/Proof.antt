@@ -33,16 +33,16 @@ returns : tie.Need-returns
 returns c = let s = c .before .before .before .before .before .before .before .before .before in let a = s .args in
     let k = kind-read (a .t) _ _ (c .before .before .before .before .before .before .before .classify-type .ensures) (c .before .before .before .before .before .kind .given .1) in
     let r = c .before .enter-link .ensures in
-    λ v. for-only (now (a .a)) (now (a .own)) (now (a .sets)) (now (a .have)) _ (s .pre .0) (a .standard) (a .user) (a .t) (a .place) (a .n) v 3 (r .0 (now (a .a)) (s .pre .0 .holds) (value-link (s .pre .1) _ (k .0) (k .1))) (r .1)
-    (λ x w. maximum-only (now (a .own)) (codeOfType (a .t)) (cellOf (a .place) (a .n)) (heard (a .standard) (a .user)) (heard-without (a .standard) (a .user)) (heard-legacy (a .standard) (a .user)) (k .1 ∙ ap (λ (i : ℕ). getD linkCodes i 0) (c .before .before .before .if1 .taken)) x w)
+    λ v. for-only (now (a .a)) (now (a .own)) (now (a .sets)) (now (a .have)) _ (s .pre .0) (a .who) (a .t) (a .place) (a .n) v 3 (r .0 (now (a .a)) (s .pre .0 .holds) (value-link (s .pre .1) _ (k .0) (k .1))) (r .1)
+    (λ x w. maximum-only (now (a .own)) (codeOfType (a .t)) (cellOf (a .place) (a .n)) (heard (a .who)) (heard-without (a .who)) (heard-legacy (a .who)) (k .1 ∙ ap (λ (i : ℕ). getD linkCodes i 0) (c .before .before .before .if1 .taken)) x w)
 
 add-enter-link : tie.Need-add-enter-link
-add-enter-link c = let a = c .before .before .before .before .before .before .before .before .args in
-    let k = kind-read (a .t) _ _ (c .before .before .before .before .before .before .classify-type .ensures) (c .before .before .before .before .kind .given .1) in omega (arith, k .0)
+add-enter-link c = let a = c .before .before .before .before .before .before .before .before .before .before .args in
+    let k = kind-read (a .t) _ _ (c .before .before .before .before .before .before .before .before .classify-type .ensures) (c .before .before .before .before .before .before .kind .given .1) in omega (arith, k .0)
 
 enter-link-requires-2 : tie.Need-enter-link-requires-2
-enter-link-requires-2 c κs = let s = c .before .before .before .before .before .before .before .before in let h = s .pre .0 .ground .three in
-    let k = kind-read (s .args .t) _ _ (c .before .before .before .before .before .before .classify-type .ensures) (c .before .before .before .before .kind .given .1) in
+enter-link-requires-2 c κs = let s = c .before .before .before .before .before .before .before .before .before .before in let h = s .pre .0 .ground .three in
+    let k = kind-read (s .args .t) _ _ (c .before .before .before .before .before .before .before .before .classify-type .ensures) (c .before .before .before .before .before .before .kind .given .1) in
     (omega (arith, h), s .pre .0 .holds .rows 2 (omega (arith, h)) .twelve, omega (arith, k .0), s .pre .1 .low, s .pre .1 .short)
 
 enum-known-kind-2 : tie.Need-enum-known-kind-2
@@ -66,17 +66,17 @@ same-length-2 : tie.Need-same-length-2
 same-length-2 c = search needs
 
 returns-2 : tie.Need-returns-2
-returns-2 c = let s = c .before .before .before .before .before .before .before .before .before .before in let a = s .args in
-    let k = kind-read (a .t) _ _ (c .before .before .before .before .before .before .before .before .classify-type .ensures) (c .before .before .before .before .before .before .kind .given .1) in
+returns-2 c = let s = c .before .before .before .before .before .before .before .before .before .before .before .before in let a = s .args in
+    let k = kind-read (a .t) _ _ (c .before .before .before .before .before .before .before .before .before .before .classify-type .ensures) (c .before .before .before .before .before .before .before .before .kind .given .1) in
     let r = c .before .enter-link2 .ensures in
-    λ v. for-only (now (a .a)) (now (a .own)) (now (a .sets)) (now (a .have)) _ (s .pre .0) (a .standard) (a .user) (a .t) (a .place) (a .n) v _ (r .0 (now (a .a)) (s .pre .0 .holds) (value-link (s .pre .1) _ (k .0) (k .1))) (r .1)
-    (λ x w. alone-link (now (a .own)) (a .standard) (a .user) (codeOfType (a .t)) (cellOf (a .place) (a .n)) (c .before .before .before .if2 .taken) _ (k .0) (c .before .before .before .before .if1 .left) (k .1) x w)
+    λ v. for-only (now (a .a)) (now (a .own)) (now (a .sets)) (now (a .have)) _ (s .pre .0) (a .who) (a .t) (a .place) (a .n) v _ (r .0 (now (a .a)) (s .pre .0 .holds) (value-link (s .pre .1) _ (k .0) (k .1))) (r .1)
+    (λ x w. alone-link (now (a .own)) (a .who) (codeOfType (a .t)) (cellOf (a .place) (a .n)) (c .before .before .before .if2 .taken) _ (k .0) (c .before .before .before .before .before .before .if1 .left) (k .1) x w)
 
 returns-3 : tie.Need-returns-3
-returns-3 c = let s = c .before .before .before .before .before .before .before in let a = s .args in
-    let k = kind-read (a .t) _ _ (c .before .before .before .before .before .classify-type .ensures) (c .before .before .before .kind .given .1) in
-    λ v. for-none (now (a .a)) (now (a .own)) (now (a .sets)) (now (a .have)) (s .pre .0) (a .standard) (a .user) (a .t) (a .place) (a .n) v
-    (λ x w. unheard-link (now (a .own)) (codeOfType (a .t)) (cellOf (a .place) (a .n)) (heard (a .standard) (a .user)) (heard-legacy (a .standard) (a .user)) (heard-alone (a .standard) (a .user) ∙ c .if2 .left) _ (k .0) (c .before .if1 .left) (k .1) x w)
+returns-3 c = let s = c .before .before .before .before .before .before .before .before .before in let a = s .args in
+    let k = kind-read (a .t) _ _ (c .before .before .before .before .before .before .before .classify-type .ensures) (c .before .before .before .before .before .kind .given .1) in
+    λ v. for-none (now (a .a)) (now (a .own)) (now (a .sets)) (now (a .have)) (s .pre .0) (a .who) (a .t) (a .place) (a .n) v
+    (λ x w. unheard-link (now (a .own)) (codeOfType (a .t)) (cellOf (a .place) (a .n)) (heard (a .who)) (heard-legacy (a .who)) (heard-alone (a .who) ∙ c .if2 .left) _ (k .0) (c .before .before .before .if1 .left) (k .1) x w)
 
 same-length-3 : tie.Need-same-length-3
 same-length-3 c = search needs
@@ -85,7 +85,7 @@ returns-4 : tie.Need-returns-4
 returns-4 c = let s = c .before .before .before .before .before .before .before .before .before in let a = s .args in
     let k = kind-read (a .t) _ _ (c .before .before .before .before .before .before .before .classify-type .ensures) (c .before .before .before .before .before .kind2 .given .1) in
     let r = c .before .enter-named .ensures in
-    λ v. for-named (now (a .a)) (now (a .own)) (now (a .sets)) (now (a .have)) _ (s .pre .0) (a .standard) (a .user) (a .t) (a .place) (a .n) v (s .pre .2) _ (k .0) (k .1) _ (r .0) (r .1) (r .2 (owning (now (a .own))) (s .pre .0 .ground .slotted) (s .pre .0 .having) (s .pre .2))
+    λ v. for-named (now (a .a)) (now (a .own)) (now (a .sets)) (now (a .have)) _ (s .pre .0) (a .who) (a .t) (a .place) (a .n) v (s .pre .2) _ (k .0) (k .1) _ (r .0) (r .1) (r .2 (owning (now (a .own))) (s .pre .0 .ground .slotted) (s .pre .0 .having) (s .pre .2))
 
 returns-5 : tie.Need-returns-5
 returns-5 c = let a = c .before .before .before .before .args in
@@ -94,12 +94,12 @@ returns-5 c = let a = c .before .before .before .before .args in
 returns-6 : tie.Need-returns-6
 returns-6 c = let s = c .before .before .before .before in let a = s .args in
     let k = kind-read (a .t) _ _ (c .before .before .classify-type .ensures) (c .enum-told2 .given .1) in
-    λ v. for-none (now (a .a)) (now (a .own)) (now (a .sets)) (now (a .have)) (s .pre .0) (a .standard) (a .user) (a .t) (a .place) (a .n) v (λ x w. nothing (now (a .own)) (codeOfType (a .t)) (cellOf (a .place) (a .n)) (heard (a .standard) (a .user)) k x w)
+    λ v. for-none (now (a .a)) (now (a .own)) (now (a .sets)) (now (a .have)) (s .pre .0) (a .who) (a .t) (a .place) (a .n) v (λ x w. nothing (now (a .own)) (codeOfType (a .t)) (cellOf (a .place) (a .n)) (heard (a .who)) k x w)
 
 returns-7 : tie.Need-returns-7
 returns-7 c = let s = c .before .before .before .before in let a = s .args in
     let k = kind-read (a .t) _ _ (c .before .before .classify-type .ensures) (c .enum-told3 .given .1) in
-    λ v. for-none (now (a .a)) (now (a .own)) (now (a .sets)) (now (a .have)) (s .pre .0) (a .standard) (a .user) (a .t) (a .place) (a .n) v (λ x w. nothing (now (a .own)) (codeOfType (a .t)) (cellOf (a .place) (a .n)) (heard (a .standard) (a .user)) k x w)
+    λ v. for-none (now (a .a)) (now (a .own)) (now (a .sets)) (now (a .have)) (s .pre .0) (a .who) (a .t) (a .place) (a .n) v (λ x w. nothing (now (a .own)) (codeOfType (a .t)) (cellOf (a .place) (a .n)) (heard (a .who)) k x w)
 
 pub enter-for-spec : {M : Type 1} → statement M
 enter-for-spec =

@@ -9,14 +9,14 @@ use Rattle.isis_index.proofs.named_list.Statement.{statement}
 use Rattle.isis_index.proofs.named_list.Tie as tie
 
 abbrev Inv-loop : tie.InvT-loop
-Inv-loop a from end sets₀ own have₀ standard user at₀ sets have at = Reading a from end at (TookFor a own sets₀ have₀ sets have (heard standard user))
+Inv-loop a from end sets₀ own have₀ who at₀ sets have at = Reading a from end at (TookFor a own sets₀ have₀ sets have (heard who))
 
 abbrev μ-loop : tie.MeasureT-loop
-μ-loop a from end sets₀ own have₀ standard user at₀ sets have at = end - at
+μ-loop a from end sets₀ own have₀ who at₀ sets have at = end - at
 
 loop-holds : tie.Need-loop-holds Inv-loop μ-loop
 loop-holds c = let s = c .before in let a = s .args in
-    reading-begin (s .pre .1) (for-empty (now (a .a)) (now (a .own)) (now (a .sets)) (now (a .have)) (heard (a .standard) (a .user)) (s .pre .0))
+    reading-begin (s .pre .1) (for-empty (now (a .a)) (now (a .own)) (now (a .sets)) (now (a .have)) (heard (a .who)) (s .pre .0))
 
 add-n : tie.Need-add-n Inv-loop μ-loop
 add-n c = search needs

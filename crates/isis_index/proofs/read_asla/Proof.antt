@@ -34,37 +34,36 @@ returns-2 c = let s = c .before .before .before .before .before .before in
 add-masks : tie.Need-add-masks
 add-masks c = search needs
 
-add-behind : tie.Need-add-behind
-add-behind c = search needs
-
 add-from : tie.Need-add-from
 add-from c = search needs
+
+add-from-2 : tie.Need-add-from-2
+add-from-2 c = search needs
 
 returns-3 : tie.Need-returns-3
 returns-3 c = let s = c .before .before .before .before .before .before .before .before .before in
     told-all (s .pre .0) (s .pre .1) _ (c .before .before .before .before .before .before .read-header .ensures .0) (c .before .before .before .before .before .if1 .left)
     (sym (c .before .before .before .before .mask-too-long .ensures) ∙ c .before .before .before .if2 .left) _ refl (c .if3 .taken)
 
-with-sent-requires : tie.Need-with-sent-requires
-with-sent-requires c κs = let s = c .before .before .before .before .before .before .before .before .before in
-    let m = masks-there (s .pre .0) (s .pre .1) _ (c .before .before .before .before .before .before .read-header .ensures .0) (c .before .before .before .before .before .if1 .left)
-    (sym (c .before .before .before .before .mask-too-long .ensures) ∙ c .before .before .before .if2 .left) in
-    (omega (arith, m .2, s .pre .0 .inside), m .0, omega (arith, s .pre .0 .small))
+nobody-requires : tie.Need-nobody-requires
+nobody-requires c κs = search needs
 
-with-sent-requires-2 : tie.Need-with-sent-requires-2
-with-sent-requires-2 c κs = let s = c .before .before .before .before .before .before .before .before .before .before in
+with-masks-requires : tie.Need-with-masks-requires
+with-masks-requires c κs = let s = c .before .before .before .before .before .before .before .before .before .before in
     let m = masks-there (s .pre .0) (s .pre .1) _ (c .before .before .before .before .before .before .before .read-header .ensures .0) (c .before .before .before .before .before .before .if1 .left)
     (sym (c .before .before .before .before .before .mask-too-long .ensures) ∙ c .before .before .before .before .if2 .left) in
-    (omega (arith, m .2, s .pre .0 .inside), m .1, omega (arith, s .pre .0 .small))
+    (m .0, m .1, omega (arith, m .2, s .pre .0 .inside), omega (arith, s .pre .0 .small))
 
 returns-4 : tie.Need-returns-4
 returns-4 c = let s = c .before .before .before .before .before .before .before .before .before .before .before in
     let q = c .before .before .before .before .before .before .before .before .read-header .ensures .0 in
     let l = c .before .before .before .before .before .before .before .if1 .left in
     let m = sym (c .before .before .before .before .before .before .mask-too-long .ensures) ∙ c .before .before .before .before .before .if2 .left in
-    let d = c .before .before .if3 .left in (
-      told-named (s .pre .0) (s .pre .1) _ q l m _ _ (search needs) (search needs) (λ z. d (omega arith)) (c .before .with-sent .ensures) (c .with-sent2 .ensures) _ refl,
-      named-here (s .pre .0) (s .pre .1) _ q l m _ _ (search needs) (search needs) (λ z. d (omega arith)) (c .before .with-sent .ensures) (c .with-sent2 .ensures),
+    let d = c .before .before .if3 .left in
+    let w = c .with-masks .ensures in
+    let z = c .before .nobody .ensures in (
+      told-named (s .pre .0) (s .pre .1) _ q l m _ _ (search needs) (search needs) (λ z. d (omega arith)) z w _ refl,
+      named-here (s .pre .0) (s .pre .1) _ q l m _ _ (search needs) (search needs) (λ z. d (omega arith)) z w,
     )
 
 pub read-asla-spec : {M : Type 1} → statement M
@@ -80,9 +79,9 @@ read-asla-spec =
     mask-too-long-requires
     returns-2
     add-masks
-    add-behind
     add-from
+    add-from-2
     returns-3
-    with-sent-requires
-    with-sent-requires-2
+    nobody-requires
+    with-masks-requires
     returns-4)

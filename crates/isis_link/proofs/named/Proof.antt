@@ -20,14 +20,11 @@ enum-known-names c = search needs
 both-requires : tie.Need-both-requires
 both-requires c κs = search needs
 
-turned-requires : tie.Need-turned-requires
-turned-requires c κs = search needs
+turned-set-requires : tie.Need-turned-set-requires
+turned-set-requires c κs = search needs
 
 without-requires : tie.Need-without-requires
 without-requires c κs = search needs
-
-turned-requires-2 : tie.Need-turned-requires-2
-turned-requires-2 c κs = search needs
 
 returns : tie.Need-returns
 returns c = let a = c .before .before .before .before .before .before .before .args in
@@ -35,13 +32,13 @@ returns c = let a = c .before .before .before .before .before .before .before .a
     (of-link (a .a .now) (a .b .now) (a .c .now) _ (sym (ap toldLink (c .before .x .given .1)) ∙ c .before .before .before .check-sides .ensures .told))
 
 returns-2 : tie.Need-returns-2
-returns-2 c = let half = c .before .before .before .before .before .before in let a = half .before .before .before .before .before .before .before .args in
-    let k = c .before .before .before .before .before .before .before .before .before .check-sides .ensures in
-    let e = c .before .before .before .before .before .before .before .names .given .1 in
-    let t = told-names _ _ _ _ (k .names) _ e in let j = c .before .before .before .both .ensures in
+returns-2 c = let half = c .before .before .before .before .before in let a = half .before .before .before .before .before .before .before .args in
+    let k = c .before .before .before .before .before .before .before .before .check-sides .ensures in
+    let e = c .before .before .before .before .before .before .names .given .1 in
+    let t = told-names _ _ _ _ (k .names) _ e in let j = c .before .before .both .ensures in
     lists (a .a .now) (a .b .now) (a .c .now) _ _ (sym (ap toldLink e) ∙ k .told) (search needs) (search needs)
-    (standard-in _ _ _ _ _ _ (t .inA) (t .inB) j _ (c .before .before .turned .ensures) _ (c .before .without .ensures))
-    (user-in _ _ _ _ _ _ (t .inA) (t .inB) j _ (c .turned2 .ensures))
+    (standard-in _ _ _ _ _ _ (t .inA) (t .inB) j _ (c .before .turned-set .ensures) _ (c .without .ensures))
+    (user-in _ _ _ _ _ _ (t .inA) (t .inB) j _ (c .before .turned-set .ensures))
 
 pub named-spec : {M : Type 1} → statement M
 named-spec =
@@ -51,8 +48,7 @@ named-spec =
     enum-known-x
     enum-known-names
     both-requires
-    turned-requires
+    turned-set-requires
     without-requires
-    turned-requires-2
     returns
     returns-2)

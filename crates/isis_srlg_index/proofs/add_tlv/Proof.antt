@@ -48,8 +48,8 @@ returns-2 c =
 
 returns-3 : tie.Need-returns-3
 returns-3 c =
-    let a = c .before .before .before .before .before .before .before .args in (
-      λ at. adds-nobody _ _ _ (c .before .before .before .before .read-tlv .ensures at) (now (a .keys)) (now (a .rows)) (a .k) (c .before .before .if2 .left)
+    let a = c .before .before .before .before .before .before .before .before .args in (
+      λ at. adds-nobody _ _ _ (c .before .before .before .before .before .read-tlv .ensures at) (now (a .keys)) (now (a .rows)) (a .k) (c .before .before .before .if2 .left)
           (c .if3 .taken),
       (omega arith, omega arith),
     )
@@ -64,16 +64,16 @@ part-add-source-end : tie.Need-part-add-source-end
 part-add-source-end c = search needs
 
 -- a TLV that adds a source is long enough
-long : (c : tie.Else3) → 25 ≤ length (now (c .before .before .before .before .before .before .before .args .value))
+long : (c : tie.Else3) → 25 ≤ length (now (c .before .before .before .before .before .before .before .before .args .value))
 long c =
-    let y = c .before .before .before .before .read-tlv .ensures 0 in
-    y .head (omega (arith, y .within)) (c .before .before .if2 .left)
+    let y = c .before .before .before .before .before .read-tlv .ensures 0 in
+    y .head (omega (arith, y .within)) (c .before .before .before .if2 .left)
 
 add-source-requires : tie.Need-add-source-requires
 add-source-requires c κs =
     let e = c .before .before .before in
-    let s = e .before .before .before .before .before .before .before in
-    let few = part-few (now (s .args .value)) (e .before .before .before .before .read-tlv .result .start) in
+    let s = e .before .before .before .before .before .before .before .before in
+    let few = part-few (now (s .args .value)) (e .before .before .before .before .before .read-tlv .result .start) in
     (s .pre .few .1, s .pre .source (long e), omega (arith, s .pre .numbers))
 
 same-length-2 : tie.Need-same-length-2
@@ -85,11 +85,11 @@ same-length-3 c = search needs
 returns-4 : tie.Need-returns-4
 returns-4 c =
     let e = c .before .before .before .before .before .before .before in
-    let s = e .before .before .before .before .before .before .before in
+    let s = e .before .before .before .before .before .before .before .before in
     let a = s .args in
-    let y = e .before .before .before .before .read-tlv .ensures in
+    let y = e .before .before .before .before .before .read-tlv .ensures in
     let w = c .before .before .before .add-source .ensures in (
-      λ at. adds-source _ _ _ (y at) (now (a .keys)) (now (a .rows)) (a .k) _ _ _ (e .before .before .if2 .left) (omega arith) (w .0) (w .1),
+      λ at. adds-source _ _ _ (y at) (now (a .keys)) (now (a .rows)) (a .k) _ _ _ (e .before .before .before .if2 .left) (omega arith) (w .0) (w .1),
       (lent-few _ _ _ (y 0) (now (a .keys)) (now (a .rows)) (a .k) _ (w .0 .0), omega (arith, w .0 .1, long e)),
     )
 

@@ -16,7 +16,7 @@ names-rsvp-te-requires c κs = search needs
 
 returns-2 : tie.Need-returns-2
 returns-2 c =
-    λ e. record { nobody = nobody-flagged _ _ (omega arith); source = c .names-rsvp-te .ensures (not-false _ e) }
+    λ e. record { nobody = nobody-flagged _ (omega arith); source = c .names-rsvp-te .ensures (not-false _ e) }
 
 pub legacy-used-spec : {M : Type 1} → statement M
 legacy-used-spec = tie.close (tie.spec returns names-rsvp-te-requires returns-2)

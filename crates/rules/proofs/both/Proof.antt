@@ -1,25 +1,19 @@
--- Mask by mask.
-use Rattle.rules.proofs.NameLaws.{in-joined}
+-- Set by set.
+use mathlib.Core.Path.{_≡_}
+use mathlib.Core.Bool.{_||_}
+use Rattle.masks.proofs.Sets.{set-by}
 use borrow.Author.Needs.{needs}
 use Rattle.rules.proofs.both.Statement.{statement}
 use Rattle.rules.proofs.both.Tie as tie
 
-joined-requires : tie.Need-joined-requires
-joined-requires c κs = search needs
+join-requires : tie.Need-join-requires
+join-requires c κs = search needs
 
-joined-requires-2 : tie.Need-joined-requires-2
-joined-requires-2 c κs = search needs
-
-joined-requires-3 : tie.Need-joined-requires-3
-joined-requires-3 c κs = search needs
-
-joined-requires-4 : tie.Need-joined-requires-4
-joined-requires-4 c κs = search needs
+join-requires-2 : tie.Need-join-requires-2
+join-requires-2 c κs = search needs
 
 returns : tie.Need-returns
-returns c = record { named = in-joined _ _ _ _ _ _ (c .before .before .before .joined .ensures) (c .before .before .joined2 .ensures); flagged = in-joined _ _ _ _ _ _ (c .before .joined3 .ensures) (c .joined4 .ensures) }
+returns c = record { named = set-by (λ r a b. r ≡ a || b) _ _ _ (c .before .join .ensures); flagged = set-by (λ r a b. r ≡ a || b) _ _ _ (c .join2 .ensures) }
 
 pub both-spec : {M : Type 1} → statement M
-both-spec =
-    tie.close
-    (tie.spec joined-requires joined-requires-2 joined-requires-3 joined-requires-4 returns)
+both-spec = tie.close (tie.spec join-requires join-requires-2 returns)

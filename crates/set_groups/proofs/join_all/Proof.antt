@@ -5,17 +5,17 @@ use lib.ListN.{length}
 use denote.Ref.{now}
 use native.Mathlib.Omega.{arith}
 use Rattle.grids.specs.Slots.{IsSet}
-use Rattle.masks.specs.Applications.{inPair}
+use Rattle.masks.specs.Applications.{atPlace}
 use Rattle.set_groups.proofs.Fills.{Begun, begun, named-here, one-more, goes-on, filled, slot-is, class-is}
 use borrow.Author.Needs.{needs}
 use Rattle.set_groups.proofs.join_all.Statement.{statement}
 use Rattle.set_groups.proofs.join_all.Tie as tie
 
 abbrev Inv-loop : tie.InvT-loop
-Inv-loop run sets own standard user groups₀ buckets₀ count₀ n₀ groups buckets count n = Begun run sets own (inPair standard user) n count groups buckets × (length groups ≡ length groups₀)
+Inv-loop run sets own m groups₀ buckets₀ count₀ n₀ groups buckets count n = Begun run sets own (atPlace m) n count groups buckets × (length groups ≡ length groups₀)
 
 abbrev μ-loop : tie.MeasureT-loop
-μ-loop run sets own standard user groups₀ buckets₀ count₀ n₀ groups buckets count n = 128 - n
+μ-loop run sets own m groups₀ buckets₀ count₀ n₀ groups buckets count n = 128 - n
 
 next-named-requires : tie.Need-next-named-requires Inv-loop μ-loop
 next-named-requires c κs = search needs
@@ -24,7 +24,7 @@ loop-holds : tie.Need-loop-holds Inv-loop μ-loop
 loop-holds c =
     let s = c .before .before in
     let a = s .args in
-    (begun (now (a .run)) (now (a .sets)) (now (a .own)) (inPair (a .standard) (a .user)) _ _ _ (s .pre .3) (s .pre .2) (c .next-named .ensures), refl)
+    (begun (now (a .run)) (now (a .sets)) (now (a .own)) (atPlace (a .m)) _ _ _ (s .pre .3) (s .pre .2) (c .next-named .ensures), refl)
 
 turned-place-requires : tie.Need-turned-place-requires Inv-loop μ-loop
 turned-place-requires c κs = c .loop-test .taken
@@ -60,7 +60,7 @@ join-requires c κs =
     let a = s .args in
     let l = y .before .before .loop in
     let h = y .before .loop-test .taken in
-    let p = inPair (a .standard) (a .user) in
+    let p = atPlace (a .m) in
     let t = y .turned-place .ensures .0 in
     let n = named-here (now (a .run)) (now (a .sets)) (now (a .own)) p (l .n) (l .count) (l .groups) (l .buckets) (l .inv .0) h in
     let m = one-more (now (a .run)) (now (a .sets)) (now (a .own)) p (l .n) (l .count) (l .groups) (l .buckets) (l .inv .0) h in
@@ -83,7 +83,7 @@ loop-again c =
     let a = y .before .before .before .before .before .args in
     let l = y .before .before .loop in
     let h = y .before .loop-test .taken in
-    let p = inPair (a .standard) (a .user) in
+    let p = atPlace (a .m) in
     let t = y .turned-place .ensures .0 in
     let es = slot-is (now (a .own)) (l .n) _ _ t (x .before .before .before .wide .ensures .0) in
     let ec = class-is (now (a .own)) (l .n) _ _ t (x .before .wide2 .ensures .0) in
@@ -98,7 +98,7 @@ returns : tie.Need-returns Inv-loop μ-loop
 returns c =
     let a = c .before .before .before .before .args in
     let l = c .before .loop in
-    filled (now (a .run)) (now (a .sets)) (now (a .own)) (inPair (a .standard) (a .user)) (l .n) (l .count) (l .groups) (l .buckets) (l .inv .0) (omega arith)
+    filled (now (a .run)) (now (a .sets)) (now (a .own)) (atPlace (a .m)) (l .n) (l .count) (l .groups) (l .buckets) (l .inv .0) (omega arith)
 
 pub join-all-spec : {M : Type 1} → statement M
 join-all-spec =

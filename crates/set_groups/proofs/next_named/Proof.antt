@@ -15,7 +15,7 @@ cast-result : tie.Need-cast-result
 cast-result c = search needs
 
 returns : tie.Need-returns
-returns c = let a = c .before .before .before .args in next-standard (a .standard) (a .user) (a .from) _ (c .before .next-bit .ensures) (c .if2 .taken)
+returns c = let a = c .before .before .before .args in next-standard (a .m) (a .from) _ (c .before .next-bit .ensures) (c .if2 .taken)
 
 next-bit-requires-2 : tie.Need-next-bit-requires-2
 next-bit-requires-2 c κs = search needs
@@ -27,7 +27,7 @@ add-result : tie.Need-add-result
 add-result c = search needs
 
 returns-2 : tie.Need-returns-2
-returns-2 c = let a = c .before .before .before .before .args in next-later (a .standard) (a .user) (a .from) _ _ (c .before .before .next-bit .ensures) (omega arith) (c .next-bit2 .ensures)
+returns-2 c = let a = c .before .before .before .before .args in next-later (a .m) (a .from) _ _ (c .before .before .next-bit .ensures) (omega arith) (c .next-bit2 .ensures)
 
 cast-next-bit-2 : tie.Need-cast-next-bit-2
 cast-next-bit-2 c = search needs
@@ -42,7 +42,7 @@ add-result-2 : tie.Need-add-result-2
 add-result-2 c = search needs
 
 returns-3 : tie.Need-returns-3
-returns-3 c = let a = c .before .before .args in next-user (a .standard) (a .user) (a .from) _ (omega arith) (c .next-bit3 .ensures)
+returns-3 c = let a = c .before .before .args in next-user (a .m) (a .from) _ (omega arith) (c .next-bit3 .ensures)
 
 pub next-named-spec : {M : Type 1} → statement M
 next-named-spec =

@@ -12,12 +12,12 @@ empty-first-requires c κs = search needs
 
 assign-bits-requires : tie.Need-assign-bits-requires
 assign-bits-requires c κs = let s = c .before .before .before .before .before in let a = s .args in let e = c .before .before .before .empty-first .ensures in
-    (omega arith, s .pre .0, omega (arith, many-pair (a .standard) (a .user), s .pre .1, e .0), omega (arith, s .pre .2, e .0))
+    (omega arith, s .pre .0, omega (arith, many-pair (a .m), s .pre .1, e .0), omega (arith, s .pre .2, e .0))
 
 assign-bits-requires-2 : tie.Need-assign-bits-requires-2
 assign-bits-requires-2 c κs = let s = c .before .before .before .before .before .before .before .before .before in let a = s .args in
     let e = c .before .before .before .before .before .before .before .empty-first .ensures in let r = c .before .before .before .assign-bits .ensures in
-    (omega arith, r .1 .owned, omega (arith, many-pair (a .standard) (a .user), s .pre .1, e .0, r .0, r .1 .same), omega (arith, s .pre .2, e .0, r .1 .same))
+    (omega arith, r .1 .owned, omega (arith, many-pair (a .m), s .pre .1, e .0, r .0, r .1 .same), omega (arith, s .pre .2, e .0, r .1 .same))
 
 same-length : tie.Need-same-length
 same-length c = let e = c .before .before .before .before .before .before .before .before .before .empty-first .ensures in let r = c .before .before .before .before .before .assign-bits .ensures in c .before .assign-bits2 .ensures .1 .same ∙ r .1 .same ∙ e .0
@@ -26,7 +26,7 @@ returns : tie.Need-returns
 returns c = let s = c .before .before .before .before .before .before .before .before .before .before .before in let a = s .args in
     let e = c .before .before .before .before .before .before .before .before .before .empty-first .ensures in let r = c .before .before .before .before .before .assign-bits .ensures in
     let q = c .before .assign-bits2 .ensures in
-    (omega (arith, many-pair (a .standard) (a .user), q .0, r .0), begun (a .standard) (a .user) (e .1) (r .1) (q .1), q .1 .same ∙ r .1 .same ∙ e .0)
+    (omega (arith, many-pair (a .m), q .0, r .0), begun (a .m) (e .1) (r .1) (q .1), q .1 .same ∙ r .1 .same ∙ e .0)
 
 pub assign-slots-spec : {M : Type 1} → statement M
 assign-slots-spec =

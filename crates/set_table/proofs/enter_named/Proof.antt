@@ -25,26 +25,20 @@ index-1-u c = search needs
 index-2-u : tie.Need-index-2-u
 index-2-u c = search needs
 
-without-requires : tie.Need-without-requires
-without-requires c κs = search needs
-
-without-requires-2 : tie.Need-without-requires-2
-without-requires-2 c κs = search needs
+except-requires : tie.Need-except-requires
+except-requires c κs = search needs
 
 returns : tie.Need-returns
-returns c = let s = c .before .before .before .before .before .before in let a = s .args in let p = s .pre .3 in
-    let m = c .before .before .without in let u = c .before .without2 in
-    let z = both-zero (m .result) (u .result) (c .if1 .taken) in (
+returns c = let s = c .before .before .before .before .before .before .before in let a = s .args in let p = s .pre .3 in
+    let m = c .before .before .before .except in
+    let z = both-zero (m .result .standard) (m .result .user) (c .if1 .taken) in (
       s .pre .0,
-      none-given (now (a .sets)) (now (a .own)) (now (a .have)) (p .0) (p .1) (p .2) (a .k) (s .pre .1) (a .standard) (a .user) (p .3) _ _ (m .ensures) (u .ensures) (cellOf (a .place) (a .n)) (z .0) (z .1),
+      none-given (now (a .sets)) (now (a .own)) (now (a .have)) (p .0) (p .1) (p .2) (a .k) (s .pre .1) (a .m) (p .3) _ (m .ensures) (cellOf (a .place) (a .n)) (z .0) (z .1),
       λ names sl hv w. hv,
     )
 
-joined-requires : tie.Need-joined-requires
-joined-requires c κs = search needs
-
-joined-requires-2 : tie.Need-joined-requires-2
-joined-requires-2 c κs = search needs
+join-requires : tie.Need-join-requires
+join-requires c κs = search needs
 
 mul-both : tie.Need-mul-both
 mul-both c = search needs
@@ -54,21 +48,21 @@ element-set-from-both c = search needs
 
 enter-both-requires : tie.Need-enter-both-requires
 enter-both-requires c κs = let s = c .before .before .before .before .before .before .before .before .before in let a = s .args in let p = s .pre .3 in
-    let m = c .before .before .before .before .before .without in let u = c .before .before .before .before .without2 in
-    (s .pre .0, s .pre .1, s .pre .2, fresh-of (now (a .sets)) (now (a .own)) (now (a .have)) (p .0) (p .1) (p .2) (a .k) (s .pre .1) (a .standard) (a .user) (p .3) _ _ (m .ensures) (u .ensures))
+    let m = c .before .before .before .before .before .except in
+    (s .pre .0, s .pre .1, s .pre .2, fresh-of (now (a .sets)) (now (a .own)) (now (a .have)) (p .0) (p .1) (p .2) (a .k) (s .pre .1) (a .m) (p .3) _ (m .ensures))
 
 same-length : tie.Need-same-length
 same-length c = search needs
 
 returns-2 : tie.Need-returns-2
 returns-2 c = let s = c .before .before .before .before .before .before .before .before .before .before .before in let a = s .args in let p = s .pre .3 in
-    let m = c .before .before .before .before .before .before .before .without in let u = c .before .before .before .before .before .before .without2 in
+    let m = c .before .before .before .before .before .before .before .except in
     let r = c .before .enter-both .ensures in
     let v = s .pre .2 in
-    let g = named-given (now (a .sets)) (now (a .own)) (now (a .have)) (p .0) (p .1) (p .2) (a .k) (s .pre .1) (a .standard) (a .user) (p .3) _ _ (m .ensures) (u .ensures) (cellOf (a .place) (a .n)) _ (r .1) in (
+    let g = named-given (now (a .sets)) (now (a .own)) (now (a .have)) (p .0) (p .1) (p .2) (a .k) (s .pre .1) (a .m) (p .3) _ (m .ensures) (cellOf (a .place) (a .n)) _ (r .1) in (
       r .0,
       g,
-      λ names sl hv w. having-next (now (a .sets)) (now (a .own)) (now (a .have)) names sl hv (a .k) (s .pre .1) (a .standard) (a .user) w _ _ (m .ensures) (u .ensures) (cellOf (a .place) (a .n)) (λ e. omega (arith, v .some)) _ g _ _ (c .before .before .before .before .joined .ensures) (c .before .before .before .joined2 .ensures),
+      λ names sl hv w. having-next (now (a .sets)) (now (a .own)) (now (a .have)) names sl hv (a .k) (s .pre .1) (a .m) w _ (m .ensures) (cellOf (a .place) (a .n)) (λ e. omega (arith, v .some)) _ g _ (c .before .before .before .join .ensures),
     )
 
 pub enter-named-spec : {M : Type 1} → statement M
@@ -81,11 +75,9 @@ enter-named-spec =
     mul-u
     index-1-u
     index-2-u
-    without-requires
-    without-requires-2
+    except-requires
     returns
-    joined-requires
-    joined-requires-2
+    join-requires
     mul-both
     element-set-from-both
     enter-both-requires

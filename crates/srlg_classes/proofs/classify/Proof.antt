@@ -22,7 +22,7 @@ returns c =
     let p = s .pre .1 z in (
       record { size = p .1; slots = λ i. refl },
       λ values side short so tells old.
-          settled-none (now (a .rows)) (now (a .classes)) (now (a .own)) (a .used .sources) (a .standard) (a .user) (a .named) _ values side (omega (arith, z)) (p .0) (p .2) refl refl refl so tells,
+          settled-none (now (a .rows)) (now (a .classes)) (now (a .own)) (a .used .sources) (a .who) (a .named) _ values side (omega (arith, z)) (p .0) (p .2) refl refl refl so tells,
     )
 
 classify-few-requires : tie.Need-classify-few-requires

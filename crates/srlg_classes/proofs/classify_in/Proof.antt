@@ -79,7 +79,7 @@ returns c =
     let p = s .pre .0 in (
       slots-then (now (a .own)) _ _ (g .slots) (o .slots),
       λ values side short so tells old.
-          settled (now (a .rows)) (a .used .sources) (a .used .words) (a .standard) (a .user) (a .named) _ _ _ _ (now (a .own)) _ _ _ _ _ _ (q .first-classes .ensures) g o
+          settled (now (a .rows)) (a .used .sources) (a .used .words) (a .who) (a .named) _ _ _ _ (now (a .own)) _ _ _ _ _ _ (q .first-classes .ensures) g o
           values side so tells (a .legacy) old short (p .words) (p .sources .2) _ refl (c .rsvp-class .ensures) refl,
     )
 

@@ -26,9 +26,9 @@ give-both-requires-2 c κs = search needs
 
 returns : tie.Need-returns
 returns c =
-    let s = c .before .before .before .before .before .before .before .before in
+    let s = c .before .before .before .before .before .before .before .before .before .before in
     let a = s .args in
-    first-own (a .standard) (a .user) (a .named) (a .first) (now (a .own)) _ _ _ _ (c .before .before .before .before .before .before .before .without .ensures) (c .before .before .before .before .before .before .without2 .ensures) (c .before .before .before .give-both .ensures) (c .give-both2 .ensures)
+    first-own (a .who) (a .named) (a .first) (now (a .own)) _ _ _ _ (c .before .before .before .before .before .before .before .without .ensures) (c .before .before .before .before .before .before .without2 .ensures) (c .before .before .before .give-both .ensures) (c .give-both2 .ensures)
 
 pub give-firsts-spec : {M : Type 1} → statement M
 give-firsts-spec =

@@ -25,7 +25,7 @@ meets-requires c κs = search needs
 
 -- the applications that are looked at
 abbrev start : tie.After-meets → tie.Start
-start c = c .before .before .before .before
+start c = c .before .before .before .before .before .before
 
 are : (c : tie.After-meets) → (a : ℕ) → a < 128 → inWords (c .before .before .without .result ∷ c .before .without2 .result ∷ []) a ≡ plain (start c .args .named) a
 are c = plain-pair (start c .args .named) _ _ (c .before .before .without .ensures) (c .before .without2 .ensures)

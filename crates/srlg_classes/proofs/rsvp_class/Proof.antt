@@ -7,11 +7,11 @@ use borrow.Author.Needs.{needs}
 use Rattle.srlg_classes.proofs.rsvp_class.Statement.{statement}
 use Rattle.srlg_classes.proofs.rsvp_class.Tie as tie
 
-has-requires : tie.Need-has-requires
-has-requires c κs = search needs
+is-named-with-l-requires : tie.Need-is-named-with-l-requires
+is-named-with-l-requires c κs = search needs
 
-has-requires-2 : tie.Need-has-requires-2
-has-requires-2 c κs = search needs
+is-named-requires : tie.Need-is-named-requires
+is-named-requires c κs = search needs
 
 rsvp-te-rule-requires : tie.Need-rsvp-te-rule-requires
 rsvp-te-rule-requires c κs = search needs
@@ -31,13 +31,13 @@ wide-requires c κs = search needs
 returns : tie.Need-returns
 unfolding classAt
 returns c = let q = c .before .before .before .before .before in let a = q .before .before .before .args in
-    no-own (a .named) (a .legacy) (now (a .own)) (a .first) _ _ (q .before .before .has .ensures) (q .before .has2 .ensures) _ (q .rsvp-te-rule .ensures)
+    no-own (a .named) (a .legacy) (now (a .own)) (a .first) _ _ (q .before .before .is-named-with-l .ensures) (q .before .is-named .ensures) _ (q .rsvp-te-rule .ensures)
     (c .before .before .before .enum-told .given .1) _ (c .before .wide .ensures) (c .if1 .taken)
 
 returns-2 : tie.Need-returns-2
 unfolding classAt
 returns-2 c = let q = c .before .before .before .before .before in let a = q .before .before .before .args in
-    own-one (a .named) (a .legacy) (now (a .own)) (a .first) _ _ (q .before .before .has .ensures) (q .before .has2 .ensures) _ (q .rsvp-te-rule .ensures)
+    own-one (a .named) (a .legacy) (now (a .own)) (a .first) _ _ (q .before .before .is-named-with-l .ensures) (q .before .is-named .ensures) _ (q .rsvp-te-rule .ensures)
     (c .before .before .before .enum-told .given .1) _ (c .before .wide .ensures) (c .if1 .left)
 
 enum-told-2 : tie.Need-enum-told-2
@@ -45,20 +45,20 @@ enum-told-2 c = search needs
 
 returns-3 : tie.Need-returns-3
 returns-3 c = let q = c .before .before in let a = q .before .before .before .args in
-    general-one (a .named) (a .legacy) (now (a .own)) (a .first) _ _ (q .before .before .has .ensures) (q .before .has2 .ensures) _ (q .rsvp-te-rule .ensures)
+    general-one (a .named) (a .legacy) (now (a .own)) (a .first) _ _ (q .before .before .is-named-with-l .ensures) (q .before .is-named .ensures) _ (q .rsvp-te-rule .ensures)
     (c .enum-told2 .given .1)
 
 returns-4 : tie.Need-returns-4
 returns-4 c = let q = c .before in let a = q .before .before .before .args in
-    legacy-one (a .named) (a .legacy) (now (a .own)) (a .first) _ _ (q .before .before .has .ensures) (q .before .has2 .ensures) _ (q .rsvp-te-rule .ensures)
+    legacy-one (a .named) (a .legacy) (now (a .own)) (a .first) _ _ (q .before .before .is-named-with-l .ensures) (q .before .is-named .ensures) _ (q .rsvp-te-rule .ensures)
     (c .match .keys3)
 
 pub rsvp-class-spec : {M : Type 1} → statement M
 rsvp-class-spec =
     tie.close
     (tie.spec
-    has-requires
-    has-requires-2
+    is-named-with-l-requires
+    is-named-requires
     rsvp-te-rule-requires
     enum-told
     index-1-wide

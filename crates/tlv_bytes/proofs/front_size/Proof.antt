@@ -18,7 +18,7 @@ add-result-2 : tie.Need-add-result-2
 add-result-2 c = search needs
 
 returns : tie.Need-returns
-returns c = let a = c .before .before .args in let e = size-is (a .standard) (a .user) in (omega (arith, c .before .mask-size .ensures .0, c .mask-size2 .ensures .0), omega (arith, c .before .mask-size .ensures .1, c .mask-size2 .ensures .1))
+returns c = let a = c .before .before .args in let e = size-is (a .m) in (omega (arith, c .before .mask-size .ensures .0, c .mask-size2 .ensures .0), omega (arith, c .before .mask-size .ensures .1, c .mask-size2 .ensures .1))
 
 pub front-size-spec : {M : Type 1} → statement M
 front-size-spec =

@@ -28,7 +28,7 @@ write-asla-head-requires c κs =
     let a = s .args in
     let m = c .before .before .mask-size .ensures in
     let n = c .before .mask-size2 .ensures in
-    (m .1, n .1, omega (arith, m .1, n .1, s .pre .0), omega (arith, s .pre .1, size-is (a .standard) (a .user)))
+    (m .1, n .1, omega (arith, m .1, n .1, s .pre .0), omega (arith, s .pre .1, size-is (a .m)))
 
 add-write-masks : tie.Need-add-write-masks
 add-write-masks c = search needs
@@ -38,7 +38,7 @@ write-masks-requires c κs =
     let x = c .before .before .before in
     let s = x .before .before .before .before .before in
     let a = s .args in
-    omega (arith, s .pre .1, size-is (a .standard) (a .user), x .write-asla-head .kept .1 .1 .1 .0)
+    omega (arith, s .pre .1, size-is (a .m), x .write-asla-head .kept .1 .1 .1 .0)
 
 same-length : tie.Need-same-length
 same-length c = search needs
@@ -49,7 +49,7 @@ returns c =
     let s = x .before .before .before .before .before in
     let a = s .args in
     let h = x .write-asla-head in
-    front-written (a .standard) (a .user) (a .size) (now (a .out)) (a .at) (s .pre .1) _ _ _ (c .before .before .before .before .before .before .before .before .before .mask-size .ensures .0) (c .before .before .before .before .before .before .before .before .mask-size2 .ensures .0) refl _ (h .ensures) (h .kept .1 .1 .1 .0) (c .before .before .write-masks .ensures)
+    front-written (a .m) (a .size) (now (a .out)) (a .at) (s .pre .1) _ _ _ (c .before .before .before .before .before .before .before .before .before .mask-size .ensures .0) (c .before .before .before .before .before .before .before .before .mask-size2 .ensures .0) refl _ (h .ensures) (h .kept .1 .1 .1 .0) (c .before .before .write-masks .ensures)
 
 pub write-front-spec : {M : Type 1} → statement M
 write-front-spec =

@@ -24,7 +24,7 @@ returns c =
     let s = x .before .before .before in
     let a = s .args in
     let one = x .write-mask in
-    behind-write (now (a .out)) (a .at) (mask (inSent (a .standard))) (mask (inSent (a .user))) (omega (arith, length-masks (a .standard) (a .user), s .pre)) (one .kept .1 .0) (mask-wrote (a .standard) (now (a .out)) (a .at) (one .ensures)) (mask-wrote (a .user) _ _ (c .before .before .write-mask2 .ensures))
+    behind-write (now (a .out)) (a .at) (mask (inSent (a .m .standard))) (mask (inSent (a .m .user))) (omega (arith, length-masks (a .m), s .pre)) (one .kept .1 .0) (mask-wrote (a .m .standard) (now (a .out)) (a .at) (one .ensures)) (mask-wrote (a .m .user) _ _ (c .before .before .write-mask2 .ensures))
 
 pub write-masks-spec : {M : Type 1} → statement M
 write-masks-spec =

@@ -1,10 +1,10 @@
 -- The bit at its place in the mask.
 use mathlib.Core.Path.{_∙_}
-use Rattle.rules.proofs.NameLaws.{in-standard, in-user}
 use native.Mathlib.Omega.{arith}
+use Rattle.masks.proofs.Sets.{low-bit, user-bit}
 use borrow.Author.Needs.{needs}
-use Rattle.rules.proofs.in_both.Statement.{statement}
-use Rattle.rules.proofs.in_both.Tie as tie
+use Rattle.masks.proofs.is_in.Statement.{statement}
+use Rattle.masks.proofs.is_in.Tie as tie
 
 mul-has : tie.Need-mul-has
 mul-has c = search needs
@@ -19,7 +19,7 @@ has-requires : tie.Need-has-requires
 has-requires c κs = search needs
 
 returns : tie.Need-returns
-returns c = c .has .ensures ∙ in-standard _ (c .before .before .args .user) _ (omega arith)
+returns c = c .has .ensures ∙ low-bit (c .before .before .args .m) _ (omega arith)
 
 mul-has-2 : tie.Need-mul-has-2
 mul-has-2 c = search needs
@@ -34,10 +34,10 @@ has-requires-2 : tie.Need-has-requires-2
 has-requires-2 c κs = search needs
 
 returns-2 : tie.Need-returns-2
-returns-2 c = c .has2 .ensures ∙ in-user (c .before .before .args .standard) _ _ (omega arith)
+returns-2 c = c .has2 .ensures ∙ user-bit (c .before .before .args .m) _ (omega arith)
 
-pub in-both-spec : {M : Type 1} → statement M
-in-both-spec =
+pub is-in-spec : {M : Type 1} → statement M
+is-in-spec =
     tie.close
     (tie.spec
     mul-has
