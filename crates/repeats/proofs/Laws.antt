@@ -20,15 +20,15 @@ use Rattle.repeats.specs.Walked.{Walked, Remembers}
 
 -- ---- a look at the elements before
 
-member-head : (k t : ℕ) (ts : List ℕ) → k ≡ t → member k (t ∷ ts) ≡ true
+pub member-head : (k t : ℕ) (ts : List ℕ) → k ≡ t → member k (t ∷ ts) ≡ true
 unfolding member
 member-head k t ts e = rw (eq-eqb k t e)
 
-member-tail : (k t : ℕ) (ts : List ℕ) → (k ≡ t → ⊥) → member k (t ∷ ts) ≡ member k ts
+pub member-tail : (k t : ℕ) (ts : List ℕ) → (k ≡ t → ⊥) → member k (t ∷ ts) ≡ member k ts
 unfolding member
 member-tail k t ts n = rw (ne-eqb k t n)
 
-member-none : (k : ℕ) → member k [] ≡ false
+pub member-none : (k : ℕ) → member k [] ≡ false
 unfolding member
 member-none k = refl
 
