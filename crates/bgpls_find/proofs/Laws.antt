@@ -92,7 +92,7 @@ sound at t v h e = record { fixed = go (ltb (length v) 4) refl checked; masks = 
 
     go : (b : Bool) → ltb (length v) 4 ≡ b
         → cond b (fault 3 runBgpLs at)
-        (cond (not (notIgnored v)) accepted (cond (ltb (length v) (aslaHeader v)) (fault 3 runBgpLs at) (faults runBgpLs Rattle.linkstate.specs.BgpLs.checkInner (innerElements at v))))
+        (cond (not (notIgnored v)) accepted (cond (ltb (length v) (aslaHeader v)) (fault 3 runBgpLs at) (faultsOnce runBgpLs Rattle.linkstate.specs.BgpLs.knownInside Rattle.linkstate.specs.BgpLs.checkInner [] (innerElements at v))))
         ≡ accepted → 4 ≤ length v
     go true f k = absurd (not-accepted 3 runBgpLs at k)
     go false f k = ltb-false (length v) 4 f

@@ -36,11 +36,11 @@ cond-passed true n o w e = absurd (not-accepted n runA o e)
 cond-passed false n o w e = (refl, e)
 
 module _ (at : ℕ) (v : List ℕ) (ok : checkAsla at v ≡ accepted) where
-  fixed : (ltb (length v) 2 ≡ false) × (cond (maskTooLong v) accepted (cond (ltb (length v) (headerLength v)) (fault 3 runA at) (cond (lForNobody v) accepted (cond (lFlag v) accepted (faults runA checkAttribute (listElements at v))))) ≡ accepted)
+  fixed : (ltb (length v) 2 ≡ false) × (cond (maskTooLong v) accepted (cond (ltb (length v) (headerLength v)) (fault 3 runA at) (cond (lForNobody v) accepted (cond (lFlag v) accepted (faultsOnce runA knownType checkAttribute [] (listElements at v))))) ≡ accepted)
   unfolding checkAsla
   fixed = cond-passed (ltb (length v) 2) 3 at _ ok
 
-  masked : maskTooLong v ≡ false → (ltb (length v) (headerLength v) ≡ false) × (cond (lForNobody v) accepted (cond (lFlag v) accepted (faults runA checkAttribute (listElements at v))) ≡ accepted)
+  masked : maskTooLong v ≡ false → (ltb (length v) (headerLength v) ≡ false) × (cond (lForNobody v) accepted (cond (lFlag v) accepted (faultsOnce runA knownType checkAttribute [] (listElements at v))) ≡ accepted)
   masked m = cond-passed (ltb (length v) (headerLength v)) 3 at _ (rw m at (fixed .1))
 
   pub headed : Headed v
@@ -48,7 +48,7 @@ module _ (at : ℕ) (v : List ℕ) (ok : checkAsla at v ≡ accepted) where
 
   pub list-ok : maskTooLong v ≡ false → lFlag v ≡ false → faults runA checkAttribute (listElements at v) ≡ accepted
   unfolding lForNobody
-  list-ok m l = rw l at (masked m .1)
+  list-ok m l = once-faults runA knownType checkAttribute [] (listElements at v) (rw l at (masked m .1))
 
 -- No test looks at the attributes.
 selects-same : (w : Which) (v : List ℕ) (ts us : List Attribute) → selects w (advertisement v ts) ≡ selects w (advertisement v us)
