@@ -13,7 +13,7 @@ use Rattle.linkstate.specs.Lists.{keep, each}
 use Rattle.linkstate.specs.Bytes.{number, bytesAt}
 use Rattle.linkstate.specs.Masks.{bit, inMasks}
 use Rattle.linkstate.specs.Replies.{Verdict, accepted, fault, runBgpLs, _then_}
-use Rattle.linkstate.specs.Elements.{Element, element, cut, lengthOf, elements, faults}
+use Rattle.linkstate.specs.Elements.{Element, element, cut, lengthOf, elements, faults, faultsOnce}
 use Rattle.linkstate.specs.Attributes.{Attribute, attribute, ofKind}
 use Rattle.linkstate.specs.Sides.{Advertisement}
 use Rattle.linkstate.specs.BgpLs.{sabmLength, udabmLength, aslaHeader, notIgnored, checkAsla, checkTop, attributesOf, advertisement, advertisementsOf, innerElements}

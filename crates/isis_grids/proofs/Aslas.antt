@@ -13,15 +13,15 @@ use lib.Seq.{drop-length, drop-at}
 use Rattle.linkstate.specs.Lists.{each, keep}
 use Rattle.linkstate.specs.Bytes.{bytesAt}
 use Rattle.linkstate.specs.Replies.{Verdict, accepted, runA, fault}
-use Rattle.linkstate.specs.Elements.{Element, element, cut, elements, faults}
+use Rattle.linkstate.specs.Elements.{Element, element, cut, elements, faults, faultsOnce}
 use Rattle.linkstate.specs.Attributes.{Attribute}
 use Rattle.linkstate.specs.Sides.{Advertisement, names, general, rsvpTeAlone, ofLive}
 use Rattle.linkstate.proofs.ElementLaws.{none-left}
 use Rattle.linkstate.proofs.ListLaws.{keep-append, each-append}
-use Rattle.linkstate.proofs.WalkLaws.{left, not-accepted}
+use Rattle.linkstate.proofs.WalkLaws.{left, not-accepted, once-faults}
 use Rattle.octets.proofs.Laws.{length-bytesAt, bytesAt-add}
 use Rattle.isis.specs.MaskHeader.{lFlag, maskTooLong, lForNobody, headerLength, advertisement}
-use Rattle.isis.specs.RunA.{listElements, checkAttribute, checkAsla, checkA, attributesOf, liveAsla, aslaAdvertisements, sideA}
+use Rattle.isis.specs.RunA.{listElements, checkAttribute, knownType, checkAsla, checkA, attributesOf, liveAsla, aslaAdvertisements, sideA}
 use Rattle.isis_grids.specs.declared.Which.{Which}
 use Rattle.isis_grids.specs.declared.Which.the-variants.{Naming, General, RsvpTeAlone, WithoutL}
 use Rattle.isis_grids.specs.Grid.{unchecked}

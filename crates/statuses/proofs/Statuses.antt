@@ -7,11 +7,11 @@ use Prim.Native.Nat.{ℕ, _+_, _%_, _≤_}
 use native.Mathlib.Omega.{arith}
 use lib.Dec.{eqb, ltb}
 use lib.ListN.{length, getD}
-use Rattle.linkstate.specs.Lists.{empty, any, put}
+use Rattle.linkstate.specs.Lists.{empty, any, put, member}
 use Rattle.linkstate.specs.Kinds.{isCode, isLinkCode, wrongAtTop, wrongInside}
 use Rattle.linkstate.specs.Replies.{Run, runA, runB, runBgpLs, place, Refusal, refusalAt, Verdict, accepted, refused, fault, faultOfCall, refusedIf, _then_, unless, count, Reply, absent, found, askRefused, Named, listed, namedRefused, Length, bytes, exportRefused, Exported, Place}
 use Rattle.linkstate.specs.Replies as R
-use Rattle.linkstate.specs.Elements.{Element, element, cut, elements, faults}
+use Rattle.linkstate.specs.Elements.{Element, element, cut, elements, faults, faultsOnce}
 use Rattle.linkstate.specs.Attributes.{Attribute, ofKind, srlgs}
 use Rattle.linkstate.specs.Questions.{Source, Subject, generally, standardNo, userNo, numberTooHigh, given, beforeAnswer, firstOf, unwritten, srlgAnswer, answer, ask, listNamed, write}
 use Rattle.linkstate.specs.BgpLs as L
@@ -148,7 +148,7 @@ run-sound r = sound-then _ _ (sound-if _ 1 (omega arith) (omega arith)) (sound-f
 
 -- Refused by 1 to 7, in one of three runs.
 abbrev pub IsRefusal : List ℕ → Type 0
-IsRefusal w = (129 ≤ getD w 0 0) × (getD w 0 0 ≤ 135) × (getD w 3 0 ≤ 2)
+IsRefusal w = (129 ≤ getD w 0 0) × (getD w 0 0 ≤ 136) × (getD w 3 0 ≤ 2)
 
 refusal-told : (r : Refusal) → Known r → IsRefusal (refusalWords r)
 refusal-told r k = (omega arith, omega arith, k .2)
