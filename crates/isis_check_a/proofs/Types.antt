@@ -1,7 +1,12 @@
 -- What is tested of a type byte without its rule, computed for each of the 256. Assumes nothing.
 use mathlib.Core.Path.{_≡_, refl, sym, ap, ap₂, _∙_}
+use mathlib.Core.Logic.{⊎-elim}
+use mathlib.Core.List.{[], _∷_}
 use mathlib.Core.Bool.{Bool, true, false, _&&_, _||_, not, false≢true}
 use Prim.Native.Nat.{ℕ, _%_, _<_}
+use native.Mathlib.Omega.{arith}
+use types.Run.{OneOf}
+use denote.Enum.Declared.{tagOf}
 use borrow.Author.Tests.{eqb-true}
 use lib.Dec.{T, eqb}
 use Rattle.linkstate.specs.Masks.{inNumber}
@@ -9,6 +14,13 @@ use Rattle.linkstate.proofs.ListLaws.{and-l, and-r}
 use Rattle.masks.proofs.Steps.{every, every-at}
 use Rattle.isis.specs.Types.{wrongInA}
 use Rattle.isis.specs.RunA.{knownType}
+use Rattle.kinds.specs.declared.Kind.{Kind}
+use Rattle.kinds.specs.declared.Kind.the-variants.{Link, Application, Srlg, Asla, Unknown}
+use Rattle.kinds.specs.declared.Rule.{Rule}
+use Rattle.kinds.specs.Rules.{isKnown}
+use Rattle.kinds.proofs.Kind.{the-type}
+use Rattle.isis_kinds.specs.Rules.{ruleOfType}
+use Rattle.isis_kinds.proofs.Computing.{computing}
 
 agree : (a b : Bool) → T (a && b || not a && not b) → a ≡ b
 agree true true h = refl
@@ -21,9 +33,21 @@ either true b h e = absurd (false≢true (sym e))
 either false true h e = absurd h
 either false false h e = refl
 
--- The types that are known are those of a test.
-pub knows : (f : ℕ → Bool) → T (every (λ t. f t && knownType t || not (f t) && not (knownType t)) 256) → (t : ℕ) → t < 256 → f t ≡ knownType t
-knows f all t h = agree (f t) (knownType t) (every-at (λ t. f t && knownType t || not (f t) && not (knownType t)) 256 all t h)
+-- The types that are known, by the kind of their rule.
+pub known-by : (r : Rule) (t : ℕ) (k : Kind) → t < 256 → r ≡ ruleOfType t → r .kind ≡ k → isKnown k ≡ knownType t
+unfolding computing knownType
+known-by r t k h e f =
+    ap isKnown (sym f) ∙ ap (λ (q : Rule). isKnown (q .kind)) e
+    ∙ agree (isKnown (ruleOfType t .kind)) (knownType t)
+    (every-at (λ t. isKnown (ruleOfType t .kind) && knownType t || not (isKnown (ruleOfType t .kind)) && not (knownType t)) 256 tt t h)
+
+pub other-known : (k : Kind) → OneOf (0 ∷ 1 ∷ 2 ∷ []) (tagOf the-type k) → true ≡ isKnown k
+unfolding isKnown
+other-known (Link i) h = refl
+other-known (Application i) h = refl
+other-known Srlg h = refl
+other-known Asla h = absurd (⊎-elim (λ e. omega arith) (λ g. ⊎-elim (λ e. omega arith) (λ e. omega arith) g) h)
+other-known Unknown h = absurd (⊎-elim (λ e. omega arith) (λ g. ⊎-elim (λ e. omega arith) (λ e. omega arith) g) h)
 
 -- The types whose bits are not set are right in four bytes.
 pub four-fits : (bits : ℕ) → T (every (λ t. inNumber bits (t % 64) || not (wrongInA t 4)) 256) → (t n : ℕ) → t < 256 → n ≡ 4 → inNumber bits (t % 64) ≡ false → false ≡ wrongInA t n

@@ -15,6 +15,7 @@ ghost use Rattle.isis.specs.RunA.{checkAttribute, knownType, checkAsla, checkA,
 ghost use Rattle.isis_check_a.specs.Headers.{headerOf, tooLong, forNobody, bytesBefore, masksIn, advertisedAt, valueIn};
 use frames::Frame;
 use frames::frame_one;
+use kinds::Kind;
 use replies::Checked;
 use replies::Run;
 use rules::Checking;
@@ -128,7 +129,12 @@ fn wrong_length(t: u8, n: usize) -> bool
 fn is_known(t: u8) -> bool
     ensures { λ r. ⌜ r ≡ knownType t ⌝ }
 {
-    ((33 <= t) & (t <= 39)) | ((9 <= t) & (t <= 11)) | (t == 3) | (t == 14) | (t == 18)
+    let kind = isis_kinds::classify_type(t).kind;
+    match kind {
+        Kind::Asla => false,
+        Kind::Unknown => false,
+        _ => true,
+    }
 }
 
 // Whether the type is known and stands before a place in its list.

@@ -115,13 +115,13 @@ loop-again c =
     let new = c .before .with-kind .ensures in (
       whole k .within,
       ⊎-elim
-      (λ w.
-      once-other runBgpLs knownInside checkInner 2 two-bytes _ _ _ _ _ _ o _ refl _ _ (whole k) fits _ new
-      _ (w .1 .ensures (o .order) (o .walked)) (w .2 .left))
-      (λ w.
-      once-new runBgpLs knownInside checkInner 2 two-bytes _ _ _ _ _ _ o _ refl _ _ (whole k) fits _ new
-      _ (c .before .before .may-have-stood .ensures) (w .left))
-      (c .if2 .came),
+          (λ w.
+          once-other runBgpLs knownInside checkInner 2 two-bytes _ _ _ _ _ _ o _ refl _ _ (whole k) fits _ new
+          _ (w .1 .ensures (o .order) (o .walked)) (w .2 .left))
+          (λ w.
+          once-new runBgpLs knownInside checkInner 2 two-bytes _ _ _ _ _ _ o _ refl _ _ (whole k) fits _ new
+          _ (c .before .before .may-have-stood .ensures) (w .left))
+          (c .if2 .came),
     )
 
 pub check-inner-spec : {M : Type 1} → statement M

@@ -122,13 +122,13 @@ loop-again c =
     let new = c .before .with-kind .ensures in (
       whole k .within,
       ⊎-elim
-      (λ w.
-      once-other runA knownType checkAttribute 1 one-byte 0 _ _ _ _ _ o _ (sym (zero-add (l .loop .at))) _ _ (whole k) fits _ new
-      _ (by-type _ _ _ _ (whole k) _ (o .order) (w .2 .ensures (o .order) (o .walked))) (w .3 .left))
-      (λ w.
-      once-new runA knownType checkAttribute 1 one-byte 0 _ _ _ _ _ o _ (sym (zero-add (l .loop .at))) _ _ (whole k) fits _ new
-      _ (c .before .before .may-have-stood .ensures) (w .left))
-      (c .if2 .came),
+          (λ w.
+          once-other runA knownType checkAttribute 1 one-byte 0 _ _ _ _ _ o _ (sym (zero-add (l .loop .at))) _ _ (whole k) fits _ new
+          _ (by-type _ _ _ _ (whole k) _ (o .order) (w .2 .ensures (o .order) (o .walked))) (w .3 .left))
+          (λ w.
+          once-new runA knownType checkAttribute 1 one-byte 0 _ _ _ _ _ o _ (sym (zero-add (l .loop .at))) _ _ (whole k) fits _ new
+          _ (c .before .before .may-have-stood .ensures) (w .left))
+          (c .if2 .came),
     )
 
 pub check-list-spec : {M : Type 1} → statement M
