@@ -146,7 +146,7 @@ run-sound r = sound-then _ _ (sound-if _ 1 (omega arith) (omega arith)) (sound-f
 
 -- ---- statuses
 
--- Refused by 1 to 7, in one of three runs.
+-- Refused by 1 to 8, in one of three runs.
 abbrev pub IsRefusal : List ℕ → Type 0
 IsRefusal w = (129 ≤ getD w 0 0) × (getD w 0 0 ≤ 136) × (getD w 3 0 ≤ 2)
 
