@@ -13,20 +13,20 @@ use lib.ListN.{length, take, drop, length-drop}
 use lib.Seq.{take-length}
 use Rattle.linkstate.specs.Bytes.{bytesAt}
 use Rattle.linkstate.specs.Replies.{accepted, refusalAt, fault, faultOfCall, refusedIf, _then_, runBgpLs}
-use Rattle.linkstate.specs.Elements.{elements, faults}
+use Rattle.linkstate.specs.Elements.{elements, faults, faultsOnce}
 use Rattle.linkstate.specs.Lists.{keep}
 use Rattle.linkstate.specs.Kinds.{kinds, fits, hasCode, isApplications, wrongInside, wrongAtTop}
 use Rattle.linkstate.proofs.Computing.{computing}
-use Rattle.linkstate.specs.BgpLs.{sabmLength, udabmLength, aslaHeader, isMaskLength, notIgnored, innerElements, checkInner, checkAsla, checkTop, runVerdict}
-use Rattle.linkstate.proofs.WalkLaws.{left}
-use Rattle.frames.proofs.Laws.{IsWhole, value-length, turn-passed, turn-refused}
+use Rattle.linkstate.specs.BgpLs.{sabmLength, udabmLength, aslaHeader, isMaskLength, notIgnored, innerElements, checkInner, knownInside, checkAsla, checkTop, runVerdict}
+use Rattle.repeats.proofs.Turns.{Once}
+use Rattle.frames.proofs.Laws.{IsWhole, value-length}
 use Rattle.kinds.specs.declared.Kind.{Kind}
 use Rattle.kinds.specs.declared.Kind.the-variants.{Link, Application, Srlg, Asla, Unknown}
 use Rattle.kinds.specs.declared.Size.{Size}
 use Rattle.kinds.specs.declared.Rule.{Rule}
 use Rattle.kinds.proofs.Kind.{the-type}
-use Rattle.kinds.specs.Rules.{ruleOfCode, fitsIn, wrongInsideBy}
-use Rattle.kinds.proofs.Laws.{any-kept, wrong-inside, wrong-at-top}
+use Rattle.kinds.specs.Rules.{ruleOfCode, fitsIn, wrongInsideBy, isOfSets}
+use Rattle.kinds.proofs.Laws.{any-kept, wrong-inside, wrong-at-top, code-of-sets}
 
 -- ---- lengths
 
@@ -75,17 +75,42 @@ module _ (o t : ℕ) (v : List ℕ) where
   unfolding checkInner
   inner-wrong h = rw h
 
--- one turn over inner elements
-module _ (base : ℕ) (s : List ℕ) (at t n : ℕ) (f : IsWhole 2 s at t n) where
-  judged : (b : Bool) → wrongInside t n ≡ b → wrongInside t (length (bytesAt s (at + 4) n)) ≡ b
-  judged b h = ap (wrongInside t) (value-length 2 s at t n f) ∙ h
+-- an inner element that stands at a place
+module _ (o : ℕ) (s : List ℕ) (at t n : ℕ) (f : IsWhole 2 s at t n) (b : Bool) (e : b ≡ wrongInside t n) where
+  judged : wrongInside t (length (bytesAt s (at + 4) n)) ≡ b
+  judged = ap (wrongInside t) (value-length 2 s at t n f) ∙ sym e
 
-  pub inner-on : wrongInside t n ≡ false → faults runBgpLs checkInner (left 2 base s (at + 4 + n)) ≡ faults runBgpLs checkInner (left 2 base s at)
-  inner-on h = turn-passed runBgpLs checkInner 2 (omega arith) base s at (base + at) refl t n f (inner-right _ t _ (judged false h))
+  pub inner-fits : b ≡ false → checkInner o t (bytesAt s (at + 4) n) ≡ accepted
+  inner-fits h = inner-right o t _ (judged ∙ h)
 
-  pub inner-stop : wrongInside t n ≡ true → fault 4 runBgpLs (base + at) ≡ faults runBgpLs checkInner (left 2 base s at)
-  unfolding fault
-  inner-stop h = turn-refused runBgpLs checkInner 2 (omega arith) base s at (base + at) refl t n f (refusalAt 4 runBgpLs (base + at)) (inner-wrong _ t _ (judged true h))
+  pub inner-unfit : b ≡ true → checkInner o t (bytesAt s (at + 4) n) ≡ fault 4 runBgpLs o
+  inner-unfit h = inner-wrong o t _ (judged ∙ h)
+
+-- Known there by the kind of its rule.
+pub known-by : (r : Rule) (c : ℕ) (k : Kind) → r ≡ ruleOfCode c → r .kind ≡ k → isOfSets k ≡ knownInside c
+unfolding knownInside
+known-by r c k e f = sym (code-of-sets c ∙ ap (λ (q : Rule). isOfSets (q .kind)) (sym e) ∙ ap isOfSets f)
+
+pub not-of-sets : (k : Kind) → OneOf (0 ∷ 3 ∷ 4 ∷ []) (tagOf the-type k) → false ≡ isOfSets k
+unfolding isOfSets
+not-of-sets (Link i) h = refl
+not-of-sets (Application i) h = absurd (⊎-elim (λ e. omega arith) (λ g. ⊎-elim (λ e. omega arith) (λ e. omega arith) g) h)
+not-of-sets Srlg h = absurd (⊎-elim (λ e. omega arith) (λ g. ⊎-elim (λ e. omega arith) (λ e. omega arith) g) h)
+not-of-sets Asla h = refl
+not-of-sets Unknown h = refl
+
+pub known-and : (k m b : Bool) → k ≡ true → b ≡ m → b ≡ k && m
+known-and k m b e h = rw e h
+
+pub unknown-and : (k m : Bool) → k ≡ false → false ≡ k && m
+unknown-and k m e = rw e
+
+-- A check of a list, at a place.
+pub two-bytes : 0 < 2
+two-bytes = omega arith
+
+abbrev pub Listed : ℕ → List ℕ → ℕ → ℕ → Type 0
+Listed base s seen at = Once runBgpLs knownInside checkInner 2 two-bytes base s 0 (faultsOnce runBgpLs knownInside checkInner [] (elements 2 base s)) seen at
 
 -- ---- a 1122
 
@@ -132,12 +157,12 @@ module _ (at : ℕ) (v : List ℕ) where
       asla-past h = rw (le-ltb (length v) 4 long, p, lt-ltb (length v) (aslaHeader v) h)
 
       -- the list of the code's slice from n on
-      pub asla-inner : (n : ℕ) → n ≡ aslaHeader v → n ≤ length v → faults runBgpLs checkInner (elements 2 (at + 4 + n) (take (length v - n) (drop n v))) ≡ checkAsla at v
+      pub asla-inner : (n : ℕ) → n ≡ aslaHeader v → n ≤ length v → faultsOnce runBgpLs knownInside checkInner [] (elements 2 (at + 4 + n) (take (length v - n) (drop n v))) ≡ checkAsla at v
       unfolding checkAsla innerElements
       asla-inner n e h =
-          ap (λ (l : List ℕ). faults runBgpLs checkInner (elements 2 (at + 4 + n) l)) (ap (λ (k : ℕ). take k (drop n v)) (sym (length-drop n v)) ∙ take-length (drop n v))
+          ap (λ (l : List ℕ). faultsOnce runBgpLs knownInside checkInner [] (elements 2 (at + 4 + n) l)) (ap (λ (k : ℕ). take k (drop n v)) (sym (length-drop n v)) ∙ take-length (drop n v))
           ∙ rw (le-ltb (length v) 4 long, p, le-ltb (length v) (aslaHeader v) (omega arith))
-          (ap (λ (k : ℕ). faults runBgpLs checkInner (elements 2 (at + 4 + k) (drop k v))) e)
+          (ap (λ (k : ℕ). faultsOnce runBgpLs knownInside checkInner [] (elements 2 (at + 4 + k) (drop k v))) e)
 
 -- ---- a top-level element
 

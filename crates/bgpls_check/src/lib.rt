@@ -1,12 +1,15 @@
 // The checks of a BGP-LS run that anybody may have written.
 ghost use mathlib.Core.Path.{_≡_};
 ghost use mathlib.Core.Bool.{_&&_};
-ghost use Prim.Native.Nat.{_+_, _≤_, _<_};
+ghost use mathlib.Core.List.{List, []};
+ghost use Prim.Native.Nat.{ℕ, _+_, _≤_, _<_};
 ghost use lib.ListN.{length};
 ghost use Rattle.linkstate.specs.Replies.{fault, runBgpLs};
-ghost use Rattle.linkstate.specs.Elements.{elements, faults};
+ghost use Rattle.linkstate.specs.Lists.{member};
+ghost use Rattle.linkstate.specs.Elements.{elements, faultsOnce};
 ghost use Rattle.linkstate.specs.Kinds.{wrongInside, wrongAtTop};
-ghost use Rattle.linkstate.specs.BgpLs.{sabmLength, udabmLength, isMaskLength, checkInner, checkAsla, checkTop, runVerdict};
+ghost use Rattle.linkstate.specs.BgpLs.{sabmLength, udabmLength, isMaskLength, checkInner, knownInside, checkAsla, checkTop, runVerdict};
+ghost use Rattle.repeats.specs.Walked.{Walked};
 ghost use Rattle.replies.specs.Told.{toldChecked};
 use frames::Frame;
 use frames::frame_two;
@@ -58,12 +61,36 @@ fn wrong_at_top(code: usize, n: usize) -> bool
     !fits(size, n)
 }
 
+// Whether a code is known inside a 1122: that of a kind of applications.
+fn is_known(code: usize) -> bool
+    ensures { λ r. ⌜ r ≡ knownInside code ⌝ }
+{
+    let kind = classify_code(code).kind;
+    match kind {
+        Kind::Application(_) => true,
+        Kind::Srlg => true,
+        _ => false,
+    }
+}
+
+// Whether the code is known and stands before a place in its list.
+fn known_before(s: &[u8], at: usize, code: usize) -> bool
+    requires { ⌜ ((ts : List ℕ) × Walked 2 (now s) at 0 ts) ⌝ }
+    ensures { λ r. ⌜ ((ts : List ℕ) → Walked 2 (now (s .entry)) at 0 ts → r ≡ knownInside code && member code ts) ⌝ }
+{
+    if is_known(code) {
+        return repeats::stood_two(s, 0, at, code);
+    }
+    false
+}
+
 // The inner elements of a 1122, the first of which is at the offset `base` of the run.
 pub fn check_inner(s: &[u8], base: usize) -> Checked
     requires { ⌜ base + length (now s) ≤ 524288 ⌝ }
-    ensures { λ r. ⌜ toldChecked r ≡ faults runBgpLs checkInner (elements 2 base (now (s .entry))) ⌝ }
+    ensures { λ r. ⌜ toldChecked r ≡ faultsOnce runBgpLs knownInside checkInner [] (elements 2 base (now (s .entry))) ⌝ }
 {
     let mut at = 0;
+    let mut seen: u64 = 0;
     loop {
         let offset = base + at;
         match frame_two(s, at) {
@@ -72,6 +99,13 @@ pub fn check_inner(s: &[u8], base: usize) -> Checked
             Frame::Whole { kind, len } => {
                 if wrong_inside(kind, len) {
                     return refuse(4, offset);
+                }
+                let doubt = repeats::may_have_stood(seen, kind);
+                seen = repeats::with_kind(seen, kind);
+                if doubt {
+                    if known_before(s, at, kind) {
+                        return refuse(8, offset);
+                    }
                 }
                 at = at + 4 + len;
             }

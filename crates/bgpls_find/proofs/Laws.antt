@@ -13,7 +13,7 @@ use Rattle.linkstate.specs.Lists.{keep, each}
 use Rattle.linkstate.specs.Bytes.{number, bytesAt}
 use Rattle.linkstate.specs.Masks.{bit, inMasks}
 use Rattle.linkstate.specs.Replies.{Verdict, accepted, fault, runBgpLs, _then_}
-use Rattle.linkstate.specs.Elements.{Element, element, cut, lengthOf, elements, faults}
+use Rattle.linkstate.specs.Elements.{Element, element, cut, lengthOf, elements, faults, faultsOnce}
 use Rattle.linkstate.specs.Attributes.{Attribute, attribute, ofKind}
 use Rattle.linkstate.specs.Sides.{Advertisement}
 use Rattle.linkstate.specs.BgpLs.{sabmLength, udabmLength, aslaHeader, notIgnored, checkAsla, checkTop, attributesOf, advertisement, advertisementsOf, innerElements}
@@ -92,7 +92,7 @@ sound at t v h e = record { fixed = go (ltb (length v) 4) refl checked; masks = 
 
     go : (b : Bool) → ltb (length v) 4 ≡ b
         → cond b (fault 3 runBgpLs at)
-        (cond (not (notIgnored v)) accepted (cond (ltb (length v) (aslaHeader v)) (fault 3 runBgpLs at) (faults runBgpLs Rattle.linkstate.specs.BgpLs.checkInner (innerElements at v))))
+        (cond (not (notIgnored v)) accepted (cond (ltb (length v) (aslaHeader v)) (fault 3 runBgpLs at) (faultsOnce runBgpLs Rattle.linkstate.specs.BgpLs.knownInside Rattle.linkstate.specs.BgpLs.checkInner [] (innerElements at v))))
         ≡ accepted → 4 ≤ length v
     go true f k = absurd (not-accepted 3 runBgpLs at k)
     go false f k = ltb-false (length v) 4 f

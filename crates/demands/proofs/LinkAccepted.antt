@@ -1,7 +1,7 @@
 -- Rule L18, of an IS-IS link: its checks refuse by 1 to 4 alone, so it is accepted exactly when no number but 5 refuses its export. Assumes nothing.
 use mathlib.Core.Path.{refl}
 use mathlib.Core.Bool.{Bool, cond, _&&_, _||_, not}
-use mathlib.Core.List.{List}
+use mathlib.Core.List.{List, []}
 use Prim.Native.Nat.{ℕ, _+_, _%_}
 use lib.Dec.{ltb, eqb}
 use lib.ListN.{length}
@@ -11,11 +11,11 @@ use Rattle.linkstate.specs.Replies.{Run, accepted, fault, runA, runB}
 use Rattle.linkstate.specs.Elements.{elements}
 use Rattle.isis.specs.Types.{wrongInA}
 use Rattle.isis.specs.MaskHeader.{lFlag, headerLength, maskTooLong, lForNobody}
-use Rattle.isis.specs.RunA.{listElements, checkAttribute, checkAsla, checkA}
+use Rattle.isis.specs.RunA.{listElements, checkAttribute, knownType, checkAsla, checkA}
 use Rattle.isis.specs.RunB.{afterNeighbour, identifierBytes, identifiers, srlgValues, knownIdentifiers, checkIdentifier, ignored, checkSrlg, checkB}
 use Rattle.isis.specs.Link.{linkVerdict, exportLink}
 use Rattle.rivals.specs.Signed.{LinkAccepted}
-use Rattle.rivals.proofs.Acceptance.{By, by-none, by-then, by-fault, by-cond, by-if, by-faults, by-refuses, accepted-only5, only5-accepted}
+use Rattle.rivals.proofs.Acceptance.{By, by-none, by-then, by-fault, by-cond, by-if, by-faults, by-once, by-refuses, accepted-only5, only5-accepted}
 use Rattle.demands.specs.Demands.{ofChecks}
 
 cut-off : (run : Run) (at : ℕ) → By ofChecks (fault 3 run at)
@@ -36,7 +36,7 @@ asla-by at v =
     by-cond (ltb (length v) 2) (cut-off runA at)
     (by-cond (maskTooLong v) by-none
     (by-cond (ltb (length v) (headerLength v)) (cut-off runA at)
-    (by-cond (lForNobody v) by-none (by-cond (lFlag v) by-none (by-faults refl runA checkAttribute attribute-by (listElements at v))))))
+    (by-cond (lForNobody v) by-none (by-cond (lFlag v) by-none (by-once refl refl runA knownType checkAttribute attribute-by [] (listElements at v))))))
 
 a-by : (at t : ℕ) (v : List ℕ) → By ofChecks (checkA at t v)
 unfolding checkA

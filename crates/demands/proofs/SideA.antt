@@ -13,15 +13,16 @@ use Rattle.linkstate.specs.Lists.{each, lookup, member}
 use Rattle.linkstate.specs.Bytes.{bytesAt}
 use Rattle.linkstate.specs.Kinds.{codes}
 use Rattle.linkstate.specs.Replies.{accepted, runA}
-use Rattle.linkstate.specs.Elements.{Element, element, cut, elements, faults}
+use Rattle.linkstate.specs.Elements.{Element, element, cut, elements, faults, faultsOnce}
 use Rattle.linkstate.specs.Attributes.{Attribute, attribute}
 use Rattle.linkstate.specs.Sides.{Advertisement, ofLive}
 use Rattle.isis.specs.Types.{typeInA, types, hasType, codeOfType, wrongInA}
 use Rattle.isis.specs.MaskHeader.{lFlag, headerLength, maskTooLong, lForNobody, advertisement}
-use Rattle.isis.specs.RunA.{listElements, checkAttribute, checkAsla, checkA, attributesOf, liveAsla, aslaAdvertisements, sideA}
+use Rattle.isis.specs.RunA.{listElements, checkAttribute, knownType, checkAsla, checkA, attributesOf, liveAsla, aslaAdvertisements, sideA}
 use Rattle.isis.proofs.TypeLaws.{metric-type}
 use Rattle.linkstate.proofs.ElementLaws.{at-place, rest-place}
 use Rattle.linkstate.proofs.ListLaws.{or-l, or-r, keep-mem, each-mem}
+use Rattle.linkstate.proofs.WalkLaws.{once-faults}
 use Rattle.rivals.proofs.RunLaws.{faults-mem}
 use Rattle.demands.specs.Demands.{inA}
 use Rattle.demands.proofs.Passed.{unfaulted}
@@ -90,10 +91,11 @@ list-stands a at v here h l =
     go (rest-place a (at + 2) (headerLength v) v here (ltb-false (length v) (headerLength v) (within .0))) (lFlag v) list
   where
     go : bytesAt a (at + 2 + headerLength v) (length (drop (headerLength v) v)) ≡ drop (headerLength v) v
-        → (b : Bool) → cond b accepted (faults runA checkAttribute (listElements at v)) ≡ accepted → AllStand a (cond b [] (each attributesOf (listElements at v)))
+        → (b : Bool) → cond b accepted (faultsOnce runA knownType checkAttribute [] (listElements at v)) ≡ accepted → AllStand a (cond b [] (each attributesOf (listElements at v)))
     go e true k = λ t i. absurd (List·Memᴰ·not-nil i)
     go e false k =
-        elements-stand a (at + 2 + headerLength v) (drop (headerLength v) v) e (λ o t w i m. attribute-right o t w (faults-mem runA checkAttribute (listElements at v) k i))
+        let passed = once-faults runA knownType checkAttribute [] (listElements at v) k in
+        elements-stand a (at + 2 + headerLength v) (drop (headerLength v) v) e (λ o t w i m. attribute-right o t w (faults-mem runA checkAttribute (listElements at v) passed i))
 
 -- ---- the side
 

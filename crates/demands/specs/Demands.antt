@@ -24,9 +24,9 @@ exportOf a b c = export (meaningOf a b c)
 abbrev pub inA : Sent
 inA k v = cond (eqb k 1092) (drop 1 v) v
 
--- R1 to R4. What the checks of a link refuse by.
+-- R1 to R4, E5a. What the checks of a link refuse by.
 abbrev pub ofChecks : List ℕ
-ofChecks = 1 ∷ 2 ∷ 3 ∷ 4 ∷ []
+ofChecks = 1 ∷ 2 ∷ 3 ∷ 4 ∷ 8 ∷ []
 
 pub record Demands : Type 0 where
   -- Demands 2 and 3 hold of every accepted IS-IS link, whatever its bytes.

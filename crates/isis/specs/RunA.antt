@@ -6,7 +6,7 @@ use lib.Dec.{ltb, eqb}
 use lib.ListN.{length, drop}
 use Rattle.linkstate.specs.Lists.{each}
 use Rattle.linkstate.specs.Replies.{Verdict, accepted, fault, runA}
-use Rattle.linkstate.specs.Elements.{Element, element, cut, elements, faults}
+use Rattle.linkstate.specs.Elements.{Element, element, cut, elements, faultsOnce}
 use Rattle.linkstate.specs.Attributes.{Attribute, attribute}
 use Rattle.linkstate.specs.Sides.{Advertisement, Side}
 use Rattle.isis.specs.Types.{codeOfType, wrongInA}
@@ -20,13 +20,17 @@ listElements at v = elements 1 (at + 2 + headerLength v) (drop (headerLength v) 
 unfoldable pub checkAttribute : ℕ → ℕ → List ℕ → Verdict
 checkAttribute at t v = cond (wrongInA t (length v)) (fault 4 runA at) accepted
 
--- A3, A4, R11. The checks of an ASLA, in order; what they do not reach is accepted.
+-- E5b. What is known in run A: the thirteen types that carry a kind, the link's bandwidths too; an ASLA is not.
+unfoldable pub knownType : ℕ → Bool
+knownType t = not (eqb (codeOfType t) 0)
+
+-- A3, A4, R11, E5b. The checks of an ASLA, in order; what they do not reach is accepted. No known type stands twice in a list that is read.
 unfoldable pub checkAsla : ℕ → List ℕ → Verdict
 checkAsla at v =
     cond (ltb (length v) 2) (fault 3 runA at)
     (cond (maskTooLong v) accepted
     (cond (ltb (length v) (headerLength v)) (fault 3 runA at)
-    (cond (lForNobody v) accepted (cond (lFlag v) accepted (faults runA checkAttribute (listElements at v))))))
+    (cond (lForNobody v) accepted (cond (lFlag v) accepted (faultsOnce runA knownType checkAttribute [] (listElements at v))))))
 
 -- A2, K3. The check of an element of run A: type 16 is ASLA; of any other the length is checked if its kind is known, else nothing.
 unfoldable pub checkA : ℕ → ℕ → List ℕ → Verdict

@@ -11,12 +11,15 @@ use lib.Dec.{ltb}
 use lib.ListN.{length, take, drop, getD, length-drop}
 use lib.Seq.{take-all, take-nil, take-take, length-take-le}
 use Rattle.linkstate.specs.Replies.{runA, accepted, fault}
-use Rattle.linkstate.specs.Elements.{elements, faults}
-use Rattle.linkstate.proofs.WalkLaws.{left}
-use Rattle.frames.proofs.Laws.{IsWhole, value-length, turn-passed, turn-refused}
+use Rattle.linkstate.specs.Elements.{elements, faultsOnce}
+use Rattle.linkstate.specs.Lists.{member}
+use Rattle.linkstate.specs.Bytes.{bytesAt}
+use Rattle.linkstate.proofs.WalkLaws.{type-one}
+use Rattle.frames.proofs.Laws.{IsWhole, value-length}
+use Rattle.repeats.proofs.Turns.{Once}
 use Rattle.isis.specs.Types.{wrongInA}
 use Rattle.isis.specs.MaskHeader.{lFlag, headerLength, maskTooLong, lForNobody}
-use Rattle.isis.specs.RunA.{listElements, checkAttribute, checkAsla, checkA}
+use Rattle.isis.specs.RunA.{listElements, checkAttribute, knownType, checkAsla, checkA}
 use Rattle.isis_check_a.specs.declared.Header.{Header}
 use Rattle.isis_check_a.specs.declared.Masks.{Masks}
 use Rattle.isis_check_a.specs.Headers.{headerOf, tooLong, forNobody, bytesBefore, masksIn}
@@ -34,14 +37,37 @@ module _ (at t : ℕ) (v : List ℕ) (n : ℕ) (l : length v ≡ n) where
   unfolding checkAttribute
   attribute-wrong e = rw (l, e)
 
--- one turn over an attribute list
-module _ (s : List ℕ) (at n : ℕ) (f : IsWhole 1 s at (getD s at 0) n) where
-  pub list-on : wrongInA (getD s at 0) n ≡ false → faults runA checkAttribute (left 1 0 s (at + 2 + n)) ≡ faults runA checkAttribute (left 1 0 s at)
-  list-on w = turn-passed runA checkAttribute 1 (omega arith) 0 s at at (sym (zero-add at)) _ n f (attribute-fits _ _ _ n (value-length 1 s at _ n f) w)
+-- By the type that stands there, as the code reads it.
+module _ (s : List ℕ) (at t n : ℕ) (f : IsWhole 1 s at t n) where
+  pub type-read : getD s at 0 ≡ t
+  type-read = sym (type-one s at) ∙ f .type
 
-  pub list-wrong : wrongInA (getD s at 0) n ≡ true → fault 4 runA at ≡ faults runA checkAttribute (left 1 0 s at)
-  unfolding fault
-  list-wrong w = turn-refused runA checkAttribute 1 (omega arith) 0 s at at (sym (zero-add at)) _ n f _ (attribute-wrong _ _ _ n (value-length 1 s at _ n f) w)
+  pub by-type : (b : Bool) (ts : List ℕ) → b ≡ knownType (getD s at 0) && member (getD s at 0) ts → b ≡ knownType t && member t ts
+  by-type b ts e = e ∙ ap (λ (x : ℕ). knownType x && member x ts) type-read
+
+  module _ (b : Bool) (e : b ≡ wrongInA (getD s at 0) n) where
+    judged : b ≡ wrongInA t n
+    judged = e ∙ ap (λ (x : ℕ). wrongInA x n) type-read
+
+    pub list-fits : b ≡ false → checkAttribute at t (bytesAt s (at + 2) n) ≡ accepted
+    list-fits h = attribute-fits _ _ _ n (value-length 1 s at t n f) (sym judged ∙ h)
+
+    pub list-wrong : b ≡ true → checkAttribute at t (bytesAt s (at + 2) n) ≡ fault 4 runA at
+    list-wrong h = attribute-wrong _ _ _ n (value-length 1 s at t n f) (sym judged ∙ h)
+
+-- Known and stood before, or not known.
+pub known-and : (k m b : Bool) → k ≡ true → b ≡ m → b ≡ k && m
+known-and k m b e h = rw e h
+
+pub unknown-and : (k m : Bool) → k ≡ false → false ≡ k && m
+unknown-and k m e = rw e
+
+-- A check of a list that began at `from`, at a place.
+pub one-byte : 0 < 1
+one-byte = omega arith
+
+abbrev pub Listed : List ℕ → ℕ → ℕ → ℕ → Type 0
+Listed s from seen at = Once runA knownType checkAttribute 1 one-byte 0 s from (faultsOnce runA knownType checkAttribute [] (elements 1 from (drop from s))) seen at
 
 -- ---- the mask header
 
@@ -155,10 +181,10 @@ module _ (at : ℕ) (v : List ℕ) where
             go true = refl
             go false = refl
 
-        pub asla-list : lFlag v ≡ false → faults runA checkAttribute (elements 1 (at + 2 + list) (drop list v)) ≡ checkAsla at v
+        pub asla-list : lFlag v ≡ false → faultsOnce runA knownType checkAttribute [] (elements 1 (at + 2 + list) (drop list v)) ≡ checkAsla at v
         unfolding checkAsla lForNobody listElements
         asla-list l =
-            ap (λ (n : ℕ). faults runA checkAttribute (elements 1 (at + 2 + n) (drop n v))) is
+            ap (λ (n : ℕ). faultsOnce runA knownType checkAttribute [] (elements 1 (at + 2 + n) (drop n v))) is
             ∙ rw (le-ltb (length v) 2 h, m, le-ltb (length v) (headerLength v) (omega arith), l)
 
 -- ---- a sub-TLV

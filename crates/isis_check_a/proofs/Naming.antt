@@ -14,7 +14,7 @@ use Rattle.linkstate.specs.Lists.{any, each}
 use Rattle.linkstate.specs.Bytes.{bytesAt}
 use Rattle.linkstate.specs.Masks.{bit, inMasks}
 use Rattle.linkstate.specs.Replies.{Run, runA, Verdict, accepted, refused, Refusal, fault}
-use Rattle.linkstate.specs.Elements.{Element, element, elements, faults}
+use Rattle.linkstate.specs.Elements.{Element, element, elements, faults, faultsOnce}
 use Rattle.linkstate.specs.Sides.{Advertisement, names}
 use Rattle.linkstate.proofs.ListLaws.{and-l, and-r, and-false, or-l, or-r}
 use Rattle.linkstate.proofs.WalkLaws.{left, typeAt, type-one, each-end, each-turn}
@@ -32,7 +32,7 @@ use Rattle.frames.specs.Frames.{frameIn}
 use Rattle.frames.proofs.Laws.{IsWhole, frame-says, turn-end, turn-cut, turn-passed, turn-refused}
 use Rattle.isis.specs.Types.{wrongInA}
 use Rattle.isis.specs.MaskHeader.{lFlag, sabmLength, udabmLength, headerLength, maskTooLong, lForNobody, advertisement}
-use Rattle.isis.specs.RunA.{attributesOf, listElements, liveAsla, aslaAdvertisements, checkAttribute, checkAsla, checkA}
+use Rattle.isis.specs.RunA.{attributesOf, listElements, liveAsla, aslaAdvertisements, checkAttribute, knownType, checkAsla, checkA}
 use Rattle.isis_check_a.specs.declared.Header.{Header}
 use Rattle.isis_check_a.specs.declared.Masks.{Masks}
 use Rattle.isis_check_a.specs.declared.Masks.the-variants.{Ignored, Past, End}
@@ -191,11 +191,11 @@ module _ (a : List ℕ) (at end : ℕ) (fits : end ≤ length a) (two : at + 2 +
           }
 
       -- the list stands at the end of the run's front, which is lent
-      module _ (l : h .l ≡ false) (c : Checked) (told : toldChecked c ≡ faults runA checkAttribute (elements 1 (at + 2 + list) (drop (at + 2 + list) (take (end - 0) a)))) where
+      module _ (l : h .l ≡ false) (c : Checked) (told : toldChecked c ≡ faultsOnce runA knownType checkAttribute [] (elements 1 (at + 2 + list) (drop (at + 2 + list) (take (end - 0) a)))) where
         list-told : toldChecked c ≡ checkAsla at asla
         list-told =
             told
-            ∙ ap (λ (s : List ℕ). faults runA checkAttribute (elements 1 (at + 2 + list) s)) (ap (drop (at + 2 + list)) (front-is a end fits) ∙ sym (drop-drop list (at + 2) (take end a)))
+            ∙ ap (λ (s : List ℕ). faultsOnce runA knownType checkAttribute [] (elements 1 (at + 2 + list) s)) (ap (drop (at + 2 + list)) (front-is a end fits) ∙ sym (drop-drop list (at + 2) (take end a)))
             ∙ asla-list at asla (omega (arith, asla-length)) short-in list list-is (omega (arith, asla-length, list-in)) (sym (header-l h asla header-in) ∙ l)
 
         pub listed-in : c ≡ Check.Accepted → Answers m (Accepted r)

@@ -1,18 +1,22 @@
 // The checks of run A: framing, the mask header of an ASLA sub-TLV, and the lengths of attributes (document 01, "Advertisements in A").
 ghost use mathlib.Core.Path.{_≡_};
-ghost use mathlib.Core.List.{[], _∷_};
-ghost use Prim.Native.Nat.{_+_, _≤_, _<_};
+ghost use mathlib.Core.Bool.{_&&_};
+ghost use mathlib.Core.List.{List, [], _∷_};
+ghost use Prim.Native.Nat.{ℕ, _+_, _≤_, _<_};
 ghost use lib.ListN.{length, drop};
 ghost use Rattle.linkstate.specs.Replies.{runA, fault};
-ghost use Rattle.linkstate.specs.Elements.{element, elements, faults};
+ghost use Rattle.linkstate.specs.Lists.{member};
+ghost use Rattle.linkstate.specs.Elements.{element, elements, faults, faultsOnce};
 ghost use Rattle.replies.specs.Told.{toldRun, toldChecked};
 ghost use Rattle.rules.specs.Names.{ChecksBehind, ChecksSide};
 ghost use Rattle.isis.specs.Types.{wrongInA};
-ghost use Rattle.isis.specs.RunA.{checkAttribute, checkAsla, checkA, aslaAdvertisements, sideA};
+ghost use Rattle.repeats.specs.Walked.{Walked};
+ghost use Rattle.isis.specs.RunA.{checkAttribute, knownType, checkAsla, checkA, aslaAdvertisements, sideA};
 ghost use Rattle.isis_check_a.specs.Legacy.{forApplications};
 ghost use Rattle.isis_check_a.specs.Headers.{headerOf, tooLong, forNobody, bytesBefore, masksIn, valueIn};
 use frames::Frame;
 use frames::frame_one;
+use kinds::Kind;
 use replies::Checked;
 use replies::Run;
 use rules::Checking;
@@ -101,37 +105,72 @@ fn wrong_by_rule(t: u8, n: usize) -> bool
     !kinds::fits(size, n)
 }
 
-// The same; the lengths that most values have are tested first.
+// The same; the lengths that most values have are tested first. The bits are those of the types that four bytes do not fit.
 fn wrong_length(t: u8, n: usize) -> bool
     ensures { λ r. ⌜ r ≡ wrongInA t n ⌝ }
 {
     if n == 4 {
-        return (t == 11) | (t == 18) | (t == 34);
+        let unfit: u64 = 0x400040800;
+        if !masks::has(unfit, (t % 64) as u32) {
+            return false;
+        }
     }
     if (n == 3) & (t == 18) {
         return false;
     }
-    if n == 8 {
-        if (t == 14) | (t == 34) {
-            return false;
-        }
+    if (n == 8) & (t == 34) {
+        return false;
+    }
+    if (n == 8) & (t == 14) {
+        return false;
     }
     wrong_by_rule(t, n)
+}
+
+// Whether run A knows the type.
+fn is_known(t: u8) -> bool
+    ensures { λ r. ⌜ r ≡ knownType t ⌝ }
+{
+    let kind = isis_kinds::classify_type(t).kind;
+    match kind {
+        Kind::Asla => false,
+        Kind::Unknown => false,
+        _ => true,
+    }
+}
+
+// Whether the type is known and stands before a place in its list.
+fn known_before(s: &[u8], from: usize, at: usize, t: u8) -> bool
+    requires { ⌜ ((ts : List ℕ) × Walked 1 (now s) at from ts) ⌝ }
+    ensures { λ r. ⌜ ((ts : List ℕ) → Walked 1 (now (s .entry)) at from ts → r ≡ knownType t && member t ts) ⌝ }
+{
+    if is_known(t) {
+        return repeats::stood_one(s, from, at, t as usize);
+    }
+    false
 }
 
 // The attribute list that stands in run A from a place on, as far as s goes.
 fn check_list(s: &[u8], from: usize) -> Checked
     requires { ⌜ from ≤ length (now s) ⌝ }
-    ensures { λ r. ⌜ toldChecked r ≡ faults runA checkAttribute (elements 1 from (drop from (now (s .entry)))) ⌝ }
+    ensures { λ r. ⌜ toldChecked r ≡ faultsOnce runA knownType checkAttribute [] (elements 1 from (drop from (now (s .entry)))) ⌝ }
 {
     let mut at = from;
+    let mut seen: u64 = 0;
     loop {
         match frame_one(s, at) {
             Frame::End => return Checked::Accepted,
             Frame::Cut => return refused(3, Run::A, at),
-            Frame::Whole { kind: _, len } => {
+            Frame::Whole { kind, len } => {
                 if wrong_length(s[at], len) {
                     return refused(4, Run::A, at);
+                }
+                let doubt = repeats::may_have_stood(seen, kind);
+                seen = repeats::with_kind(seen, kind);
+                if doubt {
+                    if known_before(s, from, at, s[at]) {
+                        return refused(8, Run::A, at);
+                    }
                 }
                 at = at + 2 + len;
             }

@@ -13,15 +13,15 @@ use lib.Seq.{drop-length, drop-at}
 use Rattle.linkstate.specs.Lists.{each, keep}
 use Rattle.linkstate.specs.Bytes.{bytesAt}
 use Rattle.linkstate.specs.Replies.{Verdict, accepted, runA, fault}
-use Rattle.linkstate.specs.Elements.{Element, element, cut, elements, faults}
+use Rattle.linkstate.specs.Elements.{Element, element, cut, elements, faults, faultsOnce}
 use Rattle.linkstate.specs.Attributes.{Attribute}
 use Rattle.linkstate.specs.Sides.{Advertisement, names, general, rsvpTeAlone, ofLive}
 use Rattle.linkstate.proofs.ElementLaws.{none-left}
 use Rattle.linkstate.proofs.ListLaws.{keep-append, each-append}
-use Rattle.linkstate.proofs.WalkLaws.{left, not-accepted}
+use Rattle.linkstate.proofs.WalkLaws.{left, not-accepted, once-faults}
 use Rattle.octets.proofs.Laws.{length-bytesAt, bytesAt-add}
 use Rattle.isis.specs.MaskHeader.{lFlag, maskTooLong, lForNobody, headerLength, advertisement}
-use Rattle.isis.specs.RunA.{listElements, checkAttribute, checkAsla, checkA, attributesOf, liveAsla, aslaAdvertisements, sideA}
+use Rattle.isis.specs.RunA.{listElements, checkAttribute, knownType, checkAsla, checkA, attributesOf, liveAsla, aslaAdvertisements, sideA}
 use Rattle.isis_grids.specs.declared.Which.{Which}
 use Rattle.isis_grids.specs.declared.Which.the-variants.{Naming, General, RsvpTeAlone, WithoutL}
 use Rattle.isis_grids.specs.Grid.{unchecked}
@@ -36,11 +36,11 @@ cond-passed true n o w e = absurd (not-accepted n runA o e)
 cond-passed false n o w e = (refl, e)
 
 module _ (at : ℕ) (v : List ℕ) (ok : checkAsla at v ≡ accepted) where
-  fixed : (ltb (length v) 2 ≡ false) × (cond (maskTooLong v) accepted (cond (ltb (length v) (headerLength v)) (fault 3 runA at) (cond (lForNobody v) accepted (cond (lFlag v) accepted (faults runA checkAttribute (listElements at v))))) ≡ accepted)
+  fixed : (ltb (length v) 2 ≡ false) × (cond (maskTooLong v) accepted (cond (ltb (length v) (headerLength v)) (fault 3 runA at) (cond (lForNobody v) accepted (cond (lFlag v) accepted (faultsOnce runA knownType checkAttribute [] (listElements at v))))) ≡ accepted)
   unfolding checkAsla
   fixed = cond-passed (ltb (length v) 2) 3 at _ ok
 
-  masked : maskTooLong v ≡ false → (ltb (length v) (headerLength v) ≡ false) × (cond (lForNobody v) accepted (cond (lFlag v) accepted (faults runA checkAttribute (listElements at v))) ≡ accepted)
+  masked : maskTooLong v ≡ false → (ltb (length v) (headerLength v) ≡ false) × (cond (lForNobody v) accepted (cond (lFlag v) accepted (faultsOnce runA knownType checkAttribute [] (listElements at v))) ≡ accepted)
   masked m = cond-passed (ltb (length v) (headerLength v)) 3 at _ (rw m at (fixed .1))
 
   pub headed : Headed v
@@ -48,7 +48,7 @@ module _ (at : ℕ) (v : List ℕ) (ok : checkAsla at v ≡ accepted) where
 
   pub list-ok : maskTooLong v ≡ false → lFlag v ≡ false → faults runA checkAttribute (listElements at v) ≡ accepted
   unfolding lForNobody
-  list-ok m l = rw l at (masked m .1)
+  list-ok m l = once-faults runA knownType checkAttribute [] (listElements at v) (rw l at (masked m .1))
 
 -- No test looks at the attributes.
 selects-same : (w : Which) (v : List ℕ) (ts us : List Attribute) → selects w (advertisement v ts) ≡ selects w (advertisement v us)

@@ -6,14 +6,14 @@ use Prim.Native.Nat.{ℕ, zero, suc, _+_, _-_, _%_, _≤_, _<_}
 use native.Mathlib.Omega.{arith}
 use borrow.Author.Tests.{eqb-true, ne-eqb, le-leb, lt-leb}
 use lib.Dec.{eqb, leb, lit<}
-use Rattle.linkstate.specs.Lists.{any, keep, lookup}
+use Rattle.linkstate.specs.Lists.{any, keep, lookup, member}
 use Rattle.linkstate.specs.Kinds as T
-use Rattle.linkstate.specs.Kinds.{kinds, hasCode, isApplications, wrongAtTop, wrongInside}
+use Rattle.linkstate.specs.Kinds.{kinds, applicationCodes, hasCode, isApplications, wrongAtTop, wrongInside}
 use Rattle.kinds.specs.declared.Kind.the-variants.{Application, Srlg, Asla, Unknown}
 use Rattle.kinds.specs.declared.Size.the-variants.{Exactly, FoursFrom, FoursWithin, Any}
 use Rattle.kinds.specs.declared.Size.{Size}
 use Rattle.kinds.specs.declared.Rule.{Rule}
-use Rattle.kinds.specs.Rules.{gridCodes, rowIn, rule, ruleOf, sizeOf, kindOf, ruleOfCode, fitsIn, wrongInsideBy, isKnown, isLink, KindOfCode}
+use Rattle.kinds.specs.Rules.{gridCodes, rowIn, rule, ruleOf, sizeOf, kindOf, ruleOfCode, fitsIn, wrongInsideBy, isKnown, isLink, isOfSets, KindOfCode}
 use Rattle.kinds.proofs.Computing.{computing}
 
 -- a fact at seven numbers in a row holds in their range
@@ -227,6 +227,21 @@ pub code-link : (c : ℕ) → T.isLinkCode c ≡ isLink ((ruleOfCode c) .kind)
 unfolding computing
 code-link c =
     by-rule kinds hasCode ruleOf 1122 c (λ r. isLink (r .kind)) (λ q. not (isApplications q)) (codes-once c) (λ q. owner-link (q .owner) (q .code)) refl refl refl
+
+owner-sets : (o : T.Owner) (c : ℕ) → isOfSets (kindOf o c) ≡ T.forApplications o
+unfolding isOfSets kindOf T.forApplications
+owner-sets T.link c = refl
+owner-sets T.applications c = go (eqb c 1096)
+  where
+    go : (b : Bool) → isOfSets (cond b Srlg (Application (rowIn gridCodes c))) ≡ true
+    go true = refl
+    go false = refl
+
+pub code-of-sets : (c : ℕ) → member c applicationCodes ≡ isOfSets ((ruleOfCode c) .kind)
+unfolding computing
+code-of-sets c =
+    sym (any-kept (hasCode c) isApplications kinds)
+    ∙ by-rule kinds hasCode ruleOf 1122 c (λ r. isOfSets (r .kind)) isApplications (codes-once c) (λ q. owner-sets (q .owner) (q .code)) refl refl refl
 
 -- every row of the table stands in its place
 Placed : List T.Kind → Type 0

@@ -82,6 +82,14 @@ isLink Srlg = false
 isLink Asla = false
 isLink Unknown = false
 
+-- Whether a kind is one of the eleven of applications.
+unfoldable pub isOfSets : Kind → Bool
+isOfSets (Link i) = false
+isOfSets (Application i) = true
+isOfSets Srlg = true
+isOfSets Asla = false
+isOfSets Unknown = false
+
 -- A kind is that of a code: its row is the code's.
 abbrev pub KindOfCode : Kind → ℕ → Type 0
 KindOfCode (Link i) c = (i < 3) × (c ≡ getD linkCodes i 0)

@@ -13,7 +13,7 @@ use lib.Seq.{drop-drop, drop-cons}
 use Rattle.linkstate.specs.Lists.{each}
 use Rattle.linkstate.specs.Bytes.{number, numberFrom, bytesAt}
 use Rattle.linkstate.specs.Replies.{Run, Verdict, accepted, refused, Refusal, fault, _then_, refusedIf, faultOfCall}
-use Rattle.linkstate.specs.Elements.{Element, element, cut, typeOf, lengthOf, sizeOf, elements, faults}
+use Rattle.linkstate.specs.Elements.{Element, element, cut, typeOf, lengthOf, sizeOf, elements, faults, faultsOnce}
 use Rattle.linkstate.proofs.ElementLaws.{none-left, first-cut, first-whole}
 
 -- What is left at a position.
@@ -148,6 +148,16 @@ module _ (run : Run) (check : ℕ → ℕ → List ℕ → Verdict) (w : ℕ) (p
       let k : at + (w + w) + n ≤ length s = omega (arith, faults-whole h a) in
       let t : (check (base + at) (typeAt w s at) (bytesAt s (at + (w + w)) n) then faults run check (left w base s (at + (w + w) + n))) ≡ accepted = sym (faults-turn n e k) ∙ a in
       (k, then-first _ _ t, then-second _ _ t)
+
+-- E5a. A list that is accepted with its types told apart is accepted without.
+pub once-faults : (run : Run) (known : ℕ → Bool) (check : ℕ → ℕ → List ℕ → Verdict) (seen : List ℕ) (es : List Element)
+    → faultsOnce run known check seen es ≡ accepted → faults run check es ≡ accepted
+unfolding faultsOnce faults
+once-faults run known check seen [] h = refl
+once-faults run known check seen (cut at ∷ es) h = h
+once-faults run known check seen (element at t v ∷ es) h =
+    let rest = then-second (check at t v) _ h in
+    then-passed (check at t v) (faults run check es) (then-first (check at t v) _ h) ∙ once-faults run known check (t ∷ seen) es (then-second _ _ rest)
 
 -- ---- a collection
 

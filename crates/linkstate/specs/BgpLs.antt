@@ -6,10 +6,10 @@ use lib.Dec.{eqb, ltb}
 use lib.ListN.{length, take, drop, getD}
 use Rattle.linkstate.specs.Lists.{each, member}
 use Rattle.linkstate.specs.Limits.{mostInBgpLs}
-use Rattle.linkstate.specs.Kinds.{wrongAtTop, wrongInside}
+use Rattle.linkstate.specs.Kinds.{applicationCodes, wrongAtTop, wrongInside}
 use Rattle.linkstate.specs.Masks.{others}
 use Rattle.linkstate.specs.Replies.{place, Verdict, accepted, fault, refusedIf, _then_, runBgpLs}
-use Rattle.linkstate.specs.Elements.{Element, element, cut, elements, faults}
+use Rattle.linkstate.specs.Elements.{Element, element, cut, elements, faults, faultsOnce}
 use Rattle.linkstate.specs.Attributes.{Attribute, attribute}
 use Rattle.linkstate.specs.Sides.{Advertisement, Side, named, generalSet, applicationSet}
 use Rattle.linkstate.specs.Questions.{Source}
@@ -39,12 +39,16 @@ innerElements at v = elements 2 (at + 4 + aslaHeader v) (drop (aslaHeader v) v)
 unfoldable pub checkInner : ℕ → ℕ → List ℕ → Verdict
 checkInner at t v = cond (wrongInside t (length v)) (fault 4 runBgpLs at) accepted
 
--- L12. The checks of a 1122: room for its fixed bytes, its mask lengths, room for its masks, then its inner elements.
+-- E5c. What is known inside a 1122: the eleven kinds of applications.
+unfoldable pub knownInside : ℕ → Bool
+knownInside t = member t applicationCodes
+
+-- L12, E5c. The checks of a 1122: room for its fixed bytes, its mask lengths, room for its masks, then its inner elements, none of them known twice.
 unfoldable pub checkAsla : ℕ → List ℕ → Verdict
 checkAsla at v =
     cond (ltb (length v) 4) (fault 3 runBgpLs at)
     (cond (not (notIgnored v)) accepted
-    (cond (ltb (length v) (aslaHeader v)) (fault 3 runBgpLs at) (faults runBgpLs checkInner (innerElements at v))))
+    (cond (ltb (length v) (aslaHeader v)) (fault 3 runBgpLs at) (faultsOnce runBgpLs knownInside checkInner [] (innerElements at v))))
 
 unfoldable pub checkTop : ℕ → ℕ → List ℕ → Verdict
 checkTop at t v = cond (eqb t 1122) (checkAsla at v) (cond (wrongAtTop t (length v)) (fault 4 runBgpLs at) accepted)

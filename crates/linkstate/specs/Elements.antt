@@ -1,10 +1,11 @@
 -- The elements of a run: a type, a length and a value, one after the other.
 -- One definition over w, the number of bytes of a type and of a length: 1 in IS-IS runs (rules A1, B1), 2 in BGP-LS runs (rule L1).
-use mathlib.Core.Bool.{Bool, cond}
+use mathlib.Core.Bool.{Bool, cond, _&&_}
 use mathlib.Core.List.{List, [], _∷_, _++_}
 use Prim.Native.Nat.{ℕ, zero, suc, pred, _+_}
 use lib.Dec.{leb, eqb}
 use lib.ListN.{length, take, drop}
+use Rattle.linkstate.specs.Lists.{member}
 use Rattle.linkstate.specs.Bytes.{number}
 use Rattle.linkstate.specs.Replies.{Run, Verdict, accepted, fault, _then_}
 
@@ -41,3 +42,11 @@ unfoldable pub faults : Run → (ℕ → ℕ → List ℕ → Verdict) → List 
 faults run check [] = accepted
 faults run check (cut at ∷ es) = fault 3 run at
 faults run check (element at t v ∷ es) = check at t v then faults run check es
+
+-- E5a. The same of a list in which no known type may stand twice: 8 at an element of a known type that stood before it, after its own check and before the
+-- next element. `seen` are the types before.
+unfoldable pub faultsOnce : Run → (ℕ → Bool) → (ℕ → ℕ → List ℕ → Verdict) → List ℕ → List Element → Verdict
+faultsOnce run known check seen [] = accepted
+faultsOnce run known check seen (cut at ∷ es) = fault 3 run at
+faultsOnce run known check seen (element at t v ∷ es) =
+    check at t v then cond (known t && member t seen) (fault 8 run at) accepted then faultsOnce run known check (t ∷ seen) es

@@ -19,7 +19,7 @@ pub record Place : Type 0 where
 unfoldable pub place : Run → ℕ → Place
 place r o = record { run = r; offset = o }
 
--- R8. A refusal: its number, and where the innermost faulty element begins.
+-- R8, E5a. A refusal: its number, 1 to 8, and where the innermost faulty element begins; of 8 it is the second one of its type.
 pub record Refusal : Type 0 where
   pub number : ℕ
   pub at : Place

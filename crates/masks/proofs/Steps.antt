@@ -30,7 +30,7 @@ every-step : (a b : Bool) → T (a && b) → T a × T b
 every-step true b h = (tt, h)
 every-step false b h = absurd h
 
-every-at : (f : ℕ → Bool) (k : ℕ) → T (every f k) → (n : ℕ) → n < k → T (f n)
+pub every-at : (f : ℕ → Bool) (k : ℕ) → T (every f k) → (n : ℕ) → n < k → T (f n)
 every-at f zero h n l = absurd (omega arith)
 every-at f (suc k) h n l = let s = every-step (f k) (every f k) h in below-suc (λ (i : ℕ). T (f i)) k (every-at f k (s .1)) (s .0) n l
 

@@ -1,7 +1,7 @@
 -- Rule L18, what accepted means. The definitions say it of the checks of the bytes; these theorems say it of the replies: what is accepted is refused
 -- a question by 5, 6 or 7 only and an export by 5 only, and what is not accepted is refused by what the checks say.
 use mathlib.Core.Path.{_≡_, refl, sym, ap, _∙_, subst}
-use mathlib.Core.Bool.{Bool, true, false, cond, not, false≢true}
+use mathlib.Core.Bool.{Bool, true, false, cond, not, false≢true, _&&_}
 use mathlib.Core.List.{List, [], _∷_}
 use Prim.Native.Nat.{ℕ}
 use native.Mathlib.Omega.{arith}
@@ -13,10 +13,10 @@ use Rattle.linkstate.specs.Limits.{mostInBgpLs}
 use Rattle.linkstate.specs.Kinds.{isCode, wrongAtTop, wrongInside}
 use Rattle.linkstate.specs.Attributes.{Attribute, ofKind, srlgs}
 use Rattle.linkstate.specs.Replies.{Run, Place, runA, runBgpLs, refusalAt, Refusal, Verdict, accepted, refused, fault, faultOfCall, refusedIf, _then_, unless, count, absent, found, askRefused, Asked, bytes, exportRefused, Exported}
-use Rattle.linkstate.specs.Elements.{Element, element, cut, elements, faults}
+use Rattle.linkstate.specs.Elements.{Element, element, cut, elements, faults, faultsOnce}
 use Rattle.linkstate.specs.Questions.{Subject, generally, Source, numberTooHigh, given, beforeAnswer, firstOf, unwritten, srlgAnswer, answer, ask, write}
 use Rattle.linkstate.specs.Meaning.{Accepted}
-use Rattle.linkstate.specs.BgpLs.{notIgnored, aslaHeader, innerElements, checkInner, checkAsla, checkTop, runVerdict, runSource}
+use Rattle.linkstate.specs.BgpLs.{notIgnored, aslaHeader, innerElements, checkInner, knownInside, checkAsla, checkTop, runVerdict, runSource}
 use Rattle.linkstate.proofs.Computing.{computing}
 use Rattle.linkstate.proofs.ListLaws.{all-mem, member-mem}
 use Rattle.rivals.specs.Refusing.{Only5Refuses, Only567Refuse, RefusesBy}
@@ -28,7 +28,7 @@ abbrev pub ofCalls : List ℕ
 ofCalls = 5 ∷ 6 ∷ 7 ∷ []
 
 abbrev pub ofRuns : List ℕ
-ofRuns = 1 ∷ 3 ∷ 4 ∷ []
+ofRuns = 1 ∷ 3 ∷ 4 ∷ 8 ∷ []
 
 -- A verdict refuses, if at all, by one of these numbers.
 pub data By (ns : List ℕ) : Verdict → Type 0 where
@@ -59,6 +59,14 @@ module _ {ns : List ℕ} where
   by-faults h run check c [] = by-none
   by-faults h run check c (cut at ∷ es) = by-fault 3 run at h
   by-faults h run check c (element at t v ∷ es) = by-then (c at t v) (by-faults h run check c es)
+
+  pub by-once : member 3 ns ≡ true → member 8 ns ≡ true → (run : Run) (known : ℕ → Bool) (check : ℕ → ℕ → List ℕ → Verdict) → ((at t : ℕ) (v : List ℕ) → By ns (check at t v))
+      → (seen : List ℕ) (es : List Element) → By ns (faultsOnce run known check seen es)
+  unfolding faultsOnce
+  by-once h k run known check c seen [] = by-none
+  by-once h k run known check c seen (cut at ∷ es) = by-fault 3 run at h
+  by-once h k run known check c seen (element at t v ∷ es) =
+      by-then (c at t v) (by-then (by-cond (known t && member t seen) (by-fault 8 run at k) by-none) (by-once h k run known check c (t ∷ seen) es))
 
   pub by-refuses : {v : Verdict} → By ns v → RefusesBy ns v
   by-refuses by-none x e = let z : _≡_ {A = ℕ} 0 1 = cc in absurd (omega arith)
@@ -119,7 +127,7 @@ run-by r = by-then (by-if (ltb mostInBgpLs (length r)) 1 refl) (by-faults refl r
         by-cond (ltb (length v) 4) (by-fault 3 runBgpLs at refl)
         (by-cond (not (notIgnored v)) by-none
         (by-cond (ltb (length v) (aslaHeader v)) (by-fault 3 runBgpLs at refl)
-        (by-faults refl runBgpLs checkInner (λ o t w. lengths (wrongInside t (length w)) o) (innerElements at v))))
+        (by-once refl refl runBgpLs knownInside checkInner (λ o t w. lengths (wrongInside t (length w)) o) [] (innerElements at v))))
 
     top : (at t : ℕ) (v : List ℕ) → By ofRuns (checkTop at t v)
     top at t v = by-cond (eqb t 1122) (asla at v) (lengths (wrongAtTop t (length v)) at)

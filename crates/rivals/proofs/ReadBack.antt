@@ -1,7 +1,7 @@
 -- Reading back what was written: the elements of written TLVs are these TLVs, one behind the other, and a set that is written is read.
 -- Places are no part of a meaning (rule L17), so attributes are compared without them (`unplaced`).
 use mathlib.Core.Path.{_≡_, refl, sym, ap, ap₂, _∙_, subst}
-use mathlib.Core.Bool.{Bool, true, false, cond, _&&_, _||_, not}
+use mathlib.Core.Bool.{Bool, true, false, cond, _&&_, _||_, not, false≢true}
 use mathlib.Core.List.{List, [], _∷_, _++_, map, append-nil, List·Memᴰ, List·Memᴰ·head, List·Memᴰ·tail}
 use Prim.Native.Nat.{ℕ, _+_, _≤_}
 use native.Mathlib.Omega.{arith}
@@ -12,13 +12,13 @@ use lib.Seq.{take-at, drop-at, drop-drop}
 use Rattle.linkstate.specs.Lists.{keep, each, empty, member}
 use Rattle.linkstate.specs.Bytes.{numberFrom, number, two, words, distinct, bytesOfWords}
 use Rattle.linkstate.specs.Replies.{Run, Verdict, accepted, _then_}
-use Rattle.linkstate.specs.Elements.{Element, element, cut, typeOf, lengthOf, sizeOf, elements, faults}
+use Rattle.linkstate.specs.Elements.{Element, element, cut, typeOf, lengthOf, sizeOf, elements, faults, faultsOnce}
 use Rattle.linkstate.specs.Attributes.{Attribute, attribute, ofKind, srlgs, firstValue, valueOf}
 use Rattle.linkstate.specs.Sides.{Advertisement}
 use Rattle.linkstate.specs.BgpLs.{sabmLength, udabmLength, notIgnored, aslaHeader, innerElements, attributesOf, advertisement, advertisementsOf}
 use Rattle.linkstate.specs.Export.{Tlv, tlv, bytesOf, present}
 use Rattle.linkstate.proofs.ElementLaws.{none-left, first-whole, moved, elements-moved}
-use Rattle.linkstate.proofs.ListLaws.{and-l, and-r, keep-map, different}
+use Rattle.linkstate.proofs.ListLaws.{and-l, and-r, keep-map, different, mem-member, and-false}
 
 -- ---- elements
 
@@ -85,6 +85,42 @@ sound-present check f (k ∷ ks) h = go (empty (f k)) refl (sound-present check 
     go : (b : Bool) → empty (f k) ≡ b → Sound check (present ks f) → Sound check (cond b (present ks f) (tlv k (f k) ∷ present ks f))
     go true e r = r
     go false e r = more (h k (List·Memᴰ·head refl) e) r
+
+head-member : (c k : ℕ) (before : List ℕ) → eqb c k || member c before ≡ false → member c (k ∷ before) ≡ false
+unfolding member
+head-member c k before q = q
+
+-- E5a. The TLVs of different kinds have no type twice.
+module _ (run : Run) (known : ℕ → Bool) (check : ℕ → ℕ → List ℕ → Verdict) where
+  none-placed : (before : List ℕ) (at : ℕ) → faultsOnce run known check before (placed at []) ≡ accepted
+  unfolding faultsOnce placed
+  none-placed before at = refl
+
+  one-placed : (before : List ℕ) (at t : ℕ) (v : List ℕ) (ts : List Tlv) → check at t v ≡ accepted → member t before ≡ false
+      → faultsOnce run known check (t ∷ before) (placed (at + (4 + length v)) ts) ≡ accepted → faultsOnce run known check before (placed at (tlv t v ∷ ts)) ≡ accepted
+  unfolding faultsOnce placed _then_
+  one-placed before at t v ts c m h = rw (c, m, and-false (known t)) h
+
+  pub once-present : (f : ℕ → List ℕ) (ks : List ℕ) (before : List ℕ) (at : ℕ) → different ks ≡ true → ((k : ℕ) → List·Memᴰ k ks → member k before ≡ false)
+      → ((k : ℕ) → List·Memᴰ k ks → empty (f k) ≡ false → (at : ℕ) → check at k (f k) ≡ accepted) → faultsOnce run known check before (placed at (present ks f)) ≡ accepted
+  unfolding present different
+  once-present f [] before at d n h = none-placed before at
+  once-present f (k ∷ ks) before at d n h =
+      go (empty (f k)) refl (λ s o m. once-present f ks s o (and-r (not (member k ks)) (different ks) d) m (λ c i. h c (List·Memᴰ·tail i)))
+    where
+      new : (c : ℕ) → List·Memᴰ c ks → (b : Bool) → eqb c k ≡ b → b || member c before ≡ false
+      new c i true e =
+          absurd (false≢true (sym (not-true (member k ks) (and-l (not (member k ks)) (different ks) d))
+          ∙ ap (λ (x : ℕ). member x ks) (sym (eqb-true c k e)) ∙ mem-member ks i))
+      new c i false e = n c (List·Memᴰ·tail i)
+
+      go : (b : Bool) → empty (f k) ≡ b
+          → ((s : List ℕ) (o : ℕ) → ((c : ℕ) → List·Memᴰ c ks → member c s ≡ false) → faultsOnce run known check s (placed o (present ks f)) ≡ accepted)
+          → faultsOnce run known check before (placed at (cond b (present ks f) (tlv k (f k) ∷ present ks f))) ≡ accepted
+      go true e r = r before at (λ c i. n c (List·Memᴰ·tail i))
+      go false e r =
+          one-placed before at k (f k) (present ks f) (h k (List·Memᴰ·head refl) e at) (n k (List·Memᴰ·head refl))
+          (r (k ∷ before) (at + (4 + length (f k))) (λ c i. head-member c k before (new c i (eqb c k) refl)))
 
 -- ---- attributes without their places
 

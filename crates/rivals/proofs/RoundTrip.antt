@@ -14,12 +14,12 @@ use Rattle.linkstate.specs.Limits.{mostInBgpLs}
 use Rattle.linkstate.specs.Kinds.{codes, applicationCodes}
 use Rattle.linkstate.specs.Masks.{bit, user, inMasks, others, maskSize, mask}
 use Rattle.linkstate.specs.Replies.{runBgpLs, accepted, refusedIf, _then_}
-use Rattle.linkstate.specs.Elements.{Element, elements}
+use Rattle.linkstate.specs.Elements.{Element, elements, faultsOnce}
 use Rattle.linkstate.specs.Attributes.{Attribute, ofKind, srlgs, firstValue, valueOf}
 use Rattle.linkstate.specs.Bytes.{distinct, bytesOfWords}
 use Rattle.linkstate.specs.Sides.{Advertisement, general, names, named, ofLive, generalSet, applicationSet}
 use Rattle.linkstate.specs.Meaning.{Meaning, meaning, row, Accepted}
-use Rattle.linkstate.specs.BgpLs.{sabmLength, udabmLength, aslaHeader, notIgnored, innerElements, checkInner, checkAsla, checkTop, runVerdict, attributesOf, advertisement, advertisementsOf, aslas, topLevel, runSide, runSource}
+use Rattle.linkstate.specs.BgpLs.{sabmLength, udabmLength, aslaHeader, notIgnored, innerElements, checkInner, knownInside, checkAsla, checkTop, runVerdict, attributesOf, advertisement, advertisementsOf, aslas, topLevel, runSide, runSource}
 use Rattle.linkstate.specs.Export.{Tlv, tlv, bytesOf, present, topValue, aslaValue, generalValues, leader, inGroup, leaders, groupValue, aslaValues, tlvs, export}
 use Rattle.linkstate.specs.Rival.{IsRival}
 use Rattle.linkstate.specs.WellFormed.{Values, WellFormed}
@@ -31,7 +31,7 @@ use Rattle.rivals.proofs.Groups.{leader-facts, leads-itself, one-group,
 use Rattle.rivals.proofs.ExportSize.{asla-size}
 use Rattle.rivals.proofs.Bounds.{export-within}
 use Rattle.rivals.proofs.Shortest.{not-general}
-use Rattle.rivals.proofs.ReadBack.{placed, read-back, Sound, none, more, sound-append, sound-faults, sound-present, unplaced, unplacedAsla, plain, value-unplaced, attributes-placed, seen, aslas-placed, together, value-together, value-present}
+use Rattle.rivals.proofs.ReadBack.{placed, read-back, Sound, none, more, sound-append, sound-faults, sound-present, once-present, unplaced, unplacedAsla, plain, value-unplaced, attributes-placed, seen, aslas-placed, together, value-together, value-present}
 
 -- ---- an ASLA that was written
 
@@ -115,10 +115,14 @@ module _ (p : ℕ → Bool) (f : ℕ → List ℕ) where
       ∙ value-present applicationCodes f application-codes-different (ok .canonical) k (mem-member applicationCodes h)))
 
   -- It passes the checks.
-  inner-sound : Values applicationCodes f → Sound checkInner (present applicationCodes f)
+  inner-right : Values applicationCodes f → (k : ℕ) → List·Memᴰ k applicationCodes → empty (f k) ≡ false → (at : ℕ) → checkInner at k (f k) ≡ accepted
   unfolding checkInner
-  inner-sound ok =
-      sound-present checkInner f applicationCodes (λ k h e at. rw (right-inside k (length (f k)) (ok .right k (mem-member applicationCodes h) e)))
+  inner-right ok k h e at = rw (right-inside k (length (f k)) (ok .right k (mem-member applicationCodes h) e))
+
+  inner-passes : Values applicationCodes f → (at : ℕ) → faultsOnce runBgpLs knownInside checkInner [] (placed at (present applicationCodes f)) ≡ accepted
+  unfolding member
+  inner-passes ok at =
+      once-present runBgpLs knownInside checkInner f applicationCodes [] at application-codes-different (λ k i. refl) (λ k h e o. inner-right ok k h e o)
 
   check-back : Values applicationCodes f → (at : ℕ) → checkAsla at (aslaValue p f) ≡ accepted
   unfolding checkAsla
@@ -131,7 +135,7 @@ module _ (p : ℕ → Bool) (f : ℕ → List ℕ) where
         le-ltb (length (aslaValue p f)) (aslaHeader (aslaValue p f)) (omega arith),
         inner-back at,
       )
-      (sound-faults (inner-sound ok) runBgpLs (at + 4 + aslaHeader (aslaValue p f)))
+      (inner-passes ok (at + 4 + aslaHeader (aslaValue p f)))
 
 general-back : (f : ℕ → List ℕ) → general (written (λ a. false) f) ≡ true
 unfolding general written

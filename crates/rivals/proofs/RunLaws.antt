@@ -13,14 +13,14 @@ use lib.Seq.{length-take-le}
 use Rattle.linkstate.specs.Lists.{each}
 use Rattle.linkstate.specs.Limits.{mostInBgpLs}
 use Rattle.linkstate.specs.Replies.{Run, runBgpLs, Verdict, accepted, fault, refusedIf, _then_}
-use Rattle.linkstate.specs.Elements.{Element, element, cut, elements, faults}
+use Rattle.linkstate.specs.Elements.{Element, element, cut, elements, faults, faultsOnce}
 use Rattle.linkstate.specs.Attributes.{Attribute, attribute}
 use Rattle.linkstate.specs.Sides.{Advertisement, names, named, namedWithL, ofLive, applicationSet}
 use Rattle.linkstate.specs.Meaning.{Accepted}
-use Rattle.linkstate.specs.BgpLs.{sabmLength, udabmLength, aslaHeader, isMaskLength, notIgnored, innerElements, checkInner, checkAsla, checkTop, runVerdict, attributesOf, advertisement, advertisementsOf, aslas, runSide, runSource}
+use Rattle.linkstate.specs.BgpLs.{sabmLength, udabmLength, aslaHeader, isMaskLength, notIgnored, innerElements, checkInner, knownInside, checkAsla, checkTop, runVerdict, attributesOf, advertisement, advertisementsOf, aslas, runSide, runSource}
 use Rattle.linkstate.specs.Kinds.{wrongAtTop}
 use Rattle.linkstate.proofs.ListLaws.{and-l, and-r, eqb-sym, any-no, each-mem}
-use Rattle.linkstate.proofs.WalkLaws.{then-first, then-second}
+use Rattle.linkstate.proofs.WalkLaws.{then-first, then-second, once-faults}
 use Rattle.rivals.proofs.Sums.{sumOf, sumIf}
 use Rattle.rivals.proofs.Sizes.{not-refused, weight, whole}
 
@@ -87,14 +87,14 @@ pub asla-checked : (at : ℕ) (v : List ℕ) → notIgnored v ≡ true → check
 unfolding checkAsla fault
 asla-checked at v l h = short (ltb (length v) 4) h
   where
-    past : (b : Bool) → ltb (length v) (aslaHeader v) ≡ b → cond b (fault 3 runBgpLs at) (faults runBgpLs checkInner (innerElements at v)) ≡ accepted
+    past : (b : Bool) → ltb (length v) (aslaHeader v) ≡ b → cond b (fault 3 runBgpLs at) (faultsOnce runBgpLs knownInside checkInner [] (innerElements at v)) ≡ accepted
         → (aslaHeader v ≤ length v) × (faults runBgpLs checkInner (innerElements at v) ≡ accepted)
     past true e k = not-refused _ k
-    past false e k = (ltb-false (length v) (aslaHeader v) e, k)
+    past false e k = (ltb-false (length v) (aslaHeader v) e, once-faults runBgpLs knownInside checkInner [] (innerElements at v) k)
 
     short : (b : Bool)
         → cond b (fault 3 runBgpLs at)
-        (cond (not (notIgnored v)) accepted (cond (ltb (length v) (aslaHeader v)) (fault 3 runBgpLs at) (faults runBgpLs checkInner (innerElements at v))))
+        (cond (not (notIgnored v)) accepted (cond (ltb (length v) (aslaHeader v)) (fault 3 runBgpLs at) (faultsOnce runBgpLs knownInside checkInner [] (innerElements at v))))
         ≡ accepted → (aslaHeader v ≤ length v) × (faults runBgpLs checkInner (innerElements at v) ≡ accepted)
     short true k = not-refused _ k
     short false k = past (ltb (length v) (aslaHeader v)) refl (rw l at k)

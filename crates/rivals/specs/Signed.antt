@@ -43,8 +43,8 @@ pub record LinkAccepted (ofChecks : List ℕ) (checks : Verdict) (exported : Lis
   -- and the checks refuse by their numbers alone.
   pub numbers : RefusesBy ofChecks checks
 
--- L18. What accepted means, of a BGP-LS run: the same with questions, 5, 6 and 7; its checks refuse by 1, 3 or 4 alone.
+-- L18, E5a. What accepted means, of a BGP-LS run: the same with questions, 5, 6 and 7; its checks refuse by 1, 3, 4 or 8 alone.
 pub record RunAccepted (r : List ℕ) : Type 0 where
   pub only567 : runVerdict r ≡ accepted → Only567Refuse (runSource r)
   pub accepts : Only567Refuse (runSource r) → runVerdict r ≡ accepted
-  pub numbers : RefusesBy (1 ∷ 3 ∷ 4 ∷ []) (runVerdict r)
+  pub numbers : RefusesBy (1 ∷ 3 ∷ 4 ∷ 8 ∷ []) (runVerdict r)

@@ -7,11 +7,11 @@ use Prim.Native.Nat.{ℕ, _+_, _%_, _≤_}
 use native.Mathlib.Omega.{arith}
 use lib.Dec.{eqb, ltb}
 use lib.ListN.{length, getD}
-use Rattle.linkstate.specs.Lists.{empty, any, put}
+use Rattle.linkstate.specs.Lists.{empty, any, put, member}
 use Rattle.linkstate.specs.Kinds.{isCode, isLinkCode, wrongAtTop, wrongInside}
 use Rattle.linkstate.specs.Replies.{Run, runA, runB, runBgpLs, place, Refusal, refusalAt, Verdict, accepted, refused, fault, faultOfCall, refusedIf, _then_, unless, count, Reply, absent, found, askRefused, Named, listed, namedRefused, Length, bytes, exportRefused, Exported, Place}
 use Rattle.linkstate.specs.Replies as R
-use Rattle.linkstate.specs.Elements.{Element, element, cut, elements, faults}
+use Rattle.linkstate.specs.Elements.{Element, element, cut, elements, faults, faultsOnce}
 use Rattle.linkstate.specs.Attributes.{Attribute, ofKind, srlgs}
 use Rattle.linkstate.specs.Questions.{Source, Subject, generally, standardNo, userNo, numberTooHigh, given, beforeAnswer, firstOf, unwritten, srlgAnswer, answer, ask, listNamed, write}
 use Rattle.linkstate.specs.BgpLs as L
@@ -33,17 +33,17 @@ use Rattle.statuses.specs.Words.{runNumber, refusalWords, readingWords, 
 -- ---- refusals
 
 abbrev pub Known : Refusal → Type 0
-Known r = (1 ≤ r .number) × (r .number ≤ 7) × (runNumber (r .at .run) ≤ 2)
+Known r = (1 ≤ r .number) × (r .number ≤ 8) × (runNumber (r .at .run) ≤ 2)
 
 pub data Sound : Verdict → Type 0 where
   passes : Sound accepted
   known : {r : Refusal} → Known r → Sound (refused r)
 
-sound-fault : (n : ℕ) (run : Run) (at : ℕ) → 1 ≤ n → n ≤ 7 → runNumber run ≤ 2 → Sound (fault n run at)
+sound-fault : (n : ℕ) (run : Run) (at : ℕ) → 1 ≤ n → n ≤ 8 → runNumber run ≤ 2 → Sound (fault n run at)
 unfolding fault refusalAt place
 sound-fault n run at l h r = known (l, h, r)
 
-sound-if : (b : Bool) (n : ℕ) → 1 ≤ n → n ≤ 7 → Sound (refusedIf b n)
+sound-if : (b : Bool) (n : ℕ) → 1 ≤ n → n ≤ 8 → Sound (refusedIf b n)
 unfolding refusedIf faultOfCall
 sound-if true n l h = sound-fault n runA 0 l h (omega arith)
 sound-if false n l h = passes
@@ -63,6 +63,14 @@ module _ (run : Run) (low : runNumber run ≤ 2) (check : ℕ → ℕ → List �
   sound-faults [] = passes
   sound-faults (cut at ∷ es) = sound-fault 3 run at (omega arith) (omega arith) low
   sound-faults (element at t v ∷ es) = sound-then (check at t v) (faults run check es) (sound at t v) (sound-faults es)
+
+  sound-once : (known : ℕ → Bool) (seen : List ℕ) (es : List Element) → Sound (faultsOnce run known check seen es)
+  unfolding faultsOnce
+  sound-once known seen [] = passes
+  sound-once known seen (cut at ∷ es) = sound-fault 3 run at (omega arith) (omega arith) low
+  sound-once known seen (element at t v ∷ es) =
+      sound-then _ _ (sound at t v)
+      (sound-then _ _ (sound-cond (known t && member t seen) _ _ (sound-fault 8 run at (omega arith) (omega arith) low) passes) (sound-once known (t ∷ seen) es))
 
 -- Faults 3 and 4 of a run.
 module _ (run : Run) (low : runNumber run ≤ 2) (at : ℕ) where
@@ -85,7 +93,7 @@ a-asla at v =
     (sound-cond (maskTooLong v) _ _ passes
     (sound-cond (ltb (length v) (headerLength v)) _ _ (three runA (omega arith) at)
     (sound-cond (lForNobody v) _ _ passes
-    (sound-cond (lFlag v) _ _ passes (sound-faults runA (omega arith) A.checkAttribute a-attribute (A.listElements at v))))))
+    (sound-cond (lFlag v) _ _ passes (sound-once runA (omega arith) A.checkAttribute a-attribute A.knownType [] (A.listElements at v))))))
 
 a-element : (at t : ℕ) (v : List ℕ) → Sound (A.checkA at t v)
 unfolding A.checkA
@@ -126,7 +134,7 @@ unfolding L.checkAsla
 r-asla at v =
     sound-cond (ltb (length v) 4) _ _ (three runBgpLs (omega arith) at)
     (sound-cond (not (L.notIgnored v)) _ _ passes
-    (sound-cond (ltb (length v) (L.aslaHeader v)) _ _ (three runBgpLs (omega arith) at) (sound-faults runBgpLs (omega arith) L.checkInner r-inner (L.innerElements at v))))
+    (sound-cond (ltb (length v) (L.aslaHeader v)) _ _ (three runBgpLs (omega arith) at) (sound-once runBgpLs (omega arith) L.checkInner r-inner L.knownInside [] (L.innerElements at v))))
 
 r-element : (at t : ℕ) (v : List ℕ) → Sound (L.checkTop at t v)
 unfolding L.checkTop
@@ -138,9 +146,9 @@ run-sound r = sound-then _ _ (sound-if _ 1 (omega arith) (omega arith)) (sound-f
 
 -- ---- statuses
 
--- Refused by 1 to 7, in one of three runs.
+-- Refused by 1 to 8, in one of three runs.
 abbrev pub IsRefusal : List ℕ → Type 0
-IsRefusal w = (129 ≤ getD w 0 0) × (getD w 0 0 ≤ 135) × (getD w 3 0 ≤ 2)
+IsRefusal w = (129 ≤ getD w 0 0) × (getD w 0 0 ≤ 136) × (getD w 3 0 ≤ 2)
 
 refusal-told : (r : Refusal) → Known r → IsRefusal (refusalWords r)
 refusal-told r k = (omega arith, omega arith, k .2)
