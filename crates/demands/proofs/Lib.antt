@@ -13,3 +13,4 @@ pub mod LinkReads
 pub mod LinkAccepted
 pub mod Demands
 pub mod ExactlyOne
+pub mod Isolation
