@@ -7,7 +7,7 @@ use Prim.Native.Nat.{ℕ}
 use lib.Dec.{eqb}
 use Rattle.linkstate.specs.Lists.{keep, any, each, empty}
 use Rattle.linkstate.specs.Attributes.{Attribute, valueOf}
-use Rattle.linkstate.specs.Sides.{Advertisement, Side, general, names, named, namedWithL, ofLive, generalSet, applicationSet, rsvpTeKind, rsvpTeAlone, maximumBandwidth, reservableBandwidth, bandwidthKind}
+use Rattle.linkstate.specs.Sides.{Advertisement, Side, general, names, named, namedWithL, ofLive, generalSet, applicationSet, takesGeneral, rsvpTeKind, rsvpTeAlone, maximumBandwidth, reservableBandwidth, bandwidthKind}
 use Rattle.linkstate.proofs.ListLaws.{and-false, mem-any, any-no, keep-mem}
 use Rattle.rivals.proofs.Shortest.{not-general}
 use Rattle.demands.proofs.MoreLists.{of-cond, any-false, any-kept, keep-kept}
@@ -26,7 +26,8 @@ module _ (Q : List Attribute → Type 0) (s : Side) (legacy : Q (s .legacy)) (li
 
   pub rsvpTe-has : (k : ℕ) → Q (rsvpTeKind k s)
   unfolding rsvpTeKind
-  rsvpTe-has k = of-cond Q (namedWithL 0 s || empty (valueOf k (ofLive (names 0) s))) _ _ legacy (live (names 0))
+  rsvpTe-has k =
+      of-cond Q (takesGeneral s) _ _ general-has (of-cond Q (namedWithL 0 s || empty (valueOf k (ofLive (names 0) s))) _ _ legacy (live (names 0)))
 
   pub bandwidth-has : ((ts us : List Attribute) → Q ts → Q us → Q (ts ++ us)) → (k : ℕ) → Q (bandwidthKind k s)
   unfolding bandwidthKind maximumBandwidth reservableBandwidth

@@ -4,7 +4,7 @@ use mathlib.Core.Bool.{true, false, not}
 use mathlib.Core.List.{List, [], _∷_, _++_, map}
 use Prim.Native.Nat.{ℕ}
 use lib.Dec.{eqb}
-use lib.ListN.{replicate}
+use lib.ListN.{length, replicate}
 use Rattle.linkstate.specs.Lists.{keep}
 use Rattle.linkstate.specs.Kinds.{codes}
 use Rattle.linkstate.specs.Replies.{Verdict, accepted, fault, faultOfCall, runA, runB, Reply, absent, found, whole, count, listed}
@@ -66,7 +66,7 @@ sides-apart :
 unfolding computing tlv238 idLocal srPolicySrlg generalSrlg
 sides-apart = (refl, refl, refl, refl)
 
--- RSVP-TE's SRLGs: C's where B names it without a value, or with L; L on B leaves A's kinds as they are.
+-- RSVP-TE's SRLGs: C's where it has a value, or B names it, without a value or with L; L on B leaves A's kinds as they are.
 rsvp-te-srlgs :
     (map (λ b. asked [] b (0 ∷ 0 ∷ 0 ∷ 5 ∷ []) 1096 (standardNo 0)) ([] ∷ rsvpTeEmpty ∷ rsvpTeWithL ∷ generalSrlg 8 ∷ []) ≡ replicate 4 (found (count 1)))
     × (asked (0x10 ∷ 0x08 ∷ 0x01 ∷ 0x00 ∷ 0x80 ∷ 0x12 ∷ 0x03 ∷ 0x00 ∷ 0x00 ∷ 0x14 ∷ []) rsvpTeWithL [] 1092 (standardNo 0) ≡ found (whole 20))
@@ -119,10 +119,53 @@ unfolding computing tlv238 idLocal srPolicySrlg rsvpTeEmpty
 named-on-either-side = refl
 
 -- RFC 9294 section 4.1: an ASLA for S, F and X, general SRLGs, and SRLGs for X. S and F get the general SRLGs and share a TLV; X has its own.
+-- RSVP-TE, which nothing names, takes the general SRLGs too.
 illustration :
     export (meaning (linkSource (0x10 ∷ 0x08 ∷ 0x01 ∷ 0x00 ∷ 0x70 ∷ 0x12 ∷ 0x03 ∷ 0x00 ∷ 0x00 ∷ 0x0A ∷ []) (generalSrlg 5 ++ tlv238 25 (0x01 ∷ 0x00 ∷ 0x10 ∷ 10 ∷ idLocal ++ (0 ∷ 0 ∷ 0 ∷ 6 ∷ []))) []))
-    ≡ (0x04 ∷ 0x62 ∷ 0 ∷ 12 ∷ 0 ∷ 0 ∷ 0 ∷ 0 ∷ 0x04 ∷ 0x48 ∷ 0 ∷ 4 ∷ 0 ∷ 0 ∷ 0 ∷ 5 ∷ [])
+    ≡ (0x04 ∷ 0x48 ∷ 0 ∷ 4 ∷ 0 ∷ 0 ∷ 0 ∷ 5 ∷ [])
+    ++ (0x04 ∷ 0x62 ∷ 0 ∷ 12 ∷ 0 ∷ 0 ∷ 0 ∷ 0 ∷ 0x04 ∷ 0x48 ∷ 0 ∷ 4 ∷ 0 ∷ 0 ∷ 0 ∷ 5 ∷ [])
     ++ (0x04 ∷ 0x62 ∷ 0 ∷ 24 ∷ 4 ∷ 0 ∷ 0 ∷ 0 ∷ 0x60 ∷ 0 ∷ 0 ∷ 0 ∷ 0x04 ∷ 0x44 ∷ 0 ∷ 4 ∷ 0 ∷ 0 ∷ 0 ∷ 10 ∷ 0x04 ∷ 0x48 ∷ 0 ∷ 4 ∷ 0 ∷ 0 ∷ 0 ∷ 5 ∷ [])
     ++ (0x04 ∷ 0x62 ∷ 0 ∷ 24 ∷ 4 ∷ 0 ∷ 0 ∷ 0 ∷ 0x10 ∷ 0 ∷ 0 ∷ 0 ∷ 0x04 ∷ 0x44 ∷ 0 ∷ 4 ∷ 0 ∷ 0 ∷ 0 ∷ 10 ∷ 0x04 ∷ 0x48 ∷ 0 ∷ 4 ∷ 0 ∷ 0 ∷ 0 ∷ 6 ∷ [])
 unfolding computing tlv238 idLocal generalSrlg
 illustration = refl
+
+-- ---- RSVP-TE and the general set
+
+-- RSVP-TE's metric, and the length of the export.
+abbrev metricAndLength : List ℕ → Reply × ℕ
+metricAndLength a = (asked a [] [] 1092 (standardNo 0), length (export (meaning (linkSource a [] []))))
+
+-- Beside G: an ASLA for SR Policy, and a legacy bandwidth, shut nothing out; a legacy group does, and an ASLA that names RSVP-TE, without L and with.
+general-in-a :
+    map (λ a. metricAndLength (a ++ G))
+    ((0x10 ∷ 0x03 ∷ 0x01 ∷ 0x00 ∷ 0x40 ∷ []) ∷ (0x09 ∷ 0x04 ∷ 0x4C ∷ 0x00 ∷ 0x00 ∷ 0x01 ∷ []) ∷ (0x03 ∷ 0x04 ∷ 0x00 ∷ 0x00 ∷ 0x00 ∷ 0x05 ∷ [])
+    ∷ (0x10 ∷ 0x03 ∷ 0x01 ∷ 0x00 ∷ 0x80 ∷ []) ∷ (0x10 ∷ 0x03 ∷ 0x81 ∷ 0x00 ∷ 0x80 ∷ []) ∷ [])
+    ≡ (found (whole 30), 36) ∷ (found (whole 30), 32) ∷ (absent, 24) ∷ (absent, 16) ∷ (absent, 16) ∷ []
+unfolding computing
+general-in-a = refl
+
+-- General SRLG 9 in B.
+srlg9 : List ℕ
+srlg9 =
+    0xEE ∷ 0x18 ∷ 0x00 ∷ 0x00 ∷ 0x00 ∷ 0x00 ∷ 0x00 ∷ 0x02 ∷ 0x00 ∷ 0x00 ∷ 0x00 ∷ 0x0A
+    ∷ 0x04 ∷ 0x08 ∷ 0x00 ∷ 0x00 ∷ 0x00 ∷ 0x01 ∷ 0x00 ∷ 0x00 ∷ 0x00 ∷ 0x02 ∷ 0x00 ∷ 0x00 ∷ 0x00 ∷ 0x09 ∷ []
+
+-- RSVP-TE's metric and its SRLG.
+abbrev metricAndSrlg : List ℕ → List ℕ → Reply × List ℕ
+metricAndSrlg a c = (asked a srlg9 c 1092 (standardNo 0), (ask (linkSource a srlg9 c) (standardNo 0) 1096 (0 ∷ [])) .list)
+
+-- The sides apart: C shuts out what is general in B alone, and a legacy metric what is general in A alone.
+general-on-each-side :
+    (metricAndSrlg G [] ∷ metricAndSrlg G (0 ∷ 0 ∷ 0 ∷ 1 ∷ []) ∷ metricAndSrlg (M ++ G) [] ∷ []
+    ≡ (found (whole 30), 9 ∷ []) ∷ (found (whole 30), 1 ∷ []) ∷ (found (whole 10), 9 ∷ []) ∷ [])
+    × (length (export (meaning (linkSource G (srPolicySrlg 7) []))) ≡ 52)
+unfolding computing tlv238 idLocal srPolicySrlg srlg9
+general-on-each-side = (refl, refl)
+
+-- What is general on both sides, at the top and in its own 1122.
+general-twice :
+    export (meaning (linkSource G srlg9 []))
+    ≡ (0x04 ∷ 0x44 ∷ 0x00 ∷ 0x04 ∷ 0x00 ∷ 0x00 ∷ 0x00 ∷ 0x1E ∷ 0x04 ∷ 0x48 ∷ 0x00 ∷ 0x04 ∷ 0x00 ∷ 0x00 ∷ 0x00 ∷ 0x09 ∷ [])
+    ++ (0x04 ∷ 0x62 ∷ 0x00 ∷ 0x14 ∷ 0x00 ∷ 0x00 ∷ 0x00 ∷ 0x00 ∷ 0x04 ∷ 0x44 ∷ 0x00 ∷ 0x04 ∷ 0x00 ∷ 0x00 ∷ 0x00 ∷ 0x1E ∷ 0x04 ∷ 0x48 ∷ 0x00 ∷ 0x04 ∷ 0x00 ∷ 0x00 ∷ 0x00 ∷ 0x09 ∷ [])
+unfolding computing srlg9
+general-twice = refl

@@ -61,6 +61,13 @@ rsvp-te-named :
 unfolding computing
 rsvp-te-named = refl
 
+-- RSVP-TE that nothing names, beside a legacy bandwidth: of G, at 6; none of a kind that G has not. Beside a legacy group: legacy, of every kind.
+rsvp-te-unnamed :
+    (map (linkWhy ((0x09 ∷ 0x04 ∷ 0x4C ∷ 0x00 ∷ 0x00 ∷ 0x01 ∷ []) ++ G) [] [] (standardNo 0)) (1092 ∷ 1114 ∷ 1089 ∷ []) ≡ inA unnamed 6 ∷ because unnamed nowhere ∷ legacyA ∷ [])
+    × (map (linkWhy ((0x03 ∷ 0x04 ∷ 0x00 ∷ 0x00 ∷ 0x00 ∷ 0x05 ∷ []) ++ G) [] [] (standardNo 0)) (1088 ∷ 1092 ∷ []) ≡ legacyA ∷ legacyA ∷ [])
+unfolding computing
+rsvp-te-unnamed = (refl, refl)
+
 -- A 1089 or a 1090 as an element, and ASLAs with one: general, and for the applications of a mask.
 bandwidthIn : ℕ → List ℕ
 bandwidthIn t = t ∷ 4 ∷ 0 ∷ 0 ∷ 0 ∷ 1 ∷ []
@@ -113,12 +120,14 @@ srlgs-of-others :
 unfolding computing tlv238 mask238 numbered238 general238 numberedGeneral238 ignored238
 srlgs-of-others = (refl, refl, refl)
 
--- RSVP-TE's: of those that name it the first, if they have a number; else C's, by an L-flag or without, there or not.
+-- RSVP-TE's: of those that name it the first, if they have a number; else C's, by an L-flag or without, there or not; the general ones where nothing names it
+-- and C has no number.
 srlgs-of-rsvp-te :
-    map (λ b. srlgWhy b (standardNo 0)) ((mask238 1 0x80 ++ numbered238 0xC0) ∷ mask238 1 0x80 ∷ (numbered238 0x80 ++ mask238 0x81 0x80) ∷ numberedGeneral238 ∷ [])
-    ≡ inB byName 0 ∷ legacyC ∷ inB byL 27 ∷ legacyC ∷ []
+    (map (λ b. srlgWhy b (standardNo 0)) ((mask238 1 0x80 ++ numbered238 0xC0) ∷ mask238 1 0x80 ∷ (numbered238 0x80 ++ mask238 0x81 0x80) ∷ numberedGeneral238 ∷ [])
+    ≡ inB byName 0 ∷ legacyC ∷ inB byL 27 ∷ inB unnamed 0 ∷ [])
+    × (linkWhy G numberedGeneral238 (0 ∷ 0 ∷ 0 ∷ 1 ∷ []) (standardNo 0) 1096 ≡ legacyC)
 unfolding computing tlv238 mask238 numbered238 numberedGeneral238
-srlgs-of-rsvp-te = refl
+srlgs-of-rsvp-te = (refl, refl)
 
 -- The refusals of a question in their order: 6, 7, 1, 2, 3 in A, 4 in B.
 refusals :

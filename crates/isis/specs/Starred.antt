@@ -1,4 +1,5 @@
--- The starred cases of document 01's worked links, with B and C empty, as one table under one statement.
+-- The starred cases of document 01's worked links, with B and C empty, as one table under one statement. Three rows are as rule E2a has them: `namedEmpty`,
+-- `noBitSet` and `user0` have a general ASLA and nothing else for RSVP-TE, which takes its metric.
 use mathlib.Core.Path.{_≡_}
 use mathlib.Core.Bool.{cond}
 use mathlib.Core.List.{List, [], _∷_, _++_, map}
@@ -72,11 +73,11 @@ pub record Starred : Type 0 where
   pub room43 : msgInRoom 43 ≡ record { reply = exportRefused (refusalAt 5 runA 0); buffer = replicate 43 0xAA }
   pub mzg : Served (M ++ Z ++ G) (10 ∷ 10 ∷ 30 ∷ 30 ∷ 30 ∷ 30 ∷ []) 44
   pub msz : Served (M ++ S ++ Z) (10 ∷ 10 ∷ 0 ∷ 0 ∷ 0 ∷ 0 ∷ []) 28
-  pub namedEmpty : Served ((0x10 ∷ 0x03 ∷ 0x01 ∷ 0x00 ∷ 0x40 ∷ []) ++ G) (0 ∷ 0 ∷ 30 ∷ 30 ∷ 30 ∷ 30 ∷ []) 28
-  pub noBitSet : Served ((0x10 ∷ 0x08 ∷ 0x01 ∷ 0x00 ∷ 0x00 ∷ 0x12 ∷ 0x03 ∷ 0x00 ∷ 0x00 ∷ 0x14 ∷ []) ++ G) (0 ∷ 30 ∷ 30 ∷ 30 ∷ 30 ∷ 30 ∷ []) 16
+  pub namedEmpty : Served ((0x10 ∷ 0x03 ∷ 0x01 ∷ 0x00 ∷ 0x40 ∷ []) ++ G) (30 ∷ 0 ∷ 30 ∷ 30 ∷ 30 ∷ 30 ∷ []) 36
+  pub noBitSet : Served ((0x10 ∷ 0x08 ∷ 0x01 ∷ 0x00 ∷ 0x00 ∷ 0x12 ∷ 0x03 ∷ 0x00 ∷ 0x00 ∷ 0x14 ∷ []) ++ G) (30 ∷ 30 ∷ 30 ∷ 30 ∷ 30 ∷ 30 ∷ []) 24
   pub standard6 : Served (0x10 ∷ 0x08 ∷ 0x01 ∷ 0x00 ∷ 0x02 ∷ 0x12 ∷ 0x03 ∷ 0x00 ∷ 0x00 ∷ 0x14 ∷ []) (0 ∷ 0 ∷ 0 ∷ 20 ∷ 0 ∷ 0 ∷ []) 20
   pub firstCounts : Served (S ++ (0x10 ∷ 0x08 ∷ 0x01 ∷ 0x00 ∷ 0x60 ∷ 0x12 ∷ 0x03 ∷ 0x00 ∷ 0x00 ∷ 0x15 ∷ [])) (0 ∷ 20 ∷ 21 ∷ 0 ∷ 0 ∷ 0 ∷ []) 40
-  pub user0 : Served ((0x10 ∷ 0x08 ∷ 0x00 ∷ 0x01 ∷ 0x80 ∷ 0x12 ∷ 0x03 ∷ 0x00 ∷ 0x00 ∷ 0x14 ∷ []) ++ G) (0 ∷ 30 ∷ 30 ∷ 30 ∷ 20 ∷ 30 ∷ []) 36
+  pub user0 : Served ((0x10 ∷ 0x08 ∷ 0x00 ∷ 0x01 ∷ 0x80 ∷ 0x12 ∷ 0x03 ∷ 0x00 ∷ 0x00 ∷ 0x14 ∷ []) ++ G) (30 ∷ 30 ∷ 30 ∷ 30 ∷ 20 ∷ 30 ∷ []) 44
   pub longMask : Served (0x10 ∷ 0x0B ∷ 0x09 ∷ 0x00 ∷ replicate 9 0xFF) (0 ∷ 0 ∷ 0 ∷ 0 ∷ 0 ∷ 0 ∷ []) 0
   pub shortAsla : RefusedBy (0x10 ∷ 0x01 ∷ 0x00 ∷ []) 3
   pub wrongLength : RefusedBy (0x12 ∷ 0x02 ∷ 0x00 ∷ 0x0A ∷ []) 4

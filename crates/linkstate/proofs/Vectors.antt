@@ -146,7 +146,7 @@ first-of-those :
 unfolding computing
 first-of-those = refl
 
--- RSVP-TE mixes with legacy per kind, takes nothing general, and with L only legacy.
+-- RSVP-TE mixes with legacy per kind, takes nothing general beside legacy values, and with L only legacy.
 abbrev rsvpTe : List Advertisement → List (List ℕ)
 rsvpTe ds = map (λ k. valueOf k (rsvpTeKind k (legacySide ds))) (1092 ∷ 1088 ∷ 1114 ∷ [])
 
@@ -156,6 +156,20 @@ rsvp-te-gets :
     × (rsvpTe (advertisement false (0x80 ∷ []) [] (metric 20 ∷ []) ∷ advertisement true (0x80 ∷ []) [] [] ∷ []) ≡ four 10 ∷ [] ∷ [] ∷ [])
 unfolding computing
 rsvp-te-gets = (refl, refl, refl)
+
+-- RSVP-TE takes the general set where nothing names it and legacy has none of the eleven kinds: a bandwidth and an SRLG element without a number are none.
+-- Legacy of one kind shuts out all, and so does naming without a value, or with L.
+abbrev rsvpTeBeside : List Attribute → List Advertisement → List (List ℕ)
+rsvpTeBeside ts ds =
+    map (λ k. valueOf k (rsvpTeKind k (record { legacy = ts; live = ds ++ (advertisement false [] [] (metric 30 ∷ attribute 1096 9 ∷ []) ∷ []) }))) (1088 ∷ 1092 ∷ 1096 ∷ [])
+
+rsvp-te-takes-general :
+    (rsvpTeBeside [] [] ≡ [] ∷ four 30 ∷ four 9 ∷ [])
+    × (rsvpTeBeside (attribute 1089 1 ∷ record { code = 1096; at = 0; len = 0; value = [] } ∷ []) (advertisement false (0x40 ∷ []) [] [] ∷ []) ≡ [] ∷ four 30 ∷ four 9 ∷ [])
+    × (rsvpTeBeside (attribute 1088 5 ∷ []) [] ≡ four 5 ∷ [] ∷ [] ∷ [])
+    × (map (λ l. rsvpTeBeside [] (advertisement l (0x80 ∷ []) [] [] ∷ [])) (false ∷ true ∷ []) ≡ ([] ∷ [] ∷ [] ∷ []) ∷ ([] ∷ [] ∷ [] ∷ []) ∷ [])
+unfolding computing
+rsvp-te-takes-general = (refl, refl, refl, refl)
 
 -- 1089: legacy, else any live one. 1090: one that names RSVP-TE alone, else legacy; with L only legacy.
 abbrev bandwidths : List Attribute → List Advertisement → List (List ℕ)

@@ -82,8 +82,8 @@ topLevel r = each attributesOf (elements 2 0 r)
 unfoldable pub runSide : List ℕ → Side
 runSide r = record { legacy = topLevel r; live = aslas r }
 
--- L9, L10, L13. What questions to a run find: at the top level the bandwidths and RSVP-TE's kinds; for another application the 1122s that name it, else
--- the general ones; RSVP-TE is named by none of them.
+-- L9, L10, L13, E2c. What questions to a run find: at the top level the bandwidths and RSVP-TE's kinds; for another application the 1122s that name it, else
+-- the general ones; RSVP-TE is named by none of them, and takes none of them.
 unfoldable pub runSource : List ℕ → Source
 runSource r =
     record {

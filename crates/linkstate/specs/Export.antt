@@ -23,7 +23,7 @@ unfoldable pub present : List ℕ → (ℕ → List ℕ) → List Tlv
 present [] f = []
 present (k ∷ ks) f = cond (empty (f k)) (present ks f) (tlv k (f k) ∷ present ks f)
 
--- L2. What stands at the top of a run: the link's bandwidths and the RSVP-TE set.
+-- L2, E2b. What stands at the top of a run: the link's bandwidths and the RSVP-TE set, the general one where RSVP-TE takes it.
 unfoldable pub topValue : Meaning → ℕ → List ℕ
 topValue m k = cond (isLinkCode k) (m .bandwidth k) (m .rsvpTe k)
 
@@ -32,7 +32,7 @@ unfoldable pub aslaValue : (ℕ → Bool) → (ℕ → List ℕ) → List ℕ
 aslaValue p f =
     maskSize p ∷ maskSize (λ n. p (user n)) ∷ 0 ∷ 0 ∷ mask p ++ mask (λ n. p (user n)) ++ each bytesOf (present applicationCodes f)
 
--- L3. The general set, if it is not empty, with both masks empty.
+-- L3, E2b. The general set, if it is not empty, with both masks empty, whoever takes it.
 unfoldable pub generalValues : Meaning → List (List ℕ)
 generalValues m = cond (all empty (row (m .general))) [] (aslaValue (λ a. false) (m .general) ∷ [])
 

@@ -1,10 +1,11 @@
--- Document 01, "Who gets what" (rules W1 to W13; RFC 8919 sections 4.2 and 4.3, with its revision), over one side.
+-- Document 01, "Who gets what" (rules W1 to W13; RFC 8919 sections 4.2 and 4.3, with its revision), and document 02's rule E2a, over one side.
 use mathlib.Core.Bool.{Bool, true, false, cond, _&&_, _||_, not}
 use mathlib.Core.List.{List, [], _∷_, _++_}
 use Prim.Native.Nat.{ℕ}
 use lib.Dec.{eqb}
 use lib.ListN.{length}
 use Rattle.linkstate.specs.Lists.{keep, any, each, empty}
+use Rattle.linkstate.specs.Kinds.{applicationCodes}
 use Rattle.linkstate.specs.Masks.{inMasks, others}
 use Rattle.linkstate.specs.Attributes.{Attribute, valueOf}
 
@@ -47,9 +48,19 @@ generalSet s = ofLive general s
 unfoldable pub applicationSet : ℕ → Side → List Attribute
 applicationSet a s = cond (namedWithL a s) (s .legacy) (cond (named a s) (ofLive (names a) s) (generalSet s))
 
--- W8, W9, W10. What RSVP-TE gets of one kind: legacy if named with L; else of those that name it, where they have a value, otherwise legacy.
+-- E2a. Whether the legacy attributes of a side have a value of one of the eleven kinds. The link's bandwidths are none of these, and SRLG without a number is no value.
+unfoldable pub hasLegacy : Side → Bool
+hasLegacy s = any (λ k. not (empty (valueOf k (s .legacy)))) applicationCodes
+
+-- E2a. RSVP-TE takes the general set of a side that does not name it, with L or without, and has no legacy value of the eleven kinds.
+unfoldable pub takesGeneral : Side → Bool
+takesGeneral s = not (named 0 s || hasLegacy s)
+
+-- E2a, W8, W9, W10. What RSVP-TE gets of one kind: the general set where it takes it; else legacy if named with L; else of those that name it, where they have
+-- a value, otherwise legacy.
 unfoldable pub rsvpTeKind : ℕ → Side → List Attribute
-rsvpTeKind k s = cond (namedWithL 0 s || empty (valueOf k (ofLive (names 0) s))) (s .legacy) (ofLive (names 0) s)
+rsvpTeKind k s =
+    cond (takesGeneral s) (generalSet s) (cond (namedWithL 0 s || empty (valueOf k (ofLive (names 0) s))) (s .legacy) (ofLive (names 0) s))
 
 -- W12. Of all bits of both masks, standard 0 alone is set.
 unfoldable pub rsvpTeAlone : Advertisement → Bool

@@ -8,11 +8,11 @@ use Rattle.linkstate.specs.Masks.{user}
 use Rattle.linkstate.specs.Replies.{Run, Place, Refusal, unless}
 use Rattle.linkstate.specs.Elements.{Element, element, cut}
 use Rattle.linkstate.specs.Attributes.{Attribute, ofKind, srlgs}
-use Rattle.linkstate.specs.Sides.{Advertisement, Side, general, names, named, namedWithL, ofLive, rsvpTeAlone}
+use Rattle.linkstate.specs.Sides.{Advertisement, Side, general, names, named, namedWithL, ofLive, takesGeneral, rsvpTeAlone}
 use Rattle.linkstate.specs.Questions.{Subject, generally, standardNo, userNo, Source, beforeAnswer}
 
 -- The rules: an advertisement with L names the application; some name it; the general set was asked for; none names the application, so that the
--- general set counts; legacy without an L-flag; an ASLA gives a bandwidth; the top level of a BGP-LS run.
+-- general set counts (of RSVP-TE: and there is no legacy value, rule E2a); legacy without an L-flag; an ASLA gives a bandwidth; the top level of a BGP-LS run.
 pub data Rule : Type 0 where
   byL : Rule
   byName : Rule
@@ -85,11 +85,12 @@ applicationWhy n k s =
     cond (namedWithL n (s .side)) (because byL (first s (namesWithL n)))
     (cond (named n (s .side)) (because byName (holder s k (names n) orElse first s (names n))) (because unnamed (holder s k general)))
 
--- W8, W9, W10. RSVP-TE: as it takes nothing of general advertisements, legacy where none that names it has the kind.
+-- E2a, W8, W9, W10. RSVP-TE: where it takes the general set, that; else legacy where none that names it has the kind.
 unfoldable pub rsvpTeWhy : ℕ → Standing → Why
 rsvpTeWhy k s =
-    cond (namedWithL 0 (s .side)) (because byL (first s (namesWithL 0)))
-    (cond (has k (ofLive (names 0) (s .side))) (because byName (holder s k (names 0))) (legacyWhy s))
+    cond (takesGeneral (s .side)) (because unnamed (holder s k general))
+    (cond (namedWithL 0 (s .side)) (because byL (first s (namesWithL 0)))
+    (cond (has k (ofLive (names 0) (s .side))) (because byName (holder s k (names 0))) (legacyWhy s)))
 
 -- A subject, where RSVP-TE's answer is known.
 unfoldable pub subjectWhy : Why → Subject → ℕ → Standing → Why
