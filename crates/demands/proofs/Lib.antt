@@ -13,4 +13,5 @@ pub mod LinkReads
 pub mod LinkAccepted
 pub mod Demands
 pub mod ExactlyOne
+pub mod IsolatedSides
 pub mod Isolation
