@@ -15,3 +15,4 @@ pub mod Demands
 pub mod ExactlyOne
 pub mod IsolatedSides
 pub mod Isolation
+pub mod IsolatedPairs
