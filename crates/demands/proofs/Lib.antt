@@ -13,3 +13,6 @@ pub mod LinkReads
 pub mod LinkAccepted
 pub mod Demands
 pub mod ExactlyOne
+pub mod IsolatedSides
+pub mod Isolation
+pub mod IsolatedPairs

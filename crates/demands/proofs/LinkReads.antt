@@ -30,7 +30,7 @@ use Rattle.demands.proofs.Sides.{general-has, application-has, rsvpTe-h
 use Rattle.demands.proofs.SideA.{Stands, AllStand, legacy-stands, chosen-stands}
 
 -- An application that neither side names gets the general set, whichever side the kind stands on.
-unnamed : (a b c : List ℕ) (k n : ℕ) → member n others ≡ true → linkSource a b c .names n ≡ false → linkSource a b c .application n k ≡ linkSource a b c .general k
+pub unnamed : (a b c : List ℕ) (k n : ℕ) → member n others ≡ true → linkSource a b c .names n ≡ false → linkSource a b c .application n k ≡ linkSource a b c .general k
 unfolding linkSource sideOf
 unnamed a b c k n h e = go (rw h at e) (eqb k 1096)
   where
