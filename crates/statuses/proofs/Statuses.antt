@@ -64,13 +64,13 @@ module _ (run : Run) (low : runNumber run ≤ 2) (check : ℕ → ℕ → List �
   sound-faults (cut at ∷ es) = sound-fault 3 run at (omega arith) (omega arith) low
   sound-faults (element at t v ∷ es) = sound-then (check at t v) (faults run check es) (sound at t v) (sound-faults es)
 
-  sound-once : (known : ℕ → Bool) (seen : List ℕ) (es : List Element) → Sound (faultsOnce run known check seen es)
+  sound-once : (isKnown : ℕ → Bool) (seen : List ℕ) (es : List Element) → Sound (faultsOnce run isKnown check seen es)
   unfolding faultsOnce
-  sound-once known seen [] = passes
-  sound-once known seen (cut at ∷ es) = sound-fault 3 run at (omega arith) (omega arith) low
-  sound-once known seen (element at t v ∷ es) =
+  sound-once isKnown seen [] = passes
+  sound-once isKnown seen (cut at ∷ es) = sound-fault 3 run at (omega arith) (omega arith) low
+  sound-once isKnown seen (element at t v ∷ es) =
       sound-then _ _ (sound at t v)
-      (sound-then _ _ (sound-cond (known t && member t seen) _ _ (sound-fault 8 run at (omega arith) (omega arith) low) passes) (sound-once known (t ∷ seen) es))
+      (sound-then _ _ (sound-cond (isKnown t && member t seen) _ _ (sound-fault 8 run at (omega arith) (omega arith) low) passes) (sound-once isKnown (t ∷ seen) es))
 
 -- Faults 3 and 4 of a run.
 module _ (run : Run) (low : runNumber run ≤ 2) (at : ℕ) where
