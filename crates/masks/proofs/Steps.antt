@@ -16,8 +16,10 @@ use lib.ListN.{length, getD, set, take, drop, length-drop, length-set}
 use lib.Seq.{drop-cons, drop-drop, drop-length, getD-drop, length-take-le, paste, paste-suc, take-add, take-all, take-length}
 use Rattle.linkstate.specs.Lists.{numbers, put}
 use Rattle.linkstate.specs.Masks.{bit, one, asNumber, inNumber, last, lastBelow, bytesToHold, maskSize, maskByte, mask}
-use Rattle.masks.specs.Sets.{IsNext, littleEndian, turnedPlace, inSent, fourBytes, exchanged}
-use Rattle.masks.proofs.Laws.{below-suc, low-digit, digit-one, is-number, last-is, none-is, byte-is, IsSize, size-cases, size-holds, size-least}
+use Rattle.masks.specs.Sets.{lastOf, IsNext, littleEndian, turnedPlace, inSent, fourBytes, exchanged}
+use Rattle.masks.specs.declared.LastBit.{LastBit}
+use Rattle.masks.specs.declared.LastBit.the-variants.{None, At}
+use Rattle.masks.proofs.Laws.{below-suc, low-digit, digit-one, is-number, IsLast, last-some, last-is, none-is, byte-is, IsSize, size-cases, size-holds, size-least}
 use Rattle.octets.proofs.Laws.{put-nil, put-then, set-two}
 
 -- ---- a test at each number below k, computed
@@ -409,6 +411,40 @@ size-sent m =
     let b : maskSize p ≤ maskSize q =
     size-least p (maskSize q) (size-cases q) (λ n h e. turned-low n (maskSize q) (size-cases q) (size-holds q (turnedPlace n) (turned-below n h) (ap p (turned-back n) ∙ e))) in
     omega arith
+
+-- E4. The last bit of a mask as sent and that of its number stand in the same byte, so the size is found from either.
+pub same-byte : (m i j : ℕ) → lastBelow 64 (inSent m) ≡ last i → lastBelow 64 (inNumber m) ≡ last j → i / 8 ≡ j / 8
+unfolding turnedPlace
+same-byte m i j e f =
+    let p = last-some 64 (inSent m) i e in
+    let q = last-some 64 (inNumber m) j f in
+    let a : turnedPlace i ≤ j = not-later (inNumber m) j q (turnedPlace i) (turned-below i (p .below)) (p .member) in
+    let b : turnedPlace j ≤ i = not-later (inSent m) i p (turnedPlace j) (turned-below j (q .below)) (ap (inNumber m) (turned-back j) ∙ q .member) in
+    omega arith
+  where
+    not-later : (t : ℕ → Bool) (n : ℕ) → IsLast 64 t n → (k : ℕ) → k < 64 → t k ≡ true → k ≤ n
+    not-later t n r k l h = go (ltb n k) refl
+      where
+        go : (b : Bool) → ltb n k ≡ b → k ≤ n
+        go true g = absurd (false≢true (sym (r .later k (ltb-true n k g) l) ∙ h))
+        go false g = ltb-false n k g
+
+module _ (m : ℕ) (r : LastBit) (e : lastOf r ≡ lastBelow 64 (inNumber m)) where
+  from-last : bytesToHold (lastOf r) ≡ maskSize (inSent m)
+  unfolding maskSize
+  from-last = ap bytesToHold e ∙ sym (size-sent m)
+
+  pub size-none : r ≡ None → 0 ≡ maskSize (inSent m)
+  unfolding bytesToHold
+  size-none f = sym (ap (λ (x : LastBit). bytesToHold (lastOf x)) f) ∙ from-last
+
+  pub size-low : (n : ℕ) → r ≡ At n → n < 32 → 4 ≡ maskSize (inSent m)
+  unfolding bytesToHold
+  size-low n f h = sym (ap (λ (x : LastBit). bytesToHold (lastOf x)) f ∙ rw (lt-ltb n 32 h)) ∙ from-last
+
+  pub size-high : (n : ℕ) → r ≡ At n → 32 ≤ n → 8 ≡ maskSize (inSent m)
+  unfolding bytesToHold
+  size-high n f h = sym (ap (λ (x : LastBit). bytesToHold (lastOf x)) f ∙ rw (le-ltb n 32 h)) ∙ from-last
 
 -- a byte of it
 sent-byte : (m i : ℕ) → m / 2 ^ (8 * i) % 256 ≡ maskByte (inSent m) (8 * i)

@@ -115,14 +115,6 @@ fn with_sent(m: u64, s: &[u8], at: usize, n: usize) -> u64
     joined(m, few_bytes(&s[at..at + n]))
 }
 
-// The bytes of a mask as a number, for masks that are joined before their applications are told.
-pub fn sent_number(s: &[u8]) -> u64
-    requires { ⌜ length (now s) ≤ 8 ⌝ }
-    ensures { λ r. ⌜ ((n : ℕ) → inSent r n ≡ bit (now (s .entry)) n) ⌝ }
-{
-    little_endian(s)
-}
-
 // The applications of a mask, as a number.
 pub fn mask_number(s: &[u8]) -> u64
     requires { ⌜ length (now s) ≤ 8 ⌝ }
@@ -282,17 +274,19 @@ pub fn without(a: u64, b: u64) -> u64
     a ^ (a & b)
 }
 
-// How many bytes a mask as sent is written in.
+// How many bytes a mask as sent is written in: the last bit of its number stands in the same byte as its own.
 pub fn mask_size(m: u64) -> usize
     ensures { λ r. ⌜ (r ≡ maskSize (inSent m)) × (r ≤ 8) ⌝ }
 {
-    if m == 0 {
-        return 0;
+    match last_bit(m) {
+        LastBit::None => 0,
+        LastBit::At(n) => {
+            if n < 32 {
+                return 4;
+            }
+            8
+        }
     }
-    if m < 4294967296 {
-        return 4;
-    }
-    8
 }
 
 // The low four bytes of a number, the lowest first.
