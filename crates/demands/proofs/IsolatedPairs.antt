@@ -2,14 +2,14 @@
 -- cover, for a bandwidth of the link changes in the ASLA, and with it everybody's answer. The definitions are computed on their bytes. Assumes nothing.
 use mathlib.Core.Path.{_≡_, refl, ap, sym, _∙_, subst}
 use mathlib.Core.Logic.{_⊎_, inl, inr}
-use mathlib.Core.Bool.{Bool, true, false, cond, _||_, not, false≢true}
+use mathlib.Core.Bool.{Bool, true, false, cond, _&&_, _||_, not, false≢true}
 use mathlib.Core.List.{List, [], _∷_, _++_, map, List·Memᴰ}
-use Prim.Native.Nat.{ℕ, _+_, _-_, _/_, _≤_, _<_}
+use Prim.Native.Nat.{ℕ, _+_, _-_, _<_}
 use native.Mathlib.Omega.{arith}
-use borrow.Author.Tests.{eqb-true, ltb-true, ltb-false}
-use lib.Dec.{eqb, ltb, lit≤}
+use borrow.Author.Tests.{eqb-true, ltb-true}
+use lib.Dec.{eqb, ltb}
 use lib.Ieee.{ofBits, binary32}
-use lib.ListN.{length, getD, replicate}
+use lib.ListN.{getD, replicate}
 use Rattle.linkstate.specs.Lists.{all, numbers, member}
 use Rattle.linkstate.specs.Kinds.{applicationCodes}
 use Rattle.linkstate.specs.Masks.{bit, inMasks}
@@ -18,8 +18,7 @@ use Rattle.linkstate.specs.Elements.{Element, element, cut, elements}
 use Rattle.linkstate.specs.Sides.{Advertisement, names}
 use Rattle.linkstate.specs.Questions.{generally, standardNo, userNo, ask}
 use Rattle.linkstate.specs.Meaning.{Accepted}
-use Rattle.linkstate.proofs.ListLaws.{all-mem, mem-numbers}
-use Rattle.linkstate.proofs.MaskLaws.{bit-length}
+use Rattle.linkstate.proofs.ListLaws.{and-l, all-mem, mem-numbers}
 use Rattle.isis.specs.Types.{codeOfType}
 use Rattle.isis.specs.RunA.{listElements}
 use Rattle.isis.specs.Link.{linkSource}
@@ -30,23 +29,23 @@ use Rattle.demands.specs.Isolation.{Pairwise, none, more, SameButValue, 
 -- ---- who is named alone
 
 -- That nobody else is named is a computed test over the applications.
-module _ (b : ℕ) (d : Advertisement) (standard : length (d .standardMask) ≤ 8) (user : length (d .userMask) ≤ 8) where
-  named-low : (a : ℕ) → names a d ≡ true → a < 128
+module _ (b : ℕ) (d : Advertisement) where
+  named-low : (a : ℕ) → names a d ≡ true → a < 96
   unfolding names inMasks
   named-low a h = go (ltb a 64) refl h
     where
-      go : (z : Bool) → ltb a 64 ≡ z → cond z (bit (d .standardMask) a) (bit (d .userMask) (a - 64)) ≡ true → a < 128
+      go : (z : Bool) → ltb a 64 ≡ z → cond z (bit (d .standardMask) a) (ltb a 96 && bit (d .userMask) (a - 64)) ≡ true → a < 96
       go true e i = omega (arith, ltb-true a 64 e)
-      go false e i = let l = bit-length (d .userMask) (a - 64) i in omega arith
+      go false e i = ltb-true a 96 (and-l (ltb a 96) (bit (d .userMask) (a - 64)) i)
 
-  names-alone : names b d ≡ true → all (λ a. not (names a d) || eqb a b) (numbers 0 128) ≡ true → NamesAlone b d
+  names-alone : names b d ≡ true → all (λ a. not (names a d) || eqb a b) (numbers 0 96) ≡ true → NamesAlone b d
   names-alone n h = record { named = n; alone = λ a i. eqb-true a b (test a i) }
     where
       test : (a : ℕ) → names a d ≡ true → eqb a b ≡ true
       test a i =
           let z : 0 + a ≡ a = omega arith in
-          let m = subst (λ (x : ℕ). List·Memᴰ x (numbers 0 128)) z (mem-numbers 128 0 a (named-low a i)) in
-          rw i at (all-mem (λ a. not (names a d) || eqb a b) (numbers 0 128) h m)
+          let m = subst (λ (x : ℕ). List·Memᴰ x (numbers 0 96)) z (mem-numbers 96 0 a (named-low a i)) in
+          rw i at (all-mem (λ a. not (names a d) || eqb a b) (numbers 0 96) h m)
 
 -- ---- pairs that are covered
 
@@ -70,7 +69,7 @@ of-sr-policy =
     record {
       changed =
           more (unchanged _)
-          (more (changed _ _ _ refl (names-alone 1 _ (lit≤ tt) (lit≤ tt) refl refl) refl refl (more (otherValue _ _ _ _ refl refl) none)) (more (unchanged _) none));
+          (more (changed _ _ _ refl (names-alone 1 _ refl refl) refl refl (more (otherValue _ _ _ _ refl refl) none)) (more (unchanged _) none));
       before = refl;
       after = refl;
       served = record { metrics = refl; export = refl };
@@ -83,7 +82,7 @@ unfolding computing forOne
 of-rsvp-te =
     record {
       changed =
-          more (changed _ _ _ refl (names-alone 0 _ (lit≤ tt) (lit≤ tt) refl refl) refl refl (more (otherValue _ _ _ _ refl refl) none))
+          more (changed _ _ _ refl (names-alone 0 _ refl refl) refl refl (more (otherValue _ _ _ _ refl refl) none))
           (more (unchanged _) (more (unchanged _) none));
       before = refl;
       after = refl;
@@ -96,7 +95,7 @@ pub of-a-group : Covered 1 (forOne 0x40 0x14 ++ forOne 0x20 0x14) (forOne 0x40 0
 unfolding computing forOne
 of-a-group =
     record {
-      changed = more (changed _ _ _ refl (names-alone 1 _ (lit≤ tt) (lit≤ tt) refl refl) refl refl (more (otherValue _ _ _ _ refl refl) none)) (more (unchanged _) none);
+      changed = more (changed _ _ _ refl (names-alone 1 _ refl refl) refl refl (more (otherValue _ _ _ _ refl refl) none)) (more (unchanged _) none);
       before = refl;
       after = refl;
       served = record { metrics = refl; export = refl };
