@@ -14,7 +14,7 @@ use Rattle.rules.specs.declared.Checking.the-variants.{Refused, Accepted
 use Rattle.rules.specs.Names.{advertised, Tells, Adds, Joins, toldChecking, Checks, ChecksBehind}
 use Rattle.masks.specs.declared.Applications.{Applications}
 use Rattle.masks.specs.Applications.{inSet, atPlace}
-use Rattle.masks.proofs.Sets.{set-none}
+use Rattle.masks.proofs.Sets.{set-by, set-none, masks-alone}
 
 or-false : (b : Bool) → b || false ≡ b
 or-false true = refl
@@ -48,6 +48,12 @@ module _ (m r : Names) (l : Bool) (x y : List ℕ) (p : (n : ℕ) → inSet (r .
         flagged = λ n. ap (λ (a : Applications). inSet a n) q ∙ sym (or-false (inSet (m .flagged) n))
             ∙ ap (λ (b : Bool). inSet (m .flagged) n || b) (sym (or-false (l && inMasks x y n) ∙ ap (λ (b : Bool). b && inMasks x y n) e));
       }
+
+-- a set joined with what two masks, read for nobody, have
+pub joined-masks : (x y : List ℕ) (none read m r : Applications) → ((p : ℕ) → atPlace none p ≡ false) → ((n : ℕ) → inSet read n ≡ inSet none n || inMasks x y n)
+    → ((p : ℕ) → atPlace r p ≡ atPlace m p || atPlace read p) → (n : ℕ) → inSet r n ≡ inSet m n || inMasks x y n
+joined-masks x y none read m r e h j n =
+    set-by (λ r a b. r ≡ a || b) r m read j n ∙ ap (λ (b : Bool). inSet m n || b) (masks-alone x y none read e h n)
 
 -- of a side
 module _ (s : Side) (m : Names) (t : Tells (s .live) m) where

@@ -60,9 +60,10 @@ pub fn names_with(names: Names, l: bool, standard: usize, user: usize, s: &[u8],
     requires { ⌜ (standard ≤ 8) × (user ≤ 8) × (at + standard + user ≤ length (now s)) × (length (now s) < 4294967296) ⌝ }
     ensures { λ r. ⌜ Adds names (advertisedAt l standard user (now (s .entry)) at ∷ []) r ⌝ }
 {
-    let named = masks::with_masks(names.named, s, at, standard, user);
+    let m = masks::with_masks(masks::nobody(), s, at, standard, user);
+    let named = masks::join(names.named, m);
     if l {
-        let flagged = masks::with_masks(names.flagged, s, at, standard, user);
+        let flagged = masks::join(names.flagged, m);
         return Names { named, flagged };
     }
     let flagged = names.flagged;
