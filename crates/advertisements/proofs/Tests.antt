@@ -10,7 +10,7 @@ use lib.Dec.{leb, eqb, ltb}
 use lib.ListN.{length, take, drop, getD, length-drop, drop-of-length-le}
 use Rattle.linkstate.specs.Lists.{any}
 use Rattle.linkstate.specs.Elements.{Element, element, cut, elements}
-use Rattle.linkstate.specs.Masks.{inMasks, bit, asNumber}
+use Rattle.linkstate.specs.Masks.{inMasks, others}
 use Rattle.linkstate.specs.Attributes.{Attribute}
 use Rattle.linkstate.specs.Sides.{Advertisement, names, general, rsvpTeAlone}
 use Rattle.linkstate.specs.Why.{namesWithL}
@@ -25,9 +25,6 @@ use Rattle.replies.specs.declared.Run.the-variants.{A, B, C, BgpLs}
 use Rattle.isis_check_a.specs.declared.Header.{Header}
 use Rattle.isis_check_a.specs.Headers.{headerOf, tooLong, forNobody, bytesBefore}
 use Rattle.isis_check_a.proofs.Laws.{header-l, header-too-long, header-nobody, header-bytes, rest-is}
-use Rattle.isis_grids.specs.declared.Which.the-variants as Which
-use Rattle.isis_grids.specs.Selected.{selects}
-use Rattle.isis_grids.proofs.Selects.{selects-alone, selects-not-alone}
 use Rattle.advertisements.specs.declared.Test.{Test}
 use Rattle.advertisements.specs.declared.Test.the-variants.{Names, WithL, General, WithoutL, RsvpTeAlone}
 use Rattle.advertisements.specs.Tests.{seen, passing, stands, isAdvertised, isOf, inList, carriesA, carriesB, suchIn}
@@ -52,13 +49,9 @@ module _ (test : Test) (l : Bool) (s u : List ℕ) where
   unfolding passing
   passes-without e = rw e
 
-  pub passes-alone : test ≡ RsvpTeAlone → (m n : ℕ) → m ≡ asNumber (bit s) → n ≡ asNumber (bit u) → (eqb m 1 && eqb n 0) ≡ passing test (seen l s u)
-  unfolding passing rsvpTeAlone names selects
-  passes-alone e m n i j = rw e (go (eqb m 1) refl)
-    where
-      go : (b : Bool) → eqb m 1 ≡ b → (b && eqb n 0) ≡ rsvpTeAlone (seen l s u)
-      go true f = selects-alone Which.RsvpTeAlone s u m n refl i (eqb-true m 1 f) j
-      go false f = selects-not-alone Which.RsvpTeAlone s u m refl i (eqb-false m 1 f)
+  pub passes-alone : test ≡ RsvpTeAlone → (x : Bool) → x ≡ inMasks s u 0 && not (any (inMasks s u) others) → x ≡ passing test (seen l s u)
+  unfolding passing rsvpTeAlone names
+  passes-alone e x is = rw e is
 
 -- No test looks at the attributes.
 pub passing-same : (test : Test) (v : List ℕ) (ts : List Attribute) → passing test (advertisement v ts) ≡ passing test (advertisement v [])

@@ -154,7 +154,7 @@ fn passes(standard: &[u8], user: &[u8], l: bool, test: Test) -> bool
         Test::WithL(n) => l & masks::names(standard, user, n),
         Test::General => (standard.len() == 0) & (user.len() == 0),
         Test::WithoutL => !l,
-        Test::RsvpTeAlone => (masks::mask_number(standard) == 1) & (masks::mask_number(user) == 0),
+        Test::RsvpTeAlone => masks::rsvp_te_alone(standard, user),
     }
 }
 

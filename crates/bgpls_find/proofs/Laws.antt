@@ -138,9 +138,11 @@ ends-unnamed Every v s u e f h = absurd (let z : _≡_ {A = ℕ} 0 1 = cc in ome
 ends-unnamed General v s u e f h = absurd (let z : _≡_ {A = ℕ} 0 1 = cc in omega arith)
 ends-unnamed (Naming a) v s u e f h = go (ltb a 64) h
   where
-    go : (b : Bool) → cond b (leb s (a / 8)) (leb u ((a - 64) / 8)) ≡ true → cond b (bit (standardMask v) a) (bit (userMask v) (a - 64)) ≡ false
+    go : (b : Bool) → cond b (leb s (a / 8)) (leb u ((a - 64) / 8)) ≡ true → cond b (bit (standardMask v) a) (ltb a 96 && bit (userMask v) (a - 64)) ≡ false
     go true k = bit-beyond (standardMask v) a (omega (arith, leb-true s (a / 8) k, length-take (sabmLength v) (drop 4 v)))
-    go false k = bit-beyond (userMask v) (a - 64) (omega (arith, leb-true u ((a - 64) / 8) k, length-take (udabmLength v) (drop (4 + sabmLength v) v)))
+    go false k =
+        ap (λ (b : Bool). ltb a 96 && b) (bit-beyond (userMask v) (a - 64) (omega (arith, leb-true u ((a - 64) / 8) k, length-take (udabmLength v) (drop (4 + sabmLength v) v))))
+        ∙ and-false (ltb a 96)
 
 -- ---- whether an element is taken, test by test
 

@@ -17,7 +17,8 @@ use Rattle.linkstate.specs.BgpLs.{sabmLength, udabmLength, isMaskLength, notIgn
 use Rattle.octets.proofs.Laws.{part-is}
 use Rattle.masks.proofs.Laws.{is-number}
 use Rattle.linkstate.proofs.ListLaws.{and-l, and-r}
-use Rattle.rivals.proofs.KindLaws.{standard-other, user-other}
+use Rattle.rivals.proofs.KindLaws.{standard-other}
+use Rattle.linkstate.proofs.Retired.{none-retired, user-among}
 use Rattle.bgpls_find.specs.declared.Set.the-variants.{Every}
 use Rattle.bgpls_find.specs.Sets.{chosen, chosenBy}
 use Rattle.bgpls_find.specs.Walks.{aslasFrom, standardMask, userMask, IsAsla}
@@ -128,4 +129,4 @@ module _ (r : List ℕ) (m by : Applications) (held : (n : ℕ) → inSet m n �
   unfolding runSource named runSide user
   names-user l =
       is-number (by .user) (λ n. runSource r .names (64 + n)) l (λ k h.
-      sym (place-high by k) ∙ turned (64 + k) ∙ held (64 + k) ∙ rw (user-other k (le-ltb 63 k (omega arith))))
+      sym (place-high by k) ∙ turned (64 + k) ∙ held (64 + k) ∙ sym (user-among k (any (names (64 + k)) (aslas r)) (λ l. none-retired (64 + k) (omega arith) (aslas r))))

@@ -65,9 +65,9 @@ module _ (r : List ℕ) (k : ℕ) (whom : Whom) where
     asks-user n s w h = rw (e, w) h
 
 -- An application number that is not too high.
-pub low-user : (whom : Whom) (n : ℕ) → whom ≡ User n → numberTooHigh (subjectOf whom) ≡ false → n ≤ 63
+pub low-user : (whom : Whom) (n : ℕ) → whom ≡ User n → numberTooHigh (subjectOf whom) ≡ false → n ≤ 31
 unfolding numberTooHigh
-low-user whom n e h = omega (arith, ltb-false 63 n (sym (ap (λ (w : Whom). numberTooHigh (subjectOf w)) e) ∙ h))
+low-user whom n e h = omega (arith, ltb-false 31 n (sym (ap (λ (w : Whom). numberTooHigh (subjectOf w)) e) ∙ h))
 
 -- ---- the first of a kind
 

@@ -30,6 +30,6 @@ limited-within m h =
       named = λ a e. omega (arith, set-limited applicationCodes (m .set a) (h .set a), application-limits);
     }
 
--- So the export of an accepted link has at most 2,436 + (8 + 2,384) + 127 * (24 + 2,384) bytes, and a value in it at most 20 + 2,384.
+-- So the export of an accepted link has at most 2,436 + (8 + 2,384) + 95 * (24 + 2,384) bytes, and a value in it at most 20 + 2,384.
 pub accepted-is-within : (a b c : List ℕ) → Accepted (linkSource a b c) → Within 2436 2384 (meaning (linkSource a b c))
 accepted-is-within a b c h = limited-within _ (accepted-is-limited a b c h)

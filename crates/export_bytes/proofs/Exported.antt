@@ -86,7 +86,7 @@ module _ {m : Meaning} {run : List ℕ} {sets : List (List ℕ)} {values : List 
       let of : ℕ → Group = λ i. entryGroup run sets srlgs (getD groups i []) in
       sym (each-map groupTlv of ks ∙ each-ext (λ i. groupTlv (of i)) (entryTlv run sets srlgs groups) ks
       (λ i. tlv-is (slotSet run sets srlgs (slotIn (word groups i)) (classIn (word groups i))) _ _))
-      ∙ ap (each groupTlv) (d .members) ∙ groups-are m
+      ∙ ap (each groupTlv) (d .members) ∙ groups-are m (d .low)
 
   aslas-are : (first : ℕ) → first ≡ firstEntry sets classes groups → aslaTlvs run sets srlgs groups first (length groups - first) ≡ generals ++ named
   unfolding firstEntry generalValues each numbers

@@ -67,8 +67,24 @@ from-none p k = many-same (λ j. p (0 + j)) p k (λ j h. let e : 0 + j ≡ j = o
 left-less : (p : ℕ → Bool) → left p 1 ≤ howMany p 128
 left-less p = omega (arith, many-kept p 1 127, many-split p 1 127)
 
-pub left-most : (p : ℕ → Bool) → left p 1 ≤ 127
-left-most p = omega (arith, many-kept p 1 127, many-most (λ j. p (1 + j)) 127)
+-- Where nobody passes from 96 on, there are at most 96, and from 1 on at most 95.
+none-many : (p : ℕ → Bool) (k : ℕ) → ((j : ℕ) → p j ≡ false) → howMany p k ≡ 0
+unfolding howMany one
+none-many p zero h = refl
+none-many p (suc k) h = rw (none-many p k h, h k)
+
+many-low : (p : ℕ → Bool) → ((n : ℕ) → 96 ≤ n → p n ≡ false) → howMany p 128 ≤ 96
+many-low p h = omega (arith, many-split p 96 32, many-most p 96, none-many (λ j. p (96 + j)) 32 (λ j. h (96 + j) (omega arith)))
+
+pub left-most : (p : ℕ → Bool) → ((n : ℕ) → 96 ≤ n → p n ≡ false) → left p 1 ≤ 95
+left-most p h =
+    omega (
+      arith,
+      many-kept p 1 127,
+      many-split (λ j. p (1 + j)) 95 32,
+      many-most (λ j. p (1 + j)) 95,
+      none-many (λ j. p (1 + (95 + j))) 32 (λ j. h (1 + (95 + j)) (omega arith)),
+    )
 
 size-many : (p : ℕ → Bool) → sizeOf p ≡ howMany p 128
 unfolding sizeOf
@@ -137,5 +153,5 @@ few-named m k h = few-of m k (omega (arith, h, both-pair m))
 pub few-among : (m n : Applications) (k : ℕ) → ((i : ℕ) → inSet m i ≡ true → inSet n i ≡ true) → Few n k → Few m k
 few-among m n k e f = few-of m k (omega (arith, f .numbers, many-more (inSet m) (inSet n) 128 (λ i h. e i)))
 
-pub few-all : (m : Applications) → Few m 128
-few-all m = few-of m 128 (many-most (inSet m) 128)
+pub few-all : (m : Applications) → ((n : ℕ) → 96 ≤ n → inSet m n ≡ false) → Few m 96
+few-all m h = few-of m 96 (many-low (inSet m) h)

@@ -29,7 +29,7 @@ general-word : (g : ℕ) → g < 256 → (slotIn (256 * g) ≡ 0) × (classIn (2
 general-word g h = (omega arith, omega arith)
 
 module _ {run : List ℕ} {sets own owned : List (List ℕ)} {p : ℕ → Bool} {s : ℕ} {values : List ℕ} {rows classes : List (List ℕ)} {side : Side} {k : Classes}
-    (slotted : Slotted run sets own p s) (kept : Slots own owned) (of : Classified values rows classes owned p side k) (few : length classes ≤ 131) where
+    (slotted : Slotted run sets own p s) (kept : Slots own owned) (of : Classified values rows classes owned p side k) (few : length classes ≤ 99) where
   abbrev counted : List (List ℕ)
   counted = take (k .count) classes
 
@@ -130,6 +130,7 @@ module _ {run : List ℕ} {sets own owned : List (List ℕ)} {p : ℕ → Bool} 
                 ∙ ap (λ (xs : List ℕ). row (setOf run (slotGrid sets 0) xs)) (has (k .general) (srlgs (generalSet side)) (of .general))
                 ∙ so .general;
             nobody = (ap (λ (h : List ℕ). getD h 0 0) first-entry, ap (λ (h : List ℕ). getD h 1 0) first-entry);
+            low = λ n e. so .only n e .1;
             members =
                 ap (λ (x : List (List ℕ)). tableGroups run sets numbers (take count x) (length (take count x))) is
                 ∙ headed-groups groups count first (filled .some) (filled .room) run sets numbers

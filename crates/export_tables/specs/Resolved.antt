@@ -29,7 +29,7 @@ use Rattle.export_tables.specs.declared.Parts.{Parts}
 -- W1 to W13. The applications that pass a test are those that the meaning names, with the sets of their slots and of the side's SRLGs; so is the general set,
 -- of slot 0, and RSVP-TE's, of slot s, with the link's bandwidths of slot 2.
 pub record Resolves (m : Meaning) (run : List ℕ) (sets own : List (List ℕ)) (p : ℕ → Bool) (s : ℕ) (side : Side) : Type 0 where
-  pub only : (n : ℕ) → m .named n ≡ true → (1 ≤ n) × (n < 128)
+  pub only : (n : ℕ) → m .named n ≡ true → (1 ≤ n) × (n < 96)
   pub named : (n : ℕ) → 1 ≤ n → n < 128 → m .named n ≡ p n
   pub set : (n : ℕ) → Named p n → row (setOf run (slotGrid sets (slotOf own n)) (srlgs (applicationSet n side))) ≡ row (m .set n)
   pub general : row (setOf run (slotGrid sets 0) (srlgs (generalSet side))) ≡ row (m .general)
@@ -56,7 +56,7 @@ pub record Listed (values : List ℕ) (rows : List (List ℕ)) (used : Used) (na
 pub record Room (rows : List (List ℕ)) (used : Used) (named : Names) (own : List (List ℕ)) (p : ℕ → Bool) (classes groups : List (List ℕ))
     (places : List ℕ) : Type 0 where
   pub some : 0 < length classes
-  pub few : length classes ≤ 131
+  pub few : length classes ≤ 99
   pub roomy : 0 < used .words → Roomy rows used named classes own
   pub grouped : 1 + left p 1 ≤ length groups
   pub placed : length classes ≤ length places

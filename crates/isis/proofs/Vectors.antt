@@ -7,8 +7,8 @@ use lib.Dec.{eqb}
 use lib.ListN.{replicate}
 use Rattle.linkstate.specs.Lists.{keep}
 use Rattle.linkstate.specs.Kinds.{codes}
-use Rattle.linkstate.specs.Replies.{Verdict, accepted, fault, faultOfCall, runA, runB, Reply, absent, found, whole, count, listed}
-use Rattle.linkstate.specs.Questions.{Subject, generally, standardNo, userNo, ask, listNamed}
+use Rattle.linkstate.specs.Replies.{Verdict, accepted, fault, faultOfCall, runA, runB, Reply, absent, found, whole, count, askRefused, refusalAt, listed}
+use Rattle.linkstate.specs.Questions.{Subject, generally, standardNo, userNo, ask, value, listNamed}
 use Rattle.linkstate.specs.Meaning.{meaning}
 use Rattle.linkstate.specs.Export.{export}
 use Rattle.isis.specs.Types.{types, codeOfType, wrongInA}
@@ -126,3 +126,36 @@ illustration :
     ++ (0x04 ∷ 0x62 ∷ 0 ∷ 24 ∷ 4 ∷ 0 ∷ 0 ∷ 0 ∷ 0x10 ∷ 0 ∷ 0 ∷ 0 ∷ 0x04 ∷ 0x44 ∷ 0 ∷ 4 ∷ 0 ∷ 0 ∷ 0 ∷ 10 ∷ 0x04 ∷ 0x48 ∷ 0 ∷ 4 ∷ 0 ∷ 0 ∷ 0 ∷ 6 ∷ [])
 unfolding computing tlv238 idLocal generalSrlg
 illustration = refl
+
+-- ---- E12: user bits 32 to 63 are retired
+
+-- An ASLA of user 32 alone is neither general nor naming: asking for user 32 is refused by 6, user 31 has the general metric, nobody is named.
+retired : List ℕ
+retired = 0x10 ∷ 0x0C ∷ 0x00 ∷ 0x05 ∷ 0x00 ∷ 0x00 ∷ 0x00 ∷ 0x00 ∷ 0x80 ∷ 0x12 ∷ 0x03 ∷ 0x00 ∷ 0x00 ∷ 0x14 ∷ []
+
+retired-alone :
+    (map (asked (retired ++ G) [] [] 1092) (userNo 32 ∷ userNo 31 ∷ generally ∷ []) ≡ askRefused (refusalAt 6 runA 0) ∷ found (whole 30) ∷ found (whole 30) ∷ [])
+    × (listNamed (linkSource (retired ++ G) [] []) ≡ listed 0 0)
+    × (export (meaning (linkSource (retired ++ G) [] []))
+    ≡ 0x04 ∷ 0x62 ∷ 0x00 ∷ 0x0C ∷ 0x00 ∷ 0x00 ∷ 0x00 ∷ 0x00 ∷ 0x04 ∷ 0x44 ∷ 0x00 ∷ 0x04 ∷ 0x00 ∷ 0x00 ∷ 0x00 ∷ 0x1E ∷ [])
+unfolding computing retired
+retired-alone = (refl, refl, refl)
+
+-- A user mask of 8 bytes names by its first four; the export writes four.
+eight-bytes :
+    (listNamed (linkSource (0x10 ∷ 0x0F ∷ 0x00 ∷ 0x08 ∷ 0x00 ∷ 0x00 ∷ 0x00 ∷ 0x01 ∷ 0x00 ∷ 0x00 ∷ 0x00 ∷ 0x01 ∷ 0x12 ∷ 0x03 ∷ 0x00 ∷ 0x00 ∷ 0x14 ∷ []) [] []) ≡ listed 0 2147483648)
+    × (export (meaning (linkSource (0x10 ∷ 0x0F ∷ 0x00 ∷ 0x08 ∷ 0x00 ∷ 0x00 ∷ 0x00 ∷ 0x01 ∷ 0x00 ∷ 0x00 ∷ 0x00 ∷ 0x01 ∷ 0x12 ∷ 0x03 ∷ 0x00 ∷ 0x00 ∷ 0x14 ∷ []) [] []))
+    ≡ 0x04 ∷ 0x62 ∷ 0x00 ∷ 0x10 ∷ 0x00 ∷ 0x04 ∷ 0x00 ∷ 0x00 ∷ 0x00 ∷ 0x00 ∷ 0x00 ∷ 0x01 ∷ 0x04 ∷ 0x44 ∷ 0x00 ∷ 0x04 ∷ 0x00 ∷ 0x00 ∷ 0x00 ∷ 0x14 ∷ [])
+unfolding computing
+eight-bytes = (refl, refl)
+
+-- RSVP-TE is named alone beside a retired bit, and not beside user 31; 1089 of a list that names retired bits alone counts, and a wrong length in it is a fault.
+abbrev valued : List ℕ → List ℕ → List ℕ → Subject → ℕ → List ℕ
+valued a b c whom k = value (linkSource a b c) whom k
+
+retired-beside :
+    (valued (0x10 ∷ 0x0F ∷ 0x01 ∷ 0x06 ∷ 0x80 ∷ 0x00 ∷ 0x00 ∷ 0x00 ∷ 0x00 ∷ 0x00 ∷ 0x80 ∷ 0x0A ∷ 0x04 ∷ 0x4C ∷ 0x00 ∷ 0x00 ∷ 0x01 ∷ []) [] [] (standardNo 3) 1090 ≡ 0x4C ∷ 0x00 ∷ 0x00 ∷ 0x01 ∷ [])
+    × (valued (0x10 ∷ 0x0D ∷ 0x01 ∷ 0x04 ∷ 0x80 ∷ 0x00 ∷ 0x00 ∷ 0x00 ∷ 0x01 ∷ 0x0A ∷ 0x04 ∷ 0x4C ∷ 0x00 ∷ 0x00 ∷ 0x01 ∷ []) [] [] (standardNo 3) 1090 ≡ [])
+    × (linkVerdict (0x10 ∷ 0x0B ∷ 0x00 ∷ 0x05 ∷ 0x00 ∷ 0x00 ∷ 0x00 ∷ 0x00 ∷ 0x80 ∷ 0x12 ∷ 0x02 ∷ 0x00 ∷ 0x14 ∷ []) [] [] ≡ fault 4 runA 9)
+unfolding computing
+retired-beside = (refl, refl, refl)

@@ -122,7 +122,7 @@ srlgs-of-rsvp-te = refl
 
 -- The refusals of a question in their order: 6, 7, 1, 2, 3 in A, 4 in B.
 refusals :
-    linkWhy (replicate 2049 0) [] (1 ∷ []) (userNo 64) 1093 ∷ linkWhy (replicate 2049 0) [] (1 ∷ []) (userNo 63) 1093 ∷ linkWhy (replicate 2049 0) [] (1 ∷ []) generally 1092
+    linkWhy (replicate 2049 0) [] (1 ∷ []) (userNo 32) 1093 ∷ linkWhy (replicate 2049 0) [] (1 ∷ []) (userNo 31) 1093 ∷ linkWhy (replicate 2049 0) [] (1 ∷ []) generally 1092
     ∷ linkWhy (0x12 ∷ []) [] (1 ∷ []) generally 1092 ∷ linkWhy (M ++ (0x12 ∷ [])) [] [] generally 1092 ∷ linkWhy M (tlv238 21 (0 ∷ 0 ∷ []) (7 ∷ [])) [] generally 1092 ∷ []
     ≡ map whyRefused (refusalAt 6 runA 0 ∷ refusalAt 7 runA 0 ∷ refusalAt 1 runA 0 ∷ refusalAt 2 runA 0 ∷ refusalAt 3 runA 5 ∷ refusalAt 4 runB 0 ∷ [])
 unfolding computing tlv238

@@ -12,7 +12,8 @@ use lib.ListN.{length, take, drop, getD}
 use lib.Seq.{drop-drop}
 use Rattle.linkstate.specs.Lists.{any, each}
 use Rattle.linkstate.specs.Bytes.{bytesAt}
-use Rattle.linkstate.specs.Masks.{bit, inMasks}
+use Rattle.linkstate.specs.Masks.{bit}
+use Rattle.linkstate.proofs.Retired.{in-nobody}
 use Rattle.linkstate.specs.Replies.{Run, runA, Verdict, accepted, refused, Refusal, fault}
 use Rattle.linkstate.specs.Elements.{Element, element, elements, faults}
 use Rattle.linkstate.specs.Sides.{Advertisement, names}
@@ -86,16 +87,12 @@ no-bit n = let z : 0 / 2 ^ (7 - n % 8) ≡ 0 = zero-div (2 ^ (7 - n % 8)) in rw 
 
 -- Where L is set for nobody, nobody is named.
 pub names-nobody : (n : ℕ) (v : List ℕ) → lForNobody v ≡ true → names n (advertisement v []) ≡ false
-unfolding names inMasks advertisement lForNobody
+unfolding names advertisement lForNobody
 names-nobody n v h =
     let p = and-l (lFlag v && eqb (sabmLength v) 0) (eqb (udabmLength v) 0) h in
     let s = eqb-true (sabmLength v) 0 (and-r (lFlag v) (eqb (sabmLength v) 0) p) in
     let u = eqb-true (udabmLength v) 0 (and-r (lFlag v && eqb (sabmLength v) 0) (eqb (udabmLength v) 0) h) in
-    rw (s, u, no-bit n, no-bit (n - 64)) (go (ltb n 64))
-  where
-    go : (b : Bool) → cond b false false ≡ false
-    go true = refl
-    go false = refl
+    rw (s, u) (in-nobody [] [] n (no-bit n) (no-bit (n - 64)))
 
 or-false : (b : Bool) → b || false ≡ b
 or-false true = refl

@@ -1,17 +1,18 @@
 -- The slots that the walk of run A leaves, with the SRLGs of side B, resolve the meaning of the link. Assumes nothing.
-use mathlib.Core.Path.{_≡_, refl, sym, ap, _∙_}
-use mathlib.Core.Bool.{Bool, true, false, cond, _&&_, _||_}
+use mathlib.Core.Path.{_≡_, refl, sym, ap, ap₂, _∙_}
+use mathlib.Core.Bool.{Bool, true, false, cond, _&&_, _||_, and-false}
 use mathlib.Core.List.{List, map, List·Memᴰ}
 use Prim.Native.Nat.{ℕ, _+_, _-_, _≤_, _<_}
 use native.Mathlib.Omega.{arith}
-use borrow.Author.Tests.{eqb-true}
-use lib.Dec.{eqb}
+use borrow.Author.Tests.{eqb-true, ltb-true, ltb-false}
+use lib.Dec.{eqb, ltb}
 use Rattle.linkstate.specs.Lists.{member, numbers}
 use Rattle.linkstate.specs.Bytes.{bytesOfWords}
 use Rattle.linkstate.specs.Kinds.{codes, linkCodes, applicationCodes, isLinkCode}
 use Rattle.linkstate.specs.Masks.{others}
 use Rattle.linkstate.specs.Attributes.{Attribute, srlgs, valueOf}
-use Rattle.linkstate.specs.Sides.{named, generalSet, applicationSet, rsvpTeKind, bandwidthKind}
+use Rattle.linkstate.proofs.Retired.{named-retired}
+use Rattle.linkstate.specs.Sides.{Side, named, generalSet, applicationSet, rsvpTeKind, bandwidthKind}
 use Rattle.linkstate.specs.Meaning.{Meaning, meaning, row}
 use Rattle.linkstate.specs.Export.{topValue}
 use Rattle.linkstate.proofs.ListLaws.{and-l, map-ext, map-at, mem-member, member-mem, mem-numbers, numbers-mem}
@@ -68,15 +69,25 @@ module _ (a : List ℕ) (sets : List (List ℕ)) (s : ℕ) (f : ℕ → List Att
 
 -- ---- who is named
 
-other-low : (n : ℕ) → member n others ≡ true → (1 ≤ n) × (n < 128)
+other-low : (n : ℕ) → member n others ≡ true → (1 ≤ n) × (n < 96)
 unfolding others
-other-low n h = let q = numbers-mem 1 127 (member-mem n (numbers 1 127) h) in (q .0, q .1)
+other-low n h = let q = numbers-mem 1 95 (member-mem n (numbers 1 95) h) in (q .0, q .1)
 
-low-other : (n : ℕ) → 1 ≤ n → n < 128 → member n others ≡ true
+low-other : (n : ℕ) → 1 ≤ n → n < 96 → member n others ≡ true
 unfolding others
 low-other n l h =
     let e : 1 + (n - 1) ≡ n = omega arith in
-    rw e at (mem-member (numbers 1 127) (mem-numbers 127 1 (n - 1) (omega arith)))
+    rw e at (mem-member (numbers 1 95) (mem-numbers 95 1 (n - 1) (omega arith)))
+
+-- The others are all that a side names but RSVP-TE.
+others-named : (n : ℕ) (s t : Side) → 1 ≤ n → member n others && (named n s || named n t) ≡ (named n s || named n t)
+others-named n s t l = go (ltb n 96) refl
+  where
+    go : (b : Bool) → ltb n 96 ≡ b → member n others && (named n s || named n t) ≡ (named n s || named n t)
+    go true e = ap (λ (x : Bool). x && (named n s || named n t)) (low-other n l (ltb-true n 96 e))
+    go false e =
+        let none : (named n s || named n t) ≡ false = ap₂ (λ (x y : Bool). x || y) (named-retired n (ltb-false n 96 e) s) (named-retired n (ltb-false n 96 e) t) in
+        rw none (and-false (member n others))
 
 -- ---- a link
 
@@ -116,7 +127,7 @@ module _ (a b c : List ℕ) {sets own : List (List ℕ)} {r : ℕ} (of : Indexed
   resolves p e =
       record {
         only = λ n h. other-low n (and-l (member n others) (named n (sideA a) || named n (sideB b c)) h);
-        named = λ n l h. ap (λ (t : Bool). t && (named n (sideA a) || named n (sideB b c))) (low-other n l h) ∙ sym (e n);
+        named = λ n l h. others-named n (sideA a) (sideB b c) l ∙ sym (e n);
         set = λ n h.
             set-row a sets (slotOf own n) (λ k. applicationSet n (sideA a)) (applicationSet n (sideB b c)) (of .application n (h .low) (h .high))
             (λ k. applicationSet n (sideOf a b c k))

@@ -6,6 +6,7 @@ use Prim.Native.Nat.{ℕ, zero, suc, _+_, _≤_, _<_}
 use native.Mathlib.Omega.{arith}
 use lib.ListN.{length, getD, take, replicate, getD-replicate}
 use Rattle.linkstate.specs.Sides.{named}
+use Rattle.linkstate.proofs.Retired.{named-retired}
 use Rattle.linkstate.specs.Meaning.{meaning}
 use Rattle.rules.specs.declared.Names.{Names}
 use Rattle.masks.specs.declared.Applications.{Applications}
@@ -50,9 +51,17 @@ module _ {a b c : List ℕ} {n : Link} {rows : List (List ℕ)} {values : List �
   abbrev pb : ℕ → Bool
   pb = inSet (n .b .named)
 
+  named-by : (i : ℕ) → p i ≡ named i (sideA a) || named i (sideB b c)
+  named-by i = of .joined i ∙ ap₂ (λ (x y : Bool). x || y) (side-named (sideA a) (n .a) (of .passed .names) i)
+      (side-named (sideB b c) (n .b) (of .listed .tells) i)
+
+  -- Nobody from 96 on is named.
+  retired : (i : ℕ) → 96 ≤ i → p i ≡ false
+  retired i h = named-by i ∙ ap₂ (λ (x y : Bool). x || y) (named-retired i h (sideA a)) (named-retired i h (sideB b c))
+
   -- Tables for k named applications, g of them other than RSVP-TE.
-  room-for : (k g : ℕ) → k ≤ 128 → Few (n .who) k → left p 1 ≤ g → (sets classes groups : List (List ℕ)) (places : List ℕ)
-      → length sets ≡ 3 + k → (3 + k ≤ length classes) × (length classes ≤ 131) → length groups ≡ 1 + g → places ≡ replicate (length classes) 0
+  room-for : (k g : ℕ) → k ≤ 96 → Few (n .who) k → left p 1 ≤ g → (sets classes groups : List (List ℕ)) (places : List ℕ)
+      → length sets ≡ 3 + k → (3 + k ≤ length classes) × (length classes ≤ 99) → length groups ≡ 1 + g → places ≡ replicate (length classes) 0
       → length places ≡ length classes
       → Roomy n sets classes groups places
   room-for k g most f h sets classes groups places x y z w v =
@@ -76,9 +85,9 @@ module _ {a b c : List ℕ} {n : Link} {rows : List (List ℕ)} {values : List �
       room-for 12 12 (omega arith) f (f .others) sets classes groups places x (omega arith, omega arith) z w v
 
   pub all-room : (sets classes groups : List (List ℕ)) (places : List ℕ)
-      → length sets ≡ 131 → length classes ≡ 131 → length groups ≡ 128 → places ≡ replicate (length classes) 0 → length places ≡ length classes
+      → length sets ≡ 99 → length classes ≡ 99 → length groups ≡ 96 → places ≡ replicate (length classes) 0 → length places ≡ length classes
       → Roomy n sets classes groups places
-  all-room sets classes groups places x y z w v = room-for 128 127 (omega arith) (few-all (n .who)) (left-most p) sets classes groups places x
+  all-room sets classes groups places x y z w v = room-for 96 95 (omega arith) (few-all (n .who) retired) (left-most p retired) sets classes groups places x
       (omega arith, omega arith) z w v
 
   -- What `export_rows` asks for.
@@ -95,10 +104,6 @@ module _ {a b c : List ℕ} {n : Link} {rows : List (List ℕ)} {values : List �
       }
 
   -- ---- the meaning
-
-  named-by : (i : ℕ) → p i ≡ named i (sideA a) || named i (sideB b c)
-  named-by i = of .joined i ∙ ap₂ (λ (x y : Bool). x || y) (side-named (sideA a) (n .a) (of .passed .names) i)
-      (side-named (sideB b c) (n .b) (of .listed .tells) i)
 
   pub resolved : {sets own : List (List ℕ)} {r : ℕ} → Indexed a sets own r → Resolves (meaning (linkSource a b c)) a sets own p r (sideB b c)
   resolved is = resolves a b c is p named-by

@@ -66,7 +66,7 @@ pub record Unowned (own : List (List ℕ)) : Type 0 where
 -- Room in the tables for all whom the sides name, or either: slots from 3 on, three classes more, and an entry before the groups. Nothing is written yet.
 pub record Roomy (n : Link) (sets classes groups : List (List ℕ)) (places : List ℕ) : Type 0 where
   pub slots : (3 + howMany (inSet (n .a .named)) 128 ≤ length sets) × (length sets ≤ 256)
-  pub classed : (3 + sizeOf (inWords (n .b .named .standard ∷ n .b .named .user ∷ [])) ≤ length classes) × (length classes ≤ 131)
+  pub classed : (3 + sizeOf (inWords (n .b .named .standard ∷ n .b .named .user ∷ [])) ≤ length classes) × (length classes ≤ 99)
   pub grouped : 1 + left (inSet (n .who)) 1 ≤ length groups
   pub placed : length classes ≤ length places
   pub unwritten : (c : ℕ) → getD places c 0 ≡ 0

@@ -129,10 +129,10 @@ fn export_many(a: &[u8], n: Link, rows: &[[u64; 18]], values: &[u64], out: &mut 
     requires { ⌜ ReadyFor (now a) n (now rows) (now values) ⌝ }
     ensures { λ q. ⌜ AnswersAll (now (a .entry)) n (now (rows .entry)) (now (values .entry)) (now (out .entry)) (toldExported q (now (out .exit))) ⌝ }
 {
-    let mut sets = [[1u32; 12]; 131];
-    let mut classes = [[1u64; 4]; 131];
-    let mut groups = [[1u64; 3]; 128];
-    let mut places = [0usize; 131];
+    let mut sets = [[1u32; 12]; 99];
+    let mut classes = [[1u64; 4]; 99];
+    let mut groups = [[1u64; 3]; 96];
+    let mut places = [0usize; 99];
     export_with(
         a,
         n,

@@ -2,7 +2,6 @@ pub mod Types
 pub mod Grids
 pub mod Walks
 pub mod Aslas
-pub mod Selects
 pub mod Rows
 pub mod Places
 pub mod Taken

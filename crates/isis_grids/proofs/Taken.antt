@@ -10,7 +10,9 @@ use lib.Dec.{eqb, ltb, leb}
 use lib.ListN.{length, take, drop, getD, length-drop, length-take}
 use lib.Seq.{drop-drop, getD-drop, getD-take, length-take-le}
 use Rattle.linkstate.specs.Bytes.{bytesAt}
-use Rattle.linkstate.specs.Masks.{bit, inMasks, asNumber}
+use Rattle.linkstate.specs.Lists.{any}
+use Rattle.linkstate.specs.Masks.{bit, inMasks, others}
+use Rattle.linkstate.proofs.Retired.{in-standard, in-user, in-retired}
 use Rattle.linkstate.specs.Sides.{names, general, rsvpTeAlone}
 use Rattle.linkstate.proofs.ListLaws.{or-l, or-r}
 use Rattle.octets.proofs.Laws.{length-bytesAt}
@@ -19,7 +21,6 @@ use Rattle.isis_check_a.proofs.Laws.{part-of-part}
 use Rattle.isis_grids.specs.declared.Which.{Which}
 use Rattle.isis_grids.specs.declared.Which.the-variants.{Naming, General, RsvpTeAlone, WithoutL}
 use Rattle.isis_grids.specs.Selected.{selects, unflagged, listFrom, listAt, isTaken, valueAt, AslaAt, ReadAt}
-use Rattle.isis_grids.proofs.Selects.{selects-alone, selects-not-alone}
 
 -- ---- the two length bytes
 
@@ -139,20 +140,20 @@ module _ (a : List ℕ) (at : ℕ) (w : ReadAt a at) where
 
   module _ (n : ℕ) where
     pub named-standard : n < 64 → (r : Bool) → r ≡ bit (take standard (drop (at + 4) a)) n → r ≡ names n (advertisement value [])
-    unfolding names inMasks
-    named-standard h r e = e ∙ ap (λ (l : List ℕ). bit l n) standard-is ∙ rw (lt-ltb n 64 h)
+    unfolding names
+    named-standard h r e = e ∙ ap (λ (l : List ℕ). bit l n) standard-is ∙ sym (in-standard _ _ n h)
 
-    pub named-user : 64 ≤ n → (r : Bool) → r ≡ bit (take user (drop (at + 4 + standard) a)) (n - 64) → r ≡ names n (advertisement value [])
-    unfolding names inMasks
-    named-user h r e = e ∙ ap (λ (l : List ℕ). bit l (n - 64)) user-is ∙ rw (le-ltb n 64 h)
+    pub named-user : 64 ≤ n → n < 96 → (r : Bool) → r ≡ bit (take user (drop (at + 4 + standard) a)) (n - 64) → r ≡ names n (advertisement value [])
+    unfolding names
+    named-user h l r e = e ∙ ap (λ (m : List ℕ). bit m (n - 64)) user-is ∙ sym (in-user _ _ n h l)
+
+    pub named-retired : 96 ≤ n → false ≡ names n (advertisement value [])
+    unfolding names
+    named-retired h = sym (in-retired _ _ n h)
 
   -- RSVP-TE alone, by the numbers of the masks as the code lends them
   part-lent : (i k : ℕ) → take (i + k - i) (drop i a) ≡ take k (drop i a)
   part-lent i k = ap (λ (j : ℕ). take j (drop i a)) (add-sub-cancel-left i k)
-
-  plain-is : unflagged (take standard (drop (at + 4) a)) (take user (drop (at + 4 + standard) a)) ≡ advertisement value []
-  unfolding advertisement
-  plain-is = ap₂ (λ (s u : List ℕ). unflagged s u) standard-is user-is ∙ rw (w .plain)
 
   pub lent-short : (length (take (at + 4 + standard - (at + 4)) (drop (at + 4) a)) ≤ 8) × (length (take (at + 4 + standard + user - (at + 4 + standard)) (drop (at + 4 + standard) a)) ≤ 8)
   lent-short = (
@@ -164,20 +165,14 @@ module _ (a : List ℕ) (at : ℕ) (w : ReadAt a at) where
   unfolding rsvpTeAlone
   not-first r e f = rw (sym e ∙ f)
 
-  module _ (m : ℕ) (e : m ≡ asNumber (bit (take (at + 4 + standard - (at + 4)) (drop (at + 4) a)))) where
-    first-number : m ≡ asNumber (bit (take standard (drop (at + 4) a)))
-    first-number = e ∙ ap (λ (l : List ℕ). asNumber (bit l)) (part-lent (at + 4) standard)
-
-    pub not-alone : (m ≡ 1 → ⊥) → false ≡ rsvpTeAlone (advertisement value [])
-    unfolding selects
-    not-alone n = selects-not-alone RsvpTeAlone _ _ m refl first-number n ∙ ap rsvpTeAlone plain-is
-
-    pub alone-if : m ≡ 1 → (k : ℕ) → k ≡ asNumber (bit (take (at + 4 + standard + user - (at + 4 + standard)) (drop (at + 4 + standard) a)))
-        → eqb k 0 ≡ rsvpTeAlone (advertisement value [])
-    unfolding selects
-    alone-if n k f =
-        selects-alone RsvpTeAlone _ _ m k refl first-number n (f ∙ ap (λ (l : List ℕ). asNumber (bit l)) (part-lent (at + 4 + standard) user))
-        ∙ ap rsvpTeAlone plain-is
+  pub alone-lent : (r : Bool)
+      → r ≡ inMasks (take (at + 4 + standard - (at + 4)) (drop (at + 4) a)) (take (at + 4 + standard + user - (at + 4 + standard)) (drop (at + 4 + standard) a)) 0
+      && not (any (inMasks (take (at + 4 + standard - (at + 4)) (drop (at + 4) a)) (take (at + 4 + standard + user - (at + 4 + standard)) (drop (at + 4 + standard) a))) others)
+      → r ≡ rsvpTeAlone (advertisement value [])
+  unfolding rsvpTeAlone names
+  alone-lent r e =
+      e
+      ∙ ap₂ (λ (x y : List ℕ). inMasks x y 0 && not (any (inMasks x y) others)) (part-lent (at + 4) standard ∙ standard-is) (part-lent (at + 4 + standard) user ∙ user-is)
 
 -- ---- whether it is selected
 

@@ -64,6 +64,9 @@ fn names_at(a: &[u8], at: usize, n: u32) -> bool
     if n < 64 {
         return masks::bit_at(a, at + 4, standard, n);
     }
+    if 96 <= n {
+        return false;
+    }
     let user = (a[at + 3] % 128) as usize;
     masks::bit_at(a, at + 4 + standard, user, n - 64)
 }
@@ -78,10 +81,7 @@ fn is_alone(a: &[u8], at: usize) -> bool
     }
     let m = at + 4 + a[at + 2] as usize;
     let e = m + (a[at + 3] % 128) as usize;
-    if masks::mask_number(&a[at + 4..m]) != 1 {
-        return false;
-    }
-    masks::mask_number(&a[m..e]) == 0
+    masks::rsvp_te_alone(&a[at + 4..m], &a[m..e])
 }
 
 // Whether both its masks have no byte; with L the first byte is not 0.

@@ -10,6 +10,7 @@ use lib.ListN.{length, take, drop, getD, length-take, length-drop}
 use Rattle.linkstate.specs.Lists.{any, each}
 use Rattle.linkstate.specs.Bytes.{bytesAt}
 use Rattle.linkstate.specs.Masks.{bit, inMasks, others}
+use Rattle.linkstate.proofs.Retired.{in-nobody}
 use Rattle.linkstate.specs.Replies.{accepted, runA}
 use Rattle.linkstate.specs.Elements.{elements, faults}
 use Rattle.linkstate.specs.Attributes.{Attribute}
@@ -47,12 +48,8 @@ module _ (v : List ℕ) (plain : lFlag v ≡ false) where
   -- Both masks are empty.
   module _ (zs : sabmLength v ≡ 0) (zu : udabmLength v ≡ 0) where
     empty-masks : (n : ℕ) → names n ad ≡ false
-    unfolding names inMasks advertisement
-    empty-masks n = rw (zs, zu, bit-beyond [] n (omega arith), bit-beyond [] (n - 64) (omega arith)) (go (ltb n 64))
-      where
-        go : (b : Bool) → cond b false false ≡ false
-        go true = refl
-        go false = refl
+    unfolding names advertisement
+    empty-masks n = rw (zs, zu) (in-nobody [] [] n (bit-beyond [] n (omega arith)) (bit-beyond [] (n - 64) (omega arith)))
 
     pub for-all : (w : Which) → selects w ad ≡ heardByAll (live w)
     unfolding selects heardByAll general rsvpTeAlone advertisement

@@ -7,7 +7,8 @@ use native.Mathlib.Omega.{arith}
 use borrow.Author.Tests.{eqb-true, eqb-false, ne-eqb, ltb-true, ltb-false}
 use lib.Dec.{eqb, ltb}
 use Rattle.linkstate.specs.Lists.{any, numbers}
-use Rattle.linkstate.specs.Masks.{bit, inMasks, others}
+use Rattle.linkstate.specs.Masks.{others}
+use Rattle.linkstate.proofs.Retired.{in-retired}
 use Rattle.linkstate.specs.Sides.{Advertisement, names, rsvpTeAlone}
 use Rattle.linkstate.proofs.Computing.{computing}
 use Rattle.linkstate.proofs.ListLaws.{any-no, mem-any, numbers-mem, mem-numbers}
@@ -34,6 +35,15 @@ unfolding computing atPlace turnedPlace every same
 only-first n h = same-eq _ _ (every-at (λ i. same (atPlace first (turnedPlace i)) (eqb i 0)) 128 refl n h)
 
 module _ (m : Applications) (small : m .standard < 2 ^ 64) (low : m .user < 2 ^ 64) (d : Advertisement) (is : (n : ℕ) → atPlace m (turnedPlace n) ≡ names n d) where
+  -- whom it names is no retired application
+  low-named : (n : ℕ) (b : Bool) → names n d ≡ b → b ≡ true → n < 96
+  unfolding names
+  low-named n b e t = go (ltb n 96) refl
+    where
+      go : (c : Bool) → ltb n 96 ≡ c → n < 96
+      go true f = ltb-true n 96 f
+      go false f = absurd (false≢true (sym (in-retired (d .standardMask) (d .userMask) n (ltb-false n 96 f)) ∙ e ∙ t))
+
   -- no other is named, each by itself
   others-unnamed : any (λ a. names a d) others ≡ false → (n : ℕ) → 1 ≤ n → n < 128 → names n d ≡ false
   unfolding others
@@ -42,7 +52,7 @@ module _ (m : Applications) (small : m .standard < 2 ^ 64) (low : m .user < 2 ^ 
       go : (x : Bool) → names n d ≡ x → x ≡ false
       go true e =
           let i : 1 + (n - 1) ≡ n = omega arith in
-          absurd (false≢true (sym h ∙ mem-any (λ a. names a d) (numbers 1 127) (mem-numbers 127 1 (n - 1) (omega arith)) (ap (λ (x : ℕ). names x d) i ∙ e)))
+          absurd (false≢true (sym h ∙ mem-any (λ a. names a d) (numbers 1 95) (mem-numbers 95 1 (n - 1) (omega (arith, low-named n (names n d) refl e))) (ap (λ (x : ℕ). names x d) i ∙ e)))
       go false e = refl
 
   alone-places : names 0 d ≡ true → any (λ a. names a d) others ≡ false → (p : ℕ) → p < 128 → atPlace m p ≡ atPlace first p
@@ -66,7 +76,7 @@ module _ (m : Applications) (small : m .standard < 2 ^ 64) (low : m .user < 2 ^ 
   none-else : m .standard ≡ 128 → m .user ≡ 0 → any (λ a. names a d) others ≡ false
   unfolding others
   none-else a b =
-      any-no (λ a. names a d) (numbers 1 127) (λ n i. let l = numbers-mem 1 127 i in numbers-alone a b n (omega (arith, l .1)) ∙ ne-eqb n 0 (λ z. omega (arith, l .0)))
+      any-no (λ a. names a d) (numbers 1 95) (λ n i. let l = numbers-mem 1 95 i in numbers-alone a b n (omega (arith, l .1)) ∙ ne-eqb n 0 (λ z. omega (arith, l .0)))
 
   pub alone-is : rsvpTeAlone d ≡ eqb (m .standard) 128 && eqb (m .user) 0
   unfolding rsvpTeAlone

@@ -11,14 +11,15 @@ use lib.ListN.{length}
 use Rattle.linkstate.specs.Lists.{empty, member, numbers}
 use Rattle.linkstate.specs.Masks.{user, others, inNumber}
 use Rattle.linkstate.specs.Replies.{runA, Verdict, Asked, absent, unless, accepted, listed, place}
-use Rattle.linkstate.specs.Sides.{named}
+use Rattle.linkstate.specs.Sides.{Side, named}
+use Rattle.linkstate.proofs.Retired.{named-retired, user-among}
 use Rattle.linkstate.specs.Attributes.{Attribute, srlgs}
 use Rattle.linkstate.specs.Questions.{Subject, setOf, given, beforeAnswer, unwritten, bytesOfFirst, srlgAnswer, answer, ask, listNamed}
 use Rattle.isis.specs.RunA.{sideA}
 use Rattle.isis.specs.RunB.{sideB}
 use Rattle.isis.specs.Link.{linkVerdict, linkSource}
 use Rattle.masks.proofs.Laws.{is-number}
-use Rattle.rivals.proofs.KindLaws.{standard-other, user-other}
+use Rattle.rivals.proofs.KindLaws.{standard-other}
 use Rattle.rules.specs.declared.Names.{Names}
 use Rattle.rules.specs.Names.{Tells, Joins}
 use Rattle.masks.specs.declared.Applications.{Applications}
@@ -77,8 +78,9 @@ standard-is n h = go (eqb n 0) refl
     go true e = ap (λ (i : ℕ). member i others) (eqb-true n 0 e) ∙ rsvpTe-apart
     go false e = standard-other n (le-ltb 63 n (omega arith)) e
 
-user-is : (n : ℕ) → n < 64 → member (user n) others ≡ true
-user-is n h = user-other n (le-ltb 63 n (omega arith))
+user-is : (n : ℕ) (s t : Side) → member (user n) others && (named (user n) s || named (user n) t) ≡ (named (user n) s || named (user n) t)
+unfolding user
+user-is n s t = user-among n (named (64 + n) s || named (64 + n) t) (λ l. ap₂ (λ (x y : Bool). x || y) (named-retired (64 + n) (omega arith) s) (named-retired (64 + n) (omega arith) t))
 
 -- 1 is the set of RSVP-TE alone.
 pub in-one : (n : ℕ) → inNumber 1 n ≡ eqb n 0
@@ -104,7 +106,7 @@ module _ (a b c : List ℕ) (standard users : ℕ) where
       (λ n h. hs n h ∙ and-comm (named n (sideA a) || named n (sideB b c)) (not (eqb n 0)) ∙ ap
       (λ (x : Bool). x && (named n (sideA a) || named n (sideB b c))) (sym (standard-is n h))))
       (is-number users (λ n. member (user n) others && (named (user n) (sideA a) || named (user n) (sideB b c))) lu
-      (λ n h. hu n h ∙ ap (λ (x : Bool). x && (named (user n) (sideA a) || named (user n) (sideB b c))) (sym (user-is n h)))))
+      (λ n h. hu n h ∙ sym (user-is n (sideA a) (sideB b c)))))
 
 -- Whom the sides name, as the checks tell it.
 pub told-names : (a b c : List ℕ) (r : LinkChecked) → NamedSides r a b c → (s : Sides) → r ≡ Accepted s

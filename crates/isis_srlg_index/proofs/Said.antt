@@ -13,7 +13,8 @@ use lib.Seq.{drop-drop, drop-length, length-take-le}
 use Rattle.linkstate.specs.Lists.{put}
 use Rattle.linkstate.specs.Bytes.{words}
 use Rattle.linkstate.specs.Elements.{Element, element}
-use Rattle.linkstate.specs.Masks.{bit, inMasks}
+use Rattle.linkstate.specs.Masks.{inMasks}
+use Rattle.linkstate.proofs.Retired.{in-nobody}
 use Rattle.linkstate.specs.Sides.{names, general}
 use Rattle.masks.proofs.Laws.{bit-beyond}
 use Rattle.srlg.proofs.Laws.{length-words}
@@ -78,18 +79,12 @@ module _ (v : List ℕ) (inside : headerLength v ≤ length v) where
       ap₂ (λ (i j : ℕ). eqb i 0 && eqb j 0) p q
 
   none-named : (eqb (sabmLength v) 0 && eqb (udabmLength v) 0) ≡ true → (n : ℕ) → names n (advertisement v []) ≡ false
-  unfolding names inMasks advertisement
+  unfolding names advertisement
   none-named e n =
       let a = eqb-true (sabmLength v) 0 (and-l (eqb (sabmLength v) 0) (eqb (udabmLength v) 0) e) in
       let b = eqb-true (udabmLength v) 0 (and-r (eqb (sabmLength v) 0) (eqb (udabmLength v) 0) e) in
-      ap₂ (λ (x y : Bool). cond (ltb n 64) x y)
-      (bit-beyond (take (sabmLength v) (drop 2 v)) n (omega (arith, length-take (sabmLength v) (drop 2 v))))
+      in-nobody _ _ n (bit-beyond (take (sabmLength v) (drop 2 v)) n (omega (arith, length-take (sabmLength v) (drop 2 v))))
       (bit-beyond (take (udabmLength v) (drop (2 + sabmLength v) v)) (n - 64) (omega (arith, length-take (udabmLength v) (drop (2 + sabmLength v) v))))
-      ∙ either (ltb n 64)
-    where
-      either : (b : Bool) → cond b false false ≡ false
-      either true = refl
-      either false = refl
 
   -- whom the masks name
   pub sent-names : (nobody who : Applications) (a n : ℕ) → ((p : ℕ) → atPlace nobody p ≡ false)

@@ -4,3 +4,4 @@ pub mod ElementLaws
 pub mod WalkLaws
 pub mod ListLaws
 pub mod MaskLaws
+pub mod Retired

@@ -19,16 +19,26 @@ mostExtended = 252
 abbrev pub mostMask : ℕ
 mostMask = 8
 
--- I7, R6. The numbers of applications, standard and user alike: how many there are of each, and the last.
-abbrev pub numbersOfEach : ℕ
-numbersOfEach = 64
+-- I7, R6. The numbers of standard applications: how many there are, and the last. A mask of 8 bytes has as many bits.
+abbrev pub standardNumbers : ℕ
+standardNumbers = 64
 
-abbrev pub lastNumber : ℕ
-lastNumber = 63
+abbrev pub lastStandard : ℕ
+lastStandard = 63
 
--- How many applications there are other than RSVP-TE.
+-- E12a, E12b. The same of user applications: user bits 32 to 63 are retired.
+abbrev pub userNumbers : ℕ
+userNumbers = 32
+
+abbrev pub lastUser : ℕ
+lastUser = 31
+
+-- E12a. How many applications there are, and how many other than RSVP-TE.
+abbrev pub applications : ℕ
+applications = 96
+
 abbrev pub otherApplications : ℕ
-otherApplications = 127
+otherApplications = 95
 
 -- The most bytes of the TLVs of one set in an export, whatever the protocol: 129 such sets with their headers are within a BGP-LS run.
 abbrev pub mostInSet : ℕ
@@ -36,7 +46,7 @@ mostInSet = 4000
 
 -- The most bytes of an IS-IS link's export, and of a value in it.
 abbrev pub mostOfIsis : ℕ
-mostOfIsis = 310644
+mostOfIsis = 233588
 
 abbrev pub longestOfIsis : ℕ
 longestOfIsis = 2404

@@ -1,11 +1,11 @@
 -- Applications and the masks that name them (rules I7 to I11, L4; RFC 8919 section 4.1, RFC 9294 section 2).
-use mathlib.Core.Bool.{Bool, true, false, cond}
+use mathlib.Core.Bool.{Bool, true, false, cond, _&&_}
 use mathlib.Core.List.{List, [], _∷_, map}
 use Prim.Native.Nat.{ℕ, zero, suc, _+_, _-_, _*_, _/_, _%_, _^_}
 use lib.Dec.{eqb, ltb}
 use lib.ListN.{getD}
 use Rattle.linkstate.specs.Lists.{numbers}
-use Rattle.linkstate.specs.Limits.{numbersOfEach, otherApplications}
+use Rattle.linkstate.specs.Limits.{standardNumbers, applications, otherApplications}
 
 -- I9, I10. Whether bit n of a mask is set, counted from the top bit of the first byte; one that is not sent is not set.
 unfoldable pub bit : List ℕ → ℕ → Bool
@@ -13,13 +13,13 @@ bit mask n = eqb (getD mask (n / 8) 0 / 2 ^ (7 - n % 8) % 2) 1
 
 -- I7, I8. An application as one number: standard n is n, user n is 64 + n; RSVP-TE is 0.
 unfoldable pub user : ℕ → ℕ
-user n = numbersOfEach + n
+user n = standardNumbers + n
 
--- A8, I11. Whether a standard and a user mask have an application's bit set, registered or not.
+-- A8, I11, E12a. Whether a standard and a user mask have an application's bit set, registered or not; a user bit from 32 on counts as 0.
 unfoldable pub inMasks : List ℕ → List ℕ → ℕ → Bool
-inMasks standardMask userMask a = cond (ltb a numbersOfEach) (bit standardMask a) (bit userMask (a - numbersOfEach))
+inMasks standardMask userMask a = cond (ltb a standardNumbers) (bit standardMask a) (ltb a applications && bit userMask (a - standardNumbers))
 
--- The applications other than RSVP-TE, standard before user.
+-- E12a. The applications other than RSVP-TE, standard before user.
 unfoldable pub others : List ℕ
 others = numbers 1 otherApplications
 
@@ -33,7 +33,7 @@ powersBelow zero p = 0
 powersBelow (suc k) p = powersBelow k p + one (p k) * 2 ^ k
 
 unfoldable pub asNumber : (ℕ → Bool) → ℕ
-asNumber p = powersBelow numbersOfEach p
+asNumber p = powersBelow standardNumbers p
 
 -- Whether n stands in a set that is kept as such a number.
 unfoldable pub inNumber : ℕ → ℕ → Bool
@@ -54,7 +54,7 @@ bytesToHold none = 0
 bytesToHold (last n) = cond (ltb n 32) 4 8
 
 unfoldable pub maskSize : (ℕ → Bool) → ℕ
-maskSize p = bytesToHold (lastBelow numbersOfEach p)
+maskSize p = bytesToHold (lastBelow standardNumbers p)
 
 -- The byte whose bits, from the top, are the test at n, n + 1, .., n + 7.
 unfoldable pub maskByte : (ℕ → Bool) → ℕ → ℕ

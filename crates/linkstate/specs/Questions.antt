@@ -5,7 +5,7 @@ use Prim.Native.Nat.{ℕ, _+_}
 use lib.Dec.{eqb, ltb}
 use lib.ListN.{length}
 use Rattle.linkstate.specs.Lists.{empty, put}
-use Rattle.linkstate.specs.Limits.{lastNumber}
+use Rattle.linkstate.specs.Limits.{lastStandard, lastUser}
 use Rattle.linkstate.specs.Bytes.{bytesAt}
 use Rattle.linkstate.specs.Kinds.{isCode, isLinkCode}
 use Rattle.linkstate.specs.Masks.{user, asNumber}
@@ -31,11 +31,11 @@ pub record Source : Type 0 where
   pub names : (application : ℕ) → Bool
   pub application : (application code : ℕ) → List Attribute
 
--- R6. An application number above 63; the general set has no number.
+-- R6, E12b. An application number above 63, of a user application above 31; the general set has no number.
 unfoldable pub numberTooHigh : Subject → Bool
 numberTooHigh generally = false
-numberTooHigh (standardNo n) = ltb lastNumber n
-numberTooHigh (userNo n) = ltb lastNumber n
+numberTooHigh (standardNo n) = ltb lastStandard n
+numberTooHigh (userNo n) = ltb lastUser n
 
 -- The attributes of the subject's set.
 unfoldable pub setOf : Source → Subject → ℕ → List Attribute

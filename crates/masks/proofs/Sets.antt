@@ -1,17 +1,20 @@
 -- Sets of applications: their places, none, joined, turned, and with the masks of an advertisement. Assumes nothing.
 use mathlib.Core.Path.{_≡_, refl, sym, ap, ap₂, _∙_, fun-ext}
-use mathlib.Core.Bool.{Bool, true, false, cond, _||_}
+use mathlib.Core.Bool.{Bool, true, false, cond, _&&_, _||_}
 use mathlib.Core.List.{List}
 use Prim.Native.Nat.{ℕ, _+_, _-_, _*_, _/_, _%_, _^_, _≤_, _<_}
 use native.Mathlib.Nat.{div-eq-of-lt, lt-of-lt-of-le}
 use native.Mathlib.Omega.{arith}
 use borrow.Author.Tests.{lt-ltb, le-ltb, ltb-true, ltb-false}
-use lib.Dec.{ltb}
+use lib.Dec.{eqb, ltb}
+use lib.ListN.{take, length-take}
+use lib.Seq.{getD-take}
 use lib.Pow.{pow-mono}
 use Rattle.linkstate.specs.Masks.{bit, inMasks, inNumber}
 use Rattle.masks.specs.Sets.{turnedPlace, inSent}
 use Rattle.masks.specs.declared.Applications.{Applications}
-use Rattle.masks.specs.Applications.{inSet, atPlace}
+use Rattle.masks.specs.Applications.{inSet, atPlace, userBytes}
+use Rattle.masks.proofs.Laws.{bit-beyond}
 use Rattle.masks.proofs.Steps.{turned-below, turned-back, zero-none}
 
 -- ---- places
@@ -96,15 +99,44 @@ set-none m h n = sym (place-set m n) ∙ h (turnedPlace n)
 
 -- ---- with two masks
 
-module _ (x y : List ℕ) (m r : Applications) (p : (n : ℕ) → inSent (r .standard) n ≡ inSent (m .standard) n || bit x n)
-    (q : (n : ℕ) → inSent (r .user) n ≡ inSent (m .user) n || bit y n) where
-  pub set-added : (n : ℕ) → inSet r n ≡ inSet m n || inMasks x y n
+-- two fronts that both have a bit's byte
+bit-both : (l : List ℕ) (k i j : ℕ) → k / 8 < i → k / 8 < j → bit (take i l) k ≡ bit (take j l) k
+unfolding bit
+bit-both l k i j h g = ap (λ (x : ℕ). eqb (x / 2 ^ (7 - k % 8) % 2) 1) (getD-take i l (k / 8) 0 h ∙ sym (getD-take j l (k / 8) 0 g))
+
+-- what is read of a user mask has its bits below 32
+pub user-read : (l : List ℕ) (n k : ℕ) → bit (take (userBytes n) l) k ≡ ltb k 32 && bit (take n l) k
+user-read l n k = go (ltb k 32) refl (ltb n 4) refl
+  where
+    beyond-four : (i : ℕ) → i ≤ 4 → 32 ≤ k → bit (take i l) k ≡ false
+    beyond-four i h g = bit-beyond (take i l) k (omega (arith, length-take i l))
+
+    go : (b : Bool) → ltb k 32 ≡ b → (c : Bool) → ltb n 4 ≡ c → bit (take (cond c n 4) l) k ≡ b && bit (take n l) k
+    go true e true f = refl
+    go true e false f = let h = ltb-true k 32 e in let g = ltb-false n 4 f in bit-both l k 4 n (omega arith) (omega arith)
+    go false e true f = let h = ltb-true n 4 f in beyond-four n (omega arith) (ltb-false k 32 e)
+    go false e false f = beyond-four 4 (omega arith) (ltb-false k 32 e)
+
+module _ (x l : List ℕ) (i : ℕ) (m r : Applications) (p : (n : ℕ) → inSent (r .standard) n ≡ inSent (m .standard) n || bit x n) (few : ℕ) (is : few ≡ userBytes i)
+    (q : (n : ℕ) → inSent (r .user) n ≡ inSent (m .user) n || bit (take few l) n) where
+  pub set-added : (n : ℕ) → inSet r n ≡ inSet m n || inMasks x (take i l) n
   unfolding inSet inMasks
-  set-added n = ap₂ (λ (a b : Bool). cond (ltb n 64) a b) (p n) (q (n - 64)) ∙ go (ltb n 64) _ _ _ _
+  set-added n = go (ltb n 64) refl
     where
-      go : (b a c d e : Bool) → cond b (a || c) (d || e) ≡ cond b a d || cond b c e
-      go true a c d e = refl
-      go false a c d e = refl
+      high : 64 ≤ n → ltb (n - 64) 32 ≡ ltb n 96
+      high h = by (ltb n 96) refl
+        where
+          by : (b : Bool) → ltb n 96 ≡ b → ltb (n - 64) 32 ≡ b
+          by true e = let g = ltb-true n 96 e in lt-ltb (n - 64) 32 (omega arith)
+          by false e = let g = ltb-false n 96 e in le-ltb (n - 64) 32 (omega arith)
+
+      go : (b : Bool) → ltb n 64 ≡ b → cond b (inSent (r .standard) n) (inSent (r .user) (n - 64))
+          ≡ cond b (inSent (m .standard) n) (inSent (m .user) (n - 64)) || cond b (bit x n) (ltb n 96 && bit (take i l) (n - 64))
+      go true e = p n
+      go false e =
+          q (n - 64)
+          ∙ ap (λ (b : Bool). inSent (m .user) (n - 64) || b)
+          (ap (λ (j : ℕ). bit (take j l) (n - 64)) is ∙ user-read l i (n - 64) ∙ ap (λ (b : Bool). b && bit (take i l) (n - 64)) (high (ltb-false n 64 e)))
 
 -- of nobody: whom they name
 pub masks-alone : (x y : List ℕ) (m r : Applications) → ((p : ℕ) → atPlace m p ≡ false) → ((n : ℕ) → inSet r n ≡ inSet m n || inMasks x y n) → (n : ℕ)

@@ -3,10 +3,10 @@ ghost use mathlib.Core.Path.{_≡_};
 ghost use mathlib.Core.Bool.{false, _||_, _&&_, not};
 ghost use Prim.Native.Nat.{ℕ, _+_, _≤_, _<_};
 ghost use lib.ListN.{length, take, drop};
-ghost use Rattle.linkstate.specs.Lists.{put};
-ghost use Rattle.linkstate.specs.Masks.{bit, inMasks, asNumber, inNumber, lastBelow, maskSize, mask};
+ghost use Rattle.linkstate.specs.Lists.{any, put};
+ghost use Rattle.linkstate.specs.Masks.{bit, inMasks, others, asNumber, inNumber, lastBelow, maskSize, mask};
 ghost use Rattle.masks.specs.Sets.{lastOf, IsNext, littleEndian, inSent, turnedPlace, fourBytes, exchanged};
-ghost use Rattle.masks.specs.Applications.{inSet, atPlace};
+ghost use Rattle.masks.specs.Applications.{inSet, atPlace, userBytes};
 
 // A set of applications, standard and user, as masks have them: the number of a mask's bytes, the first the lowest.
 pub struct Applications {
@@ -155,10 +155,34 @@ pub fn names(standard: &[u8], user: &[u8], a: u32) -> bool
     ensures { λ r. ⌜ r ≡ inMasks (now (standard .entry)) (now (user .entry)) a ⌝ }
 {
     if a < 64 {
-        has_bit(standard, a)
-    } else {
-        has_bit(user, a - 64)
+        return has_bit(standard, a);
     }
+    if a < 96 {
+        return has_bit(user, a - 64);
+    }
+    false
+}
+
+// How many bytes of a user mask of n bytes are read: four at most, as its bits from 32 on are retired.
+fn user_bytes(n: usize) -> usize
+    ensures { λ r. ⌜ (r ≡ userBytes n) × (r ≤ n) × (r ≤ 4) ⌝ }
+{
+    if n < 4 {
+        return n;
+    }
+    4
+}
+
+// Whether RSVP-TE is all that a standard and a user mask name.
+pub fn rsvp_te_alone(standard: &[u8], user: &[u8]) -> bool
+    requires { ⌜ (length (now standard) ≤ 8) × (length (now user) ≤ 8) ⌝ }
+    ensures { λ r. ⌜ r ≡ inMasks (now (standard .entry)) (now (user .entry)) 0 && not (any (inMasks (now (standard .entry)) (now (user .entry))) others) ⌝ }
+{
+    if mask_number(standard) != 1 {
+        return false;
+    }
+    let n = user_bytes(user.len());
+    mask_number(&user[0..n]) == 0
 }
 
 // No application.
@@ -213,7 +237,7 @@ pub fn turned_set(m: Applications) -> Applications
     }
 }
 
-// A set with the applications of two masks, a standard one at a place of a run and the user's behind it.
+// A set with the applications of two masks, a standard one at a place of a run and the user's behind it: the one reader of masks.
 pub fn with_masks(
     m: Applications,
     s: &[u8],
@@ -224,9 +248,10 @@ pub fn with_masks(
     requires { ⌜ (standard ≤ 8) × (user ≤ 8) × (at + standard + user ≤ length (now s)) × (length (now s) < 4294967296) ⌝ }
     ensures { λ r. ⌜ ((n : ℕ) → inSet r n ≡ inSet m n || inMasks (take standard (drop at (now (s .entry)))) (take user (drop (at + standard) (now (s .entry)))) n) ⌝ }
 {
+    let few = user_bytes(user);
     Applications {
         standard: with_sent(m.standard, s, at, standard),
-        user: with_sent(m.user, s, at + standard, user),
+        user: with_sent(m.user, s, at + standard, few),
     }
 }
 

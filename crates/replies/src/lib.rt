@@ -108,13 +108,13 @@ pub fn refuse_call(number: u8) -> Refusal
     refuse_at(number, Run::A, 0)
 }
 
-// Whether the subject's application number is above 63.
+// Whether the subject's application number is above 63, or that of a user application above 31.
 pub fn number_too_high(whom: Subject) -> bool
     ensures { λ r. ⌜ r ≡ numberTooHigh (subjectOf whom) ⌝ }
 {
     match whom {
         Subject::General => false,
         Subject::Standard(n) => 63 < n,
-        Subject::User(n) => 63 < n,
+        Subject::User(n) => 31 < n,
     }
 }

@@ -1,4 +1,4 @@
--- How long an export can be, by what its sets weigh, and the numbers for a well-formed meaning: each set has at most 4,000 bytes, and there are at most 129
+-- How long an export can be, by what its sets weigh, and the numbers for a well-formed meaning: each set has at most 4,000 bytes, and there are at most 97
 -- of them, so the export is within the reader's 524,288 bytes, and each length fits its two bytes.
 use mathlib.Core.Path.{_≡_, refl, ap}
 use mathlib.Core.Logic.{_⊎_, inl, inr}

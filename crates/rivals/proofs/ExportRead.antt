@@ -72,12 +72,13 @@ module _ (m : Meaning) (ok : WellFormed m) where
       let e : meant m whom k ≡ meant (meaning (runSource (export m))) whom k = same-meant m (meaning (runSource (export m))) (rival .same) k c whom h in
       record { asked = rw e (reads .asked); bytes = rw e (reads .bytes) }
 
-  names-none : runSource (export m) .names 0 ≡ m .named 0
+  -- What is none of the others is named by neither.
+  names-apart : (a : ℕ) → member a others ≡ false → runSource (export m) .names a ≡ m .named a
   unfolding runSource
-  names-none = rw rsvpTe-apart (go (m .named 0) refl)
+  names-apart a h = rw h (go (m .named a) refl)
     where
-      go : (b : Bool) → m .named 0 ≡ b → false ≡ b
-      go true e = absurd (false≢true (sym rsvpTe-apart ∙ ok .namedOnly 0 e))
+      go : (b : Bool) → m .named a ≡ b → false ≡ b
+      go true e = absurd (false≢true (sym h ∙ ok .namedOnly a e))
       go false e = refl
 
   names-standard : (n : ℕ) → n < 64 → runSource (export m) .names n ≡ m .named n
@@ -85,12 +86,16 @@ module _ (m : Meaning) (ok : WellFormed m) where
   names-standard n l = go (eqb n 0) refl
     where
       go : (b : Bool) → eqb n 0 ≡ b → runSource (export m) .names n ≡ m .named n
-      go true e = let z : n ≡ 0 = eqb-true n 0 e in rw z names-none
+      go true e = let z : n ≡ 0 = eqb-true n 0 e in rw z (names-apart 0 rsvpTe-apart)
       go false e = sym (export-is-rival m ok .same .named n (standard-other n (le-ltb 63 n (omega arith)) e))
 
   names-user : (n : ℕ) → n < 64 → runSource (export m) .names (user n) ≡ m .named (user n)
   unfolding meaning
-  names-user n l = sym (export-is-rival m ok .same .named (user n) (user-other n (le-ltb 63 n (omega arith))))
+  names-user n l = go (member (user n) others) refl
+    where
+      go : (b : Bool) → member (user n) others ≡ b → runSource (export m) .names (user n) ≡ m .named (user n)
+      go true e = sym (export-is-rival m ok .same .named (user n) e)
+      go false e = names-apart (user n) e
 
   -- It lists the applications that the meaning names.
   export-lists : listNamed (runSource (export m)) ≡ namesMeant m

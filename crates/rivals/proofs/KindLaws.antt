@@ -70,14 +70,14 @@ unfolding others
 standard-other n h z =
     let l = ltb-false 63 n h in
     let p : 1 + (n - 1) ≡ n = let q : (n ≡ 0 → ⊥) = eqb-false n 0 z in omega arith in
-    mem-member (numbers 1 127) (subst (λ (i : ℕ). List·Memᴰ i (numbers 1 127)) p (mem-numbers 127 1 (n - 1) (omega arith)))
+    mem-member (numbers 1 95) (subst (λ (i : ℕ). List·Memᴰ i (numbers 1 95)) p (mem-numbers 95 1 (n - 1) (omega arith)))
 
-pub user-other : (n : ℕ) → ltb 63 n ≡ false → member (user n) others ≡ true
+pub user-other : (n : ℕ) → ltb 31 n ≡ false → member (user n) others ≡ true
 unfolding others user
 user-other n h =
-    let l = ltb-false 63 n h in
+    let l = ltb-false 31 n h in
     let p : 1 + (63 + n) ≡ 64 + n = omega arith in
-    mem-member (numbers 1 127) (subst (λ (i : ℕ). List·Memᴰ i (numbers 1 127)) p (mem-numbers 127 1 (63 + n) (omega arith)))
+    mem-member (numbers 1 95) (subst (λ (i : ℕ). List·Memᴰ i (numbers 1 95)) p (mem-numbers 95 1 (63 + n) (omega arith)))
 
 -- ---- of a code
 

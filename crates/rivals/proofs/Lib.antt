@@ -15,3 +15,4 @@ pub mod Reader
 pub mod ExportRead
 pub mod Signed
 pub mod Example
+pub mod UserMasks

@@ -5,7 +5,7 @@ use mathlib.Core.Bool.{Bool, true, false, cond, _&&_, not}
 use mathlib.Core.List.{List, [], _∷_, _++_, map, append-nil, append-assoc, List·Memᴰ, List·Memᴰ·head, List·Memᴰ·tail}
 use Prim.Native.Nat.{ℕ, _+_, _-_, _≤_, _<_}
 use native.Mathlib.Omega.{arith}
-use borrow.Author.Tests.{ltb-true, ltb-false, le-ltb}
+use borrow.Author.Tests.{ltb-true, ltb-false, le-ltb, lt-ltb}
 use lib.Dec.{eqb, ltb}
 use lib.ListN.{length, take, drop, length-map}
 use lib.Seq.{take-at, drop-at, drop-drop}
@@ -39,9 +39,9 @@ use Rattle.rivals.proofs.ReadBack.{placed, read-back, Sound, none, more
 unfoldable written : (ℕ → Bool) → (ℕ → List ℕ) → Advertisement
 written p f = record { L = false; standardMask = mask p; userMask = mask (λ n. p (user n)); attributes = map plain (present applicationCodes f) }
 
-others-range : {a : ℕ} → List·Memᴰ a others → (1 ≤ a) × (a < 128)
+others-range : {a : ℕ} → List·Memᴰ a others → (1 ≤ a) × (a < 96)
 unfolding others
-others-range h = numbers-mem 1 127 h
+others-range h = numbers-mem 1 95 h
 
 module _ (p : ℕ → Bool) (f : ℕ → List ℕ) where
   set : List ℕ
@@ -98,12 +98,12 @@ module _ (p : ℕ → Bool) (f : ℕ → List ℕ) where
   unfolding names inMasks written user
   names-back a h = go (ltb a 64) refl
     where
-      go : (b : Bool) → ltb a 64 ≡ b → cond b (bit (mask p) a) (bit (mask (λ n. p (64 + n))) (a - 64)) ≡ p a
+      go : (b : Bool) → ltb a 64 ≡ b → cond b (bit (mask p) a) (ltb a 96 && bit (mask (λ n. p (64 + n))) (a - 64)) ≡ p a
       go true e = bit-mask p a (ltb-true a 64 e)
       go false e =
           let k = ltb-false a 64 e in
           let r = others-range (member-mem a others h) in
-          bit-mask (λ n. p (64 + n)) (a - 64) (omega arith) ∙ ap p (omega arith)
+          rw (lt-ltb a 96 (omega (arith, r .1))) (bit-mask (λ n. p (64 + n)) (a - 64) (omega (arith, r .1)) ∙ ap p (omega arith))
 
   -- Its set is read, kind by kind.
   set-back : Values applicationCodes f → row f ≡ row (λ k. valueOf k (each (λ d. d .attributes) (written p f ∷ [])))

@@ -11,7 +11,7 @@ use lib.Dec.{eqb, ltb}
 use lib.ListN.{length}
 use Rattle.linkstate.specs.Lists.{keep, all, each, lookup, empty, member}
 use Rattle.linkstate.specs.Kinds.{codes, applicationCodes}
-use Rattle.linkstate.specs.Masks.{user, inMasks, others, maskSize}
+use Rattle.linkstate.specs.Masks.{bit, user, inMasks, others, maskSize}
 use Rattle.linkstate.specs.Replies.{accepted}
 use Rattle.linkstate.specs.Elements.{elements}
 use Rattle.linkstate.specs.Attributes.{Attribute, valueOf}
@@ -41,7 +41,7 @@ standard-bit d a l h = bit-length (d .standardMask) a (rw (lt-ltb a 64 l) at h)
 
 user-bit : (d : Advertisement) (n : ℕ) → names (user n) d ≡ true → n / 8 < length (d .userMask)
 unfolding names inMasks user
-user-bit d n h = let z : 64 + n - 64 ≡ n = omega arith in bit-length (d .userMask) n (rw (le-ltb (64 + n) 64 (omega arith), z) at h)
+user-bit d n h = let z : 64 + n - 64 ≡ n = omega arith in bit-length (d .userMask) n (and-r (ltb (64 + n) 96) (bit (d .userMask) n) (rw (le-ltb (64 + n) 64 (omega arith), z) at h))
 
 pub not-general : (d : Advertisement) (a : ℕ) → names a d ≡ true → general d ≡ false
 unfolding general user

@@ -11,6 +11,7 @@ use Rattle.rivals.specs.Reads.{Sent, AnsweredBy}
 use Rattle.rivals.specs.Signed.{OfMeaning, OfLink, RunAccepted}
 use Rattle.rivals.proofs.Shortest.{shortest}
 use Rattle.rivals.proofs.Bounds.{Within, export-bound, value-bound}
+use Rattle.rivals.proofs.UserMasks.{user-masks}
 use Rattle.rivals.proofs.RoundTrip.{export-is-rival}
 use Rattle.rivals.proofs.ExportRead.{export-answers}
 use Rattle.rivals.proofs.Acceptance.{by-refuses, run-by, accepted-asked, asked-accepted}
@@ -25,6 +26,7 @@ module _ {top set : ℕ} where
         rival = export-is-rival m ok;
         bound = export-bound m within;
         lengths = λ t v i. value-bound m within i;
+        userMasks = λ v i. user-masks m ok v i;
       }
 
   pub of-link : (s : Source) (sent : Sent) → AnsweredBy s sent (meaning s) → WellFormed (meaning s) → Within top set (meaning s)

@@ -8,7 +8,7 @@ use Rattle.linkstate.specs.Replies.{Verdict, accepted, Exported}
 use Rattle.linkstate.specs.Questions.{Source}
 use Rattle.linkstate.specs.Meaning.{Meaning, meaning, Same}
 use Rattle.linkstate.specs.Export.{tlv, tlvs, export}
-use Rattle.linkstate.specs.BgpLs.{runVerdict, runSource}
+use Rattle.linkstate.specs.BgpLs.{udabmLength, runVerdict, runSource}
 use Rattle.linkstate.specs.Rival.{IsRival}
 use Rattle.rivals.specs.Reads.{Sent, inBgpLs, AnsweredBy}
 use Rattle.rivals.specs.Refusing.{Only5Refuses, Only567Refuse, RefusesBy}
@@ -26,6 +26,8 @@ pub record OfMeaning (m : Meaning) (most longest : ℕ) : Type 0 where
   -- the bounds: an export is within what the reader takes, and every length fits its two bytes.
   pub bound : length (export m) ≤ most
   pub lengths : (t : ℕ) (v : List ℕ) → List·Memᴰ (tlv t v) (tlvs m) → length v ≤ longest
+  -- E12c. No user mask in it has 8 bytes.
+  pub userMasks : (v : List ℕ) → List·Memᴰ (tlv 1122 v) (tlvs m) → udabmLength v ≤ 4
 
 -- Of an accepted link: s is what questions to it find, `sent` how its run has a value.
 pub record OfLink (s : Source) (sent : Sent) (most longest : ℕ) : Type 0 where

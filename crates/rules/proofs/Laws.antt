@@ -198,9 +198,9 @@ pub low-standard : (w : Whom) (n : ℕ) → w ≡ W.Standard n → numberTooHigh
 unfolding numberTooHigh
 low-standard w n e h = let l = ltb-false 63 n (subst (λ (x : Whom). numberTooHigh (subjectOf x) ≡ false) e h) in omega arith
 
-pub low-user : (w : Whom) (n : ℕ) → w ≡ W.User n → numberTooHigh (subjectOf w) ≡ false → n < 64
+pub low-user : (w : Whom) (n : ℕ) → w ≡ W.User n → numberTooHigh (subjectOf w) ≡ false → n < 32
 unfolding numberTooHigh
-low-user w n e h = let l = ltb-false 63 n (subst (λ (x : Whom). numberTooHigh (subjectOf x) ≡ false) e h) in omega arith
+low-user w n e h = let l = ltb-false 31 n (subst (λ (x : Whom). numberTooHigh (subjectOf x) ≡ false) e h) in omega arith
 
 pub as-whom : (s : Side) (r : Rule) (w v : Whom) → w ≡ v → r ≡ subjectRule (subjectOf v) s → r ≡ subjectRule (subjectOf w) s
 as-whom s r w v e = subst (λ (x : Whom). r ≡ subjectRule (subjectOf x) s) (sym e)

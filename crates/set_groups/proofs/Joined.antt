@@ -50,7 +50,7 @@ pub record Led (m : Meaning) (n : ℕ) : Type 0 where
 
 -- Only applications other than RSVP-TE are named.
 abbrev pub NamesOthers : Meaning → Type 0
-NamesOthers m = (n : ℕ) → m .named n ≡ true → (1 ≤ n) × (n < 128)
+NamesOthers m = (n : ℕ) → m .named n ≡ true → (1 ≤ n) × (n < 96)
 
 module _ (m : Meaning) (only : NamesOthers m) where
   led : (n : ℕ) → m .named n ≡ true → Led m n
@@ -59,7 +59,7 @@ module _ (m : Meaning) (only : NamesOthers m) where
       let o = only n e in
       let test : ℕ → Bool = λ b. m .named b && sameRows (row (m .set b)) (row (m .set n)) in
       let self : test n ≡ true = rw (e, rows-refl (row (m .set n))) in
-      let f = first test 127 1 n (o .0) (omega arith) self in
+      let f = first test 95 1 n (o .0) (omega (arith, o .1)) self in
       record {
         named = and-l (m .named (leader m n)) _ (f .2);
         same = rows-eq (row (m .set (leader m n))) (row (m .set n)) (and-r (m .named (leader m n)) _ (f .2));

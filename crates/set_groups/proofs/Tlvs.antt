@@ -1,16 +1,17 @@
 -- The ASLA TLVs of the groups that all named applications make are those of the export (rules L3, L7). Assumes nothing.
 use mathlib.Core.Path.{_≡_, refl, sym, _∙_, ap, ap₂}
 use mathlib.Core.Bool.{Bool, true, false, cond, _&&_}
-use mathlib.Core.List.{List, [], _∷_, _++_, map}
-use Prim.Native.Nat.{ℕ, _+_, _-_, _<_}
+use mathlib.Core.List.{List, [], _∷_, _++_, map, append-nil}
+use Prim.Native.Nat.{ℕ, zero, suc, _+_, _-_, _≤_, _<_}
 use native.Mathlib.Omega.{arith}
 use borrow.Author.Tests.{lt-ltb, ltb-true, ltb-false}
-use lib.Dec.{ltb}
-use Rattle.linkstate.specs.Lists.{each}
+use lib.Dec.{eqb, ltb}
+use Rattle.linkstate.specs.Lists.{numbers, keep, each}
+use Rattle.linkstate.proofs.ListLaws.{keep-append, keep-no, numbers-mem}
 use Rattle.linkstate.specs.Kinds.{applicationCodes}
 use Rattle.linkstate.specs.Masks.{user, others, asNumber, inNumber, maskSize, mask}
 use Rattle.linkstate.specs.Meaning.{Meaning, row}
-use Rattle.linkstate.specs.Export.{Tlv, tlv, bytesOf, present, aslaValue, inGroup, leaders, groupValue}
+use Rattle.linkstate.specs.Export.{Tlv, tlv, bytesOf, present, aslaValue, leader, inGroup, leaders, groupValue}
 use Rattle.masks.proofs.Laws.{in-number, size-same, mask-same}
 use Rattle.kinds.proofs.Computing.{computing}
 use Rattle.masks.specs.Sets.{turnedPlace}
@@ -90,18 +91,42 @@ module _ (p : ℕ → Bool) where
           in-number (λ i. ltb (64 + turnedPlace i) 128 && p (64 + turnedPlace i)) (turnedPlace (n - 64)) (turned-below (n - 64) (omega arith))
           ∙ ap (λ (i : ℕ). ltb (64 + i) 128 && p (64 + i)) (turned-back (n - 64)) ∙ ap (λ (i : ℕ). ltb i 128 && p i) z ∙ rw (lt-ltb n 128 h)
 
+-- A row of numbers is two rows.
+numbers-split : (a k n : ℕ) → numbers a (k + n) ≡ numbers a k ++ numbers (a + k) n
+unfolding numbers
+numbers-split a zero n = let e : 0 + n ≡ n = omega arith in let f : a + 0 ≡ a = omega arith in rw (e, f)
+numbers-split a (suc k) n =
+    let e : suc k + n ≡ suc (k + n) = omega arith in
+    let f : a + suc k ≡ suc a + k = omega arith in
+    rw (e, f) (ap (λ (l : List ℕ). a ∷ l) (numbers-split (suc a) k n))
+
 module _ (m : Meaning) where
+  -- Nobody from 96 on is named, so nobody there leads.
+  all-leaders : ((n : ℕ) → m .named n ≡ true → n < 96) → keep (λ a. inGroup m a a) (numbers 1 127) ≡ leaders m
+  unfolding leaders others inGroup
+  all-leaders low =
+      ap (keep (λ a. m .named a && eqb (leader m a) a)) (numbers-split 1 95 32)
+      ∙ keep-append (λ a. m .named a && eqb (leader m a) a) (numbers 1 95) (numbers 96 32)
+      ∙ ap (λ (l : List ℕ). keep (λ a. m .named a && eqb (leader m a) a) (numbers 1 95) ++ l)
+      (keep-no (λ a. m .named a && eqb (leader m a) a) (numbers 96 32) (λ a i. unnamed a (numbers-mem 96 32 i .0) (m .named a) refl))
+      ∙ append-nil (keep (λ a. m .named a && eqb (leader m a) a) (numbers 1 95))
+    where
+      unnamed : (a : ℕ) → 96 ≤ a → (b : Bool) → m .named a ≡ b → b && eqb (leader m a) a ≡ false
+      unnamed a h true e = let l = low a e in absurd (omega arith)
+      unnamed a h false e = refl
+
   one-tlv : (l : ℕ) → groupTlv (groupBelow m 128 l) ≡ bytesOf (tlv 1122 (groupValue m l))
   unfolding groupBelow groupValue
   one-tlv l =
       tlv-is (m .set l) (standards (inGroup m l)) (users (inGroup m l))
       ∙ ap (λ (v : List ℕ). bytesOf (tlv 1122 v)) (asla-same (inSet (these (inGroup m l))) (inGroup m l) (m .set l) (members-are (inGroup m l)))
 
-  pub groups-are : each groupTlv (groupsBelow m 128) ≡ each bytesOf (map (tlv 1122) (map (groupValue m) (leaders m)))
-  unfolding groupsBelow leaders others
-  groups-are =
+  pub groups-are : ((n : ℕ) → m .named n ≡ true → n < 96) → each groupTlv (groupsBelow m 128) ≡ each bytesOf (map (tlv 1122) (map (groupValue m) (leaders m)))
+  unfolding groupsBelow
+  groups-are low =
       let ls = leaders m in
-      each-map groupTlv (groupBelow m 128) ls
+      ap (λ (l : List ℕ). each groupTlv (map (groupBelow m 128) l)) (all-leaders low)
+      ∙ each-map groupTlv (groupBelow m 128) ls
       ∙ each-ext (λ l. groupTlv (groupBelow m 128 l)) (λ l. bytesOf (tlv 1122 (groupValue m l))) ls one-tlv
       ∙ sym (each-map bytesOf (tlv 1122) (map (groupValue m) ls) ∙ each-map (λ v. bytesOf (tlv 1122 v)) (groupValue m) ls)
 

@@ -107,7 +107,7 @@ pub record Placed (sets own : List (List ℕ)) (p : ℕ → Bool) : Type 0 where
 
 -- They are those that a meaning names, and have its sets.
 pub record Gives (m : Meaning) (run : List ℕ) (sets own : List (List ℕ)) (srlgs : ℕ → List ℕ) (p : ℕ → Bool) : Type 0 where
-  pub only : (n : ℕ) → m .named n ≡ true → (1 ≤ n) × (n < 128)
+  pub only : (n : ℕ) → m .named n ≡ true → (1 ≤ n) × (n < 96)
   pub named : (n : ℕ) → 1 ≤ n → n < 128 → m .named n ≡ p n
   pub set : (n : ℕ) → Named p n → row (setOf run (slotGrid sets (slotOf own n)) (srlgs (classOf own n))) ≡ row (m .set n)
 

@@ -96,5 +96,5 @@ pub record Roomy (rows : List (List ℕ)) (used : Used) (named : Names) (classes
   pub words : used .words ≤ 16
   pub sources : (2 ≤ used .sources) × (used .sources ≤ mostSources) × (used .sources ≤ length rows)
   pub room : 3 + sizeOf (inWords (named .named .standard ∷ named .named .user ∷ [])) ≤ length classes
-  pub few : length classes ≤ 131
+  pub few : length classes ≤ 99
   pub whole : length own ≡ 128

@@ -243,8 +243,8 @@ fn classify_many(
     requires { ⌜ Roomy (now rows) used named (now classes) (now own) ⌝ }
     ensures { λ r. ⌜ Slots (now (own .entry)) (now (own .exit)) × ((values : List ℕ) (side : Side) → length values ≤ 64 * used .words → Sourced values (now (rows .entry)) (used .sources) side → Tells (side .live) named → Classified values (now (rows .entry)) (now (classes .exit)) (now (own .exit)) (inSet who) side r) ⌝ }
 {
-    let mut heads = [[1u32; 2]; 131];
-    let mut blocks = [[1u64; 4]; 128];
+    let mut heads = [[1u32; 2]; 99];
+    let mut blocks = [[1u64; 4]; 96];
     classify_in(
         rows,
         used,

@@ -7,7 +7,7 @@ use native.Mathlib.Omega.{arith}
 use lib.Dec.{eqb, ltb}
 use lib.Ieee.{Float}
 use lib.ListN.{length, getD, take}
-use borrow.Author.Tests.{ne-eqb}
+use borrow.Author.Tests.{ne-eqb, ltb-true, lt-ltb}
 use lib.Seq.{take-length}
 use Rattle.linkstate.specs.Bytes.{bytesAt}
 use Rattle.linkstate.specs.Replies.{Verdict, accepted, refused, refusedIf, _then_, unless, faultOfCall, fault, whole, pair, bandwidth, part, count, Reply, absent, found, askRefused, Run, place}
@@ -58,7 +58,7 @@ module _ {A : Type 0} (f : Subject → A) (alike : (v w : Subject) → numberToo
       of : ltb 63 n ≡ true → (x y z : Bool) → f (cond x generally (cond y (standardNo 64) (cond z (userNo 64) (standardNo 64)))) ≡ f (cond x generally (cond y (standardNo n) (cond z (userNo n) (standardNo 64))))
       of h true y z = refl
       of h false true z = alike (standardNo 64) (standardNo n) refl h
-      of h false false true = alike (userNo 64) (userNo n) refl h
+      of h false false true = alike (userNo 64) (userNo n) refl (let l = ltb-true 63 n h in lt-ltb 31 n (omega arith))
       of h false false false = refl
 
       go : (b : Bool) → ltb 63 n ≡ b → f (whomOf who (cond b 64 n)) ≡ f (whomOf who n)

@@ -25,11 +25,8 @@ enum-told-2 c = search needs
 enum-told-3 : tie.Need-enum-told-3
 enum-told-3 c = search needs
 
-mask-number-requires : tie.Need-mask-number-requires
-mask-number-requires c κs = search needs
-
-mask-number-requires-2 : tie.Need-mask-number-requires-2
-mask-number-requires-2 c κs = search needs
+rsvp-te-alone-requires : tie.Need-rsvp-te-alone-requires
+rsvp-te-alone-requires c κs = search needs
 
 returns : tie.Need-returns
 returns c = passes-names _ _ _ _ _ _ (c .names .ensures) (c .before .before .test .given .1)
@@ -44,7 +41,7 @@ returns-4 : tie.Need-returns-4
 returns-4 c = passes-without _ _ _ _ (c .enum-told2 .given .1)
 
 returns-5 : tie.Need-returns-5
-returns-5 c = passes-alone _ _ _ _ (c .before .before .enum-told3 .given .1) _ _ (c .before .mask-number .ensures) (c .mask-number2 .ensures)
+returns-5 c = passes-alone _ _ _ _ (c .before .enum-told3 .given .1) _ (c .rsvp-te-alone .ensures)
 
 pub passes-spec : {M : Type 1} → statement M
 passes-spec =
@@ -57,8 +54,7 @@ passes-spec =
     enum-told
     enum-told-2
     enum-told-3
-    mask-number-requires
-    mask-number-requires-2
+    rsvp-te-alone-requires
     returns
     returns-2
     returns-3

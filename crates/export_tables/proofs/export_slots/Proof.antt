@@ -33,7 +33,7 @@ own-in k = k .classify .last .1 .1 .1 .1 .1 .0
 abbrev asked : tie.After-classify → ℕ → Bool
 asked k = inSet (start k .args .n .who)
 
-few : (k : tie.After-classify) → length (classes-in k) ≤ 131
+few : (k : tie.After-classify) → length (classes-in k) ≤ 99
 few k = omega (arith, start k .pre .room .few, k .classify .kept .1 .1 .1 .1 .0)
 
 module _ (k : tie.After-classify) (side : Side)

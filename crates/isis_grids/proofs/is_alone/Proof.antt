@@ -1,7 +1,7 @@
--- RSVP-TE's bit first, then the numbers of the two masks.
+-- RSVP-TE's bit first, then both masks.
 use native.Mathlib.Omega.{arith}
 use borrow.Author.Tests.{not-true}
-use Rattle.isis_grids.proofs.Taken.{two-bytes, masks-fit, lent-short, not-first, not-alone, alone-if}
+use Rattle.isis_grids.proofs.Taken.{two-bytes, masks-fit, lent-short, not-first, alone-lent}
 use borrow.Author.Needs.{needs}
 use Rattle.isis_grids.proofs.is_alone.Statement.{statement}
 use Rattle.isis_grids.proofs.is_alone.Tie as tie
@@ -39,40 +39,32 @@ cast-e c = search needs
 add-e-2 : tie.Need-add-e-2
 add-e-2 c = omega (arith, masks-fit _ _ (c .before .before .before .before .before .pre) .2)
 
-add-mask-number : tie.Need-add-mask-number
-add-mask-number c = search needs
+add-rsvp-te-alone : tie.Need-add-rsvp-te-alone
+add-rsvp-te-alone c = search needs
 
-sub-mask-number : tie.Need-sub-mask-number
-sub-mask-number c = search needs
+sub-rsvp-te-alone : tie.Need-sub-rsvp-te-alone
+sub-rsvp-te-alone c = search needs
 
-part-mask-number-start : tie.Need-part-mask-number-start
-part-mask-number-start c = search needs
+part-rsvp-te-alone-start : tie.Need-part-rsvp-te-alone-start
+part-rsvp-te-alone-start c = search needs
 
-part-mask-number-end : tie.Need-part-mask-number-end
-part-mask-number-end c = omega (arith, masks-fit _ _ (c .before .before .before .before .before .pre) .2)
+part-rsvp-te-alone-end : tie.Need-part-rsvp-te-alone-end
+part-rsvp-te-alone-end c = omega (arith, masks-fit _ _ (c .before .before .before .before .before .pre) .2)
 
-mask-number-requires : tie.Need-mask-number-requires
-mask-number-requires c κs = lent-short _ _ (c .before .before .before .before .before .before .pre) .0
+sub-rsvp-te-alone-2 : tie.Need-sub-rsvp-te-alone-2
+sub-rsvp-te-alone-2 c = search needs
+
+part-rsvp-te-alone-start-2 : tie.Need-part-rsvp-te-alone-start-2
+part-rsvp-te-alone-start-2 c = search needs
+
+part-rsvp-te-alone-end-2 : tie.Need-part-rsvp-te-alone-end-2
+part-rsvp-te-alone-end-2 c = omega (arith, masks-fit _ _ (c .before .before .before .before .before .before .pre) .2)
+
+rsvp-te-alone-requires : tie.Need-rsvp-te-alone-requires
+rsvp-te-alone-requires c κs = lent-short _ _ (c .before .before .before .before .before .before .before .pre)
 
 returns-2 : tie.Need-returns-2
-returns-2 c = not-alone _ _ (c .before .before .before .before .before .before .before .before .pre) _ (c .before .mask-number .ensures) (λ e. omega (arith, e))
-
-sub-mask-number-2 : tie.Need-sub-mask-number-2
-sub-mask-number-2 c = search needs
-
-part-mask-number-start-2 : tie.Need-part-mask-number-start-2
-part-mask-number-start-2 c = search needs
-
-part-mask-number-end-2 : tie.Need-part-mask-number-end-2
-part-mask-number-end-2 c = omega (arith, masks-fit _ _ (c .before .before .before .before .before .before .before .before .pre) .2)
-
-mask-number-requires-2 : tie.Need-mask-number-requires-2
-mask-number-requires-2 c κs = lent-short _ _ (c .before .before .before .before .before .before .before .before .before .pre) .1
-
-returns-3 : tie.Need-returns-3
-returns-3 c =
-    alone-if _ _ (c .before .before .before .before .before .before .before .before .before .before .pre) _ (c .before .before .before .mask-number .ensures)
-    (omega arith) _ (c .mask-number2 .ensures)
+returns-2 c = alone-lent _ _ (c .before .before .before .before .before .before .before .before .pre) _ (c .rsvp-te-alone .ensures)
 
 pub is-alone-spec : {M : Type 1} → statement M
 is-alone-spec =
@@ -89,14 +81,12 @@ is-alone-spec =
     shared-slice-read-e
     cast-e
     add-e-2
-    add-mask-number
-    sub-mask-number
-    part-mask-number-start
-    part-mask-number-end
-    mask-number-requires
-    returns-2
-    sub-mask-number-2
-    part-mask-number-start-2
-    part-mask-number-end-2
-    mask-number-requires-2
-    returns-3)
+    add-rsvp-te-alone
+    sub-rsvp-te-alone
+    part-rsvp-te-alone-start
+    part-rsvp-te-alone-end
+    sub-rsvp-te-alone-2
+    part-rsvp-te-alone-start-2
+    part-rsvp-te-alone-end-2
+    rsvp-te-alone-requires
+    returns-2)
