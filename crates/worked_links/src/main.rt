@@ -276,6 +276,20 @@ fn read_back(r: &[u8]) {
     ask_run(b"M S G cut, LFA", front(r, 43), Subject::Standard(2));
 }
 
+fn retired(a: &[u8]) {
+    ask_link(b"user 32 alone, user 32", a, b"", b"", Subject::User(32));
+    ask_link(b"user 32 alone, user 31", a, b"", b"", Subject::User(31));
+    say_named(b"user 32 alone, named", isis_link::named(a, b"", b""));
+    export_whole(b"user 32 alone", a, b"", b"");
+}
+
+fn half_retired(a: &[u8], b: &[u8], r: &[u8]) {
+    say_named(b"user 31 and 63, named", isis_link::named(a, b"", b""));
+    export_whole(b"user 31 and 63", a, b"", b"");
+    say_named(b"user 40 in B, named", isis_link::named(b"", b, b""));
+    say_named(b"user 31 and 63 read, named", bgpls_reader::named(r));
+}
+
 fn main() {
     starred_table();
     rooms(
@@ -299,5 +313,14 @@ fn main() {
     // The export of M S G, as document 01 gives it, read back; and the same cut short.
     read_back(
         b"\x04\x44\x00\x04\x00\x00\x00\x0a\x04\x62\x00\x0c\x00\x00\x00\x00\x04\x44\x00\x04\x00\x00\x00\x1e\x04\x62\x00\x10\x04\x00\x00\x00\x40\x00\x00\x00\x04\x44\x00\x04\x00\x00\x00\x14",
+    );
+    // User bits 32 to 63 are retired (document 02, E12): an ASLA for user 32 alone before G; masks of 8 bytes in A and in a run, and one of 6 in B.
+    retired(
+        b"\x10\x0c\x00\x05\x00\x00\x00\x00\x80\x12\x03\x00\x00\x14\x10\x07\x00\x00\x12\x03\x00\x00\x1e",
+    );
+    half_retired(
+        b"\x10\x0f\x00\x08\x00\x00\x00\x01\x00\x00\x00\x01\x12\x03\x00\x00\x14",
+        b"\xee\x1e\x00\x00\x00\x00\x00\x02\x00\x00\x06\x00\x00\x00\x00\x00\x80\x0a\x04\x08\x00\x00\x00\x01\x00\x00\x00\x02\x00\x00\x00\x07",
+        b"\x04\x62\x00\x14\x00\x08\x00\x00\x00\x00\x00\x01\x00\x00\x00\x01\x04\x44\x00\x04\x00\x00\x00\x14",
     );
 }
