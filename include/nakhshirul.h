@@ -58,8 +58,8 @@ extern "C" {
  *              value functions every code but 1096)
  *   SRLGS      [0] how many different SRLGs there are; they stand ascending at
  *              the front of list (1096)
- *   NAMED      [0] the standard applications, [1] the user-defined ones:
- *              application n as 2 to the n, RSVP-TE left out
+ *   NAMED      [0] the standard applications, [1] the user-defined ones, 0 to
+ *              31: application n as 2 to the n, RSVP-TE left out
  *   WRITTEN    [0] the number of bytes written to the front of out
  *   WHY        [0] the rule, [1] the offset of the first byte (the type) of
  *              the advertisement that decides by it or holds the value,
@@ -94,8 +94,8 @@ extern "C" {
  *                   it, or is too short for its fixed fields
  *   LENGTH          a known kind or link identifier has a wrong length
  *   NO_ROOM         the result is longer than list or out; nothing is written
- *   NO_APPLICATION  the application's number is above 63, or `who` is none of
- *                   the three below
+ *   NO_APPLICATION  a standard application's number is above 63, a user-defined
+ *                   one's above 31, or `who` is none of the three below
  *   NO_KIND         the code is none of the fourteen below
  */
 #define NAKHSHIRUL_TOO_LONG 1
@@ -147,7 +147,11 @@ extern "C" {
 /*
  * Whom a question is about (`who` and `number`): the general set, what every
  * application gets that nothing names (its number is ignored); a standard
- * application by its number, 0 to 63; a user-defined one, 0 to 63.
+ * application by its number, 0 to 63; a user-defined one, 0 to 31.
+ *
+ * User-defined applications 32 to 63 are retired. Their bits in a mask count as
+ * 0, in a link and in a run; the mask keeps its length, so that one with no
+ * other bit names nobody, and is not general either. No export has them.
  */
 #define NAKHSHIRUL_GENERAL 0
 #define NAKHSHIRUL_STANDARD 1
@@ -184,7 +188,7 @@ extern "C" {
 #define NAKHSHIRUL_MAX_B 2048
 #define NAKHSHIRUL_MAX_C 1024
 #define NAKHSHIRUL_MAX_RUN 524288
-#define NAKHSHIRUL_MAX_EXPORT 310644
+#define NAKHSHIRUL_MAX_EXPORT 233588
 #define NAKHSHIRUL_MAX_LINK_SRLGS 464
 #define NAKHSHIRUL_MAX_RUN_SRLGS 131064
 
@@ -358,7 +362,7 @@ static inline const char *nakhshirul_application_text(uint8_t who, uint64_t numb
     char *end = text;
     if (who == NAKHSHIRUL_GENERAL)
         return "general set";
-    if (who > NAKHSHIRUL_USER || number > 63)
+    if (who > NAKHSHIRUL_USER || number > (who == NAKHSHIRUL_USER ? 31 : 63))
         return "no application";
     if (who == NAKHSHIRUL_STANDARD && number <= NAKHSHIRUL_FLEX_ALGO)
         return known[number];

@@ -71,20 +71,23 @@ impl Fates<'_> {
             let whom = if self.facts.is_some() { ": for all not named" } else { "" };
             return fate("general", format!("general{whom}"));
         }
+        let retired = retired(found);
         if named.is_empty() {
-            return fate("neither", "neither: its masks have no bit, so it names nobody");
+            let no_bit = if retired.is_empty() { "no bit" } else { "no other bit" };
+            let text = format!("neither{retired}: its masks have {no_bit}, so it names nobody");
+            return fate("neither", text);
         }
         let who = who(&named);
         if found.l_flag {
             let legacy = if self.run == RunName::B { "the SRLGs of C" } else { "legacy values" };
-            let text = format!("names {who}, L-flag (byte {}): {legacy}", found.flags);
+            let text = format!("names {who}{retired}, L-flag (byte {}): {legacy}", found.flags);
             return fate("names", text);
         }
         let overruled = match self.run {
             RunName::B => self.overruled(&named),
             _ => String::new(),
         };
-        fate("names", format!("names {who}{overruled}"))
+        fate("names", format!("names {who}{retired}{overruled}"))
     }
 
     /// Of the applications that an advertisement names, those that another names with L.
@@ -235,6 +238,16 @@ impl Fates<'_> {
     fn element_at(&self, value: usize) -> usize {
         value - if self.is_bgp_ls() { 4 } else { 2 }
     }
+}
+
+/// ` (retired user bits 40, 62-63 ignored)`, or nothing.
+fn retired(found: &Advertisement) -> String {
+    let bits = found.retired();
+    if bits.is_empty() {
+        return String::new();
+    }
+    let s = if bits.len() == 1 { "" } else { "s" };
+    format!(" (retired user bit{s} {} ignored)", names::ranges(&bits).join(", "))
 }
 
 /// Applications, each in one piece where a line is broken.

@@ -115,6 +115,9 @@ const ISIS: Layout = Layout { has_flags: true, header: 2, allowed: |length| leng
 const BGP_LS: Layout =
     Layout { has_flags: false, header: 4, allowed: |length| matches!(length, 0 | 4 | 8) };
 
+/// The bits of user applications; from 32 on they are retired and count as 0.
+const USERS: u64 = 0xFFFF_FFFF;
+
 struct Walker<'a> {
     run: &'a [u8],
     name: RunName,
@@ -265,7 +268,9 @@ impl Walker<'_> {
         found.standard = start..start + standard;
         found.user = found.standard.end..found.standard.end + user;
         found.unread.start = found.user.end;
-        found.names = [self.bits(&found.standard), self.bits(&found.user)];
+        let user = self.bits(&found.user);
+        found.names = [self.bits(&found.standard), user & USERS];
+        found.retired = user & !USERS;
         Ok(found)
     }
 

@@ -124,7 +124,7 @@ fn check_walk(file: &str, report: &Report, number: u8) {
 fn check_fates(file: &str, report: &Report, facts: &Facts) {
     assert!(report.lists.iter().all(|(_, list)| list.first_fault().is_none()), "{file}");
     let standard = (0..64).map(Subject::Standard);
-    let all = standard.chain((0..64).map(Subject::User)).chain([Subject::General]);
+    let all = standard.chain((0..32).map(Subject::User)).chain([Subject::General]);
     let everyone: Vec<Subject> = all.collect();
     for (run, list) in report.lists.iter().filter(|(run, _)| *run != RunName::B) {
         let fates = Fates { run: *run, list, facts: Some(facts) };

@@ -94,6 +94,20 @@ fn why_tells_one_fact_a_line() {
 }
 
 #[test]
+fn retired_bits_are_told_as_ignored() {
+    let text =
+        "A 10 0F 00 08 04 00 00 00 00 00 00 81 12 03 00 00 14 10 08 01 05 00 00 00 00 00 80\n";
+    let (out, _, status) = run(&["--json", "-"], text);
+    let names = "\"note\":\"names user 5 (retired user bits 56, 63 ignored)\"";
+    let neither = "\"note\":\"neither (retired user bit 32 ignored): its masks have no other bit";
+    assert!(out.contains(names) && out.contains(neither), "{out}");
+    assert!(
+        out.contains("\"named\":[\"user 5\"]") && out.contains("\"retired_user_bits\":[56,63]")
+    );
+    assert_eq!(status, Some(0));
+}
+
+#[test]
 fn a_closed_pipe_is_quiet() {
     let many = M_Z_G.repeat(2000);
     let mut child = program(&[]).spawn().unwrap();

@@ -1,8 +1,8 @@
 /*
  * Calls every function of the C interface and compares what it answers: the
- * worked links of document 01, each status, each refusal with its run and
- * offset, what is written and what is left alone, and the links of
- * bench/links (the folder is the first argument).
+ * worked links of document 01 and those of document 02's requests, each
+ * status, each refusal with its run and offset, what is written and what is
+ * left alone, and the links of bench/links (the folder is the first argument).
  *
  * A line for each group; the last line is 'N passed, M failed', in groups. The
  * status is 0 only if nothing differed.
@@ -124,6 +124,39 @@ static struct link link_of(struct run a, struct run b, struct run c)
 static struct link only_a(struct run a)
 {
     return link_of(a, run_of(nothing, 0), run_of(nothing, 0));
+}
+
+/* A run of bytes in hex, with blanks between them or without; it stays until it has been followed by seven more. */
+static struct run hex(const char *text)
+{
+    static uint8_t rooms[8][256];
+    static unsigned next;
+    static const char digits[] = "0123456789ABCDEF";
+    uint8_t *room = rooms[next++ % 8];
+    size_t n = 0;
+    for (; *text != '\0'; text++) {
+        const char *digit = strchr(digits, *text >= 'a' ? *text - 'a' + 'A' : *text);
+        if (*text == ' ')
+            continue;
+        if (digit == NULL || n / 2 == sizeof rooms[0]) {
+            check(0, "bytes in hex", __LINE__);
+            break;
+        }
+        room[n / 2] = (uint8_t)(n % 2 == 0 ? (digit - digits) << 4 : room[n / 2] | (digit - digits));
+        n++;
+    }
+    check(n % 2 == 0, "whole bytes in hex", __LINE__);
+    return run_of(room, n / 2);
+}
+
+static struct link only_a_hex(const char *a)
+{
+    return only_a(hex(a));
+}
+
+static struct link link_hex(const char *a, const char *b, const char *c)
+{
+    return link_of(hex(a), hex(b), hex(c));
 }
 
 #define LIST 1024
@@ -265,7 +298,7 @@ static void worked_links(void)
         CHECK(absent(ask(l, GENERAL, 0, codes[i])));
         CHECK(absent(ask(l, STANDARD, 0, codes[i])));
         CHECK(absent(ask(l, STANDARD, 1, codes[i])));
-        CHECK(absent(ask(l, USER, 63, codes[i])));
+        CHECK(absent(ask(l, USER, 31, codes[i])));
     }
     l = only_a(RUN(msg));
     CHECK(metric(l, STANDARD, 0, 10) && metric(l, STANDARD, 1, 20) && metric(l, STANDARD, 2, 30) && metric(l, USER, 5, 30));
@@ -308,7 +341,7 @@ static void readings(void)
     CHECK(is(ask(l, STANDARD, 0, 1088), NAKHSHIRUL_NUMBER, 0x80000001u, 0));
     CHECK(is(ask(l, STANDARD, 0, 1115), NAKHSHIRUL_PAIR, 0x80000005u, 9));
     CHECK(is(ask(l, STANDARD, 0, 1089), NAKHSHIRUL_BANDWIDTH, 0x7FA12345u, 0));
-    CHECK(is(ask(l, USER, 63, 1089), NAKHSHIRUL_BANDWIDTH, 0x7FA12345u, 0));
+    CHECK(is(ask(l, USER, 31, 1089), NAKHSHIRUL_BANDWIDTH, 0x7FA12345u, 0));
     CHECK(is(ask(l, GENERAL, 0, 1090), NAKHSHIRUL_BANDWIDTH, 0x3F800000u, 0));
     CHECK(is(ask(l, STANDARD, 0, 1118), NAKHSHIRUL_BANDWIDTH, 0xFFFFFFFFu, 0));
     CHECK(absent(ask(l, STANDARD, 1, 1118)));
@@ -342,13 +375,13 @@ static void values(void)
 
 static void names(void)
 {
-    static const uint8_t all[] = {0x10, 0x12, 0x08, 0x08, 0xFF, 0xFF, 0xFF, 0xFF, 0xFF, 0xFF, 0xFF, 0xFF, 0x80, 0, 0, 0, 0, 0, 0, 1};
+    static const uint8_t all[] = {0x10, 0x12, 0x08, 0x08, 0xFF, 0xFF, 0xFF, 0xFF, 0xFF, 0xFF, 0xFF, 0xFF, 0x80, 0, 0, 1, 0, 0, 0, 1};
     CHECK(is(named(only_a(run_of(nothing, 0))), NAKHSHIRUL_NAMED, 0, 0));
     CHECK(is(named(only_a(RUN(msg))), NAKHSHIRUL_NAMED, 2, 0));
     CHECK(is(named(only_a(RUN(two_naming))), NAKHSHIRUL_NAMED, 6, 0));
     CHECK(is(named(only_a(RUN(bit_6))), NAKHSHIRUL_NAMED, 64, 0));
     CHECK(is(named(only_a(RUN(user_0))), NAKHSHIRUL_NAMED, 0, 1));
-    CHECK(is(named(only_a(RUN(all))), NAKHSHIRUL_NAMED, 0xFFFFFFFFFFFFFFFEu, 0x8000000000000001u));
+    CHECK(is(named(only_a(RUN(all))), NAKHSHIRUL_NAMED, 0xFFFFFFFFFFFFFFFEu, 0x80000001u));
     CHECK(is(named(link_of(RUN(just_g), RUN(srlg_7), run_of(nothing, 0))), NAKHSHIRUL_NAMED, 2, 0));
     CHECK(refused(named(only_a(run_of(msg, 4))), NAKHSHIRUL_CUT, NAKHSHIRUL_RUN_A, 0));
 }
@@ -403,8 +436,10 @@ static void refusals(void)
     CHECK(refused(ask(only_a(run_of(zeros, 2049)), STANDARD, 1, 1092), NAKHSHIRUL_TOO_LONG, NAKHSHIRUL_RUN_A, 0));
     CHECK(refused(ask(link_of(none, run_of(zeros, 2049), none), STANDARD, 1, 1092), NAKHSHIRUL_TOO_LONG, NAKHSHIRUL_RUN_A, 0));
     CHECK(refused(ask(link_of(none, none, run_of(zeros, 1025)), STANDARD, 1, 1092), NAKHSHIRUL_TOO_LONG, NAKHSHIRUL_RUN_A, 0));
-    CHECK(metric(l, STANDARD, 63, 30) && metric(l, USER, 63, 30));
+    CHECK(metric(l, STANDARD, 63, 30) && metric(l, USER, 31, 30));
     CHECK(refused(ask(l, STANDARD, 64, 1092), NAKHSHIRUL_NO_APPLICATION, NAKHSHIRUL_RUN_A, 0));
+    CHECK(refused(ask(l, USER, 32, 1092), NAKHSHIRUL_NO_APPLICATION, NAKHSHIRUL_RUN_A, 0));
+    CHECK(refused(ask(l, USER, 63, 1092), NAKHSHIRUL_NO_APPLICATION, NAKHSHIRUL_RUN_A, 0));
     CHECK(refused(ask(l, USER, 64, 1092), NAKHSHIRUL_NO_APPLICATION, NAKHSHIRUL_RUN_A, 0));
     CHECK(refused(ask(l, STANDARD, 0x100000001u, 1092), NAKHSHIRUL_NO_APPLICATION, NAKHSHIRUL_RUN_A, 0));
     CHECK(refused(ask(l, USER, 0xFFFFFFFFFFFFFFFFu, 1092), NAKHSHIRUL_NO_APPLICATION, NAKHSHIRUL_RUN_A, 0));
@@ -449,7 +484,7 @@ static void runs(void)
     CHECK(refused(run_named(RUN(cut_header)), NAKHSHIRUL_CUT, NAKHSHIRUL_RUN_BGPLS, 4));
     CHECK(absent(run_value(RUN(bad_length), GENERAL, 0, 1092)));
     CHECK(refused(run_ask(r, 3, 0, 1092), NAKHSHIRUL_NO_APPLICATION, NAKHSHIRUL_RUN_A, 0));
-    CHECK(refused(run_ask(r, USER, 64, 1), NAKHSHIRUL_NO_APPLICATION, NAKHSHIRUL_RUN_A, 0));
+    CHECK(refused(run_ask(r, USER, 32, 1), NAKHSHIRUL_NO_APPLICATION, NAKHSHIRUL_RUN_A, 0));
     CHECK(refused(run_ask(r, USER, 1, 1), NAKHSHIRUL_NO_KIND, NAKHSHIRUL_RUN_A, 0));
     CHECK(absent(run_ask(run_of(zeros, 524288), GENERAL, 0, 1092)));
     CHECK(refused(run_ask(run_of(zeros, 524289), GENERAL, 0, 1092), NAKHSHIRUL_TOO_LONG, NAKHSHIRUL_RUN_A, 0));
@@ -489,7 +524,7 @@ static void reasons(void)
     CHECK(by_legacy(why(l, USER, 5, 1089), NAKHSHIRUL_RUN_A));
     CHECK(by(why(only_a(RUN(msg)), STANDARD, 1, 1092), NAKHSHIRUL_RULE_NAMED, NAKHSHIRUL_RUN_A, 5));
     CHECK(by(why(only_a(RUN(empty_named)), STANDARD, 1, 1092), NAKHSHIRUL_RULE_NAMED, NAKHSHIRUL_RUN_A, 0));
-    CHECK(by(why(only_a(RUN(carried)), USER, 63, 1089), NAKHSHIRUL_RULE_CARRIED, NAKHSHIRUL_RUN_A, 5));
+    CHECK(by(why(only_a(RUN(carried)), USER, 31, 1089), NAKHSHIRUL_RULE_CARRIED, NAKHSHIRUL_RUN_A, 5));
     l = link_of(RUN(just_g), RUN(srlg_7), none);
     CHECK(by(why(l, STANDARD, 1, 1096), NAKHSHIRUL_RULE_NAMED, NAKHSHIRUL_RUN_B, 0));
     CHECK(by(why(l, STANDARD, 1, 1092), NAKHSHIRUL_RULE_UNNAMED, NAKHSHIRUL_RUN_A, 0));
@@ -505,6 +540,61 @@ static void reasons(void)
     CHECK(by(run_why(RUN(msg_export), GENERAL, 1, 1092), NAKHSHIRUL_RULE_GENERAL, NAKHSHIRUL_RUN_BGPLS, 8));
     CHECK(by_none(run_why(RUN(msg_export), GENERAL, 1, 1096), NAKHSHIRUL_RULE_GENERAL));
     CHECK(refused(run_why(run_of(msg_export, 43), GENERAL, 1, 1092), NAKHSHIRUL_CUT, NAKHSHIRUL_RUN_BGPLS, 24));
+}
+
+/* ---- the worked cases of document 02's requests */
+
+#define G_HEX "10 07 00 00 12 03 00 00 1E "
+
+/* Whether the export of a link is these bytes, its length is told so, and one byte less is too little. */
+static int exported(struct link l, const char *text)
+{
+    struct run due = hex(text);
+    if (!is(export_to(l, due.len), NAKHSHIRUL_WRITTEN, due.len, 0) || memcmp(out + 1, due.bytes, due.len) != 0 || !out_untouched_from(due.len))
+        return 0;
+    if (due.len > 0 && !(refused(export_to(l, due.len - 1), NAKHSHIRUL_NO_ROOM, NAKHSHIRUL_RUN_A, 0) && out_untouched_from(0)))
+        return 0;
+    return is(export_length(l), NAKHSHIRUL_WRITTEN, due.len, 0);
+}
+
+/* Whether every function refuses a link so, whatever it is asked, and the value function has nothing. */
+static int all_refused(struct link l, unsigned number, unsigned run, uint64_t offset)
+{
+    return refused(ask(l, STANDARD, 1, 1092), number, run, offset) && refused(ask(l, GENERAL, 0, 1096), number, run, offset)
+        && refused(why(l, STANDARD, 0, 1089), number, run, offset) && refused(named(l), number, run, offset)
+        && refused(export_to(l, OUT), number, run, offset) && out_untouched_from(0) && refused(export_length(l), number, run, offset)
+        && absent(value(l, STANDARD, 1, 1092)) && list_untouched_from(0);
+}
+
+/* E12: user bits 32 to 63 are retired. */
+static void retired_bits(void)
+{
+    struct link l = only_a_hex("10 0C 00 05 00 00 00 00 80 12 03 00 00 14" G_HEX);
+    uint64_t n;
+    for (n = 32; n < 64; n++) {
+        CHECK(refused(ask(l, USER, n, 1092), NAKHSHIRUL_NO_APPLICATION, NAKHSHIRUL_RUN_A, 0));
+        CHECK(refused(ask(l, USER, n, 1), NAKHSHIRUL_NO_APPLICATION, NAKHSHIRUL_RUN_A, 0));
+        CHECK(refused(why(l, USER, n, 1092), NAKHSHIRUL_NO_APPLICATION, NAKHSHIRUL_RUN_A, 0));
+        CHECK(refused(run_ask(RUN(msg_export), USER, n, 1092), NAKHSHIRUL_NO_APPLICATION, NAKHSHIRUL_RUN_A, 0));
+        CHECK(refused(run_why(RUN(msg_export), USER, n, 1092), NAKHSHIRUL_NO_APPLICATION, NAKHSHIRUL_RUN_A, 0));
+        CHECK(absent(value(l, USER, n, 1092)) && absent(run_value(RUN(msg_export), USER, n, 1092)));
+    }
+    CHECK(metric(l, USER, 31, 30));
+    CHECK(is(named(l), NAKHSHIRUL_NAMED, 0, 0));
+    CHECK(exported(l, "0462000c00000000044400040000001e"));
+    l = only_a_hex("10 0F 00 08 00 00 00 01 00 00 00 01 12 03 00 00 14");
+    CHECK(is(named(l), NAKHSHIRUL_NAMED, 0, 2147483648u) && metric(l, USER, 31, 20));
+    CHECK(exported(l, "0462001000040000000000010444000400000014"));
+    l = only_a_hex("10 0F 01 06 80 00 00 00 00 00 80 0A 04 4C 00 00 01");
+    CHECK(is(ask(l, STANDARD, 0, 1090), NAKHSHIRUL_BANDWIDTH, 0x4C000001u, 0));
+    CHECK(absent(ask(only_a_hex("10 0D 01 04 80 00 00 00 01 0A 04 4C 00 00 01"), STANDARD, 0, 1090)));
+    l = only_a_hex("10 0D 00 05 00 00 00 00 80 09 04 4C 00 00 02");
+    CHECK(is(ask(l, USER, 7, 1089), NAKHSHIRUL_BANDWIDTH, 0x4C000002u, 0));
+    CHECK(all_refused(only_a_hex("10 0B 00 05 00 00 00 00 80 12 02 00 14"), NAKHSHIRUL_LENGTH, NAKHSHIRUL_RUN_A, 9));
+    l = link_hex("", "EE 1E 00 00 00 00 00 02 00 00 06 00 00 00 00 00 80 0A 04 08 00 00 00 01 00 00 00 02 00 00 00 07", "");
+    CHECK(is(named(l), NAKHSHIRUL_NAMED, 0, 0) && absent(ask(l, GENERAL, 0, 1096)) && exported(l, ""));
+    CHECK(is(run_named(hex("0462 0014 0008 0000 00000001 00000001 0444 0004 00000014")), NAKHSHIRUL_NAMED, 0, 2147483648u));
+    CHECK(absent(run_ask(hex("0462 0014 0008 0000 00000000 00000001 0444 0004 00000014"), GENERAL, 0, 1092)));
 }
 
 /* ---- null pointers with length 0 */
@@ -622,7 +712,9 @@ static void texts(void)
     CHECK(strcmp(nakhshirul_application_text(STANDARD, NAKHSHIRUL_FLEX_ALGO, text), "Flex-Algo") == 0);
     CHECK(strcmp(nakhshirul_application_text(STANDARD, 63, text), "standard 63") == 0);
     CHECK(strcmp(nakhshirul_application_text(USER, 3, text), "user 3") == 0);
-    CHECK(strcmp(nakhshirul_application_text(USER, 64, text), "no application") == 0);
+    CHECK(strcmp(nakhshirul_application_text(STANDARD, 64, text), "no application") == 0);
+    CHECK(strcmp(nakhshirul_application_text(USER, 31, text), "user 31") == 0);
+    CHECK(strcmp(nakhshirul_application_text(USER, 32, text), "no application") == 0);
     CHECK(strcmp(nakhshirul_application_text(3, 0, text), "no application") == 0);
 }
 
@@ -698,10 +790,10 @@ static void bench_link(const char *name)
     CHECK(x.status == NAKHSHIRUL_NAMED && is(y, x.status, x.reply[0], x.reply[1]));
     for (i = 0; i < sizeof codes / sizeof codes[0]; i++) {
         CHECK(alike(l, r, GENERAL, 0, codes[i]));
-        for (n = 0; n < 64; n++) {
+        for (n = 0; n < 64; n++)
             CHECK(alike(l, r, STANDARD, n, codes[i]));
+        for (n = 0; n < 32; n++)
             CHECK(alike(l, r, USER, n, codes[i]));
-        }
     }
 }
 
@@ -745,6 +837,7 @@ int main(int count, char **words)
     group("refusals", refusals);
     group("BGP-LS runs", runs);
     group("why", reasons);
+    group("E12: user bits 32 to 63 retired", retired_bits);
     group("null with length 0", nulls);
     group("most SRLGs of a link", most_of_a_link);
     group("most SRLGs of a run", most_of_a_run);

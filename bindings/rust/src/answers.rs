@@ -11,7 +11,7 @@ pub enum Subject {
     /// A standard application: 0 is RSVP-TE, 1 SR Policy, 2 LFA, 3 Flex-Algo. Above 63 a question
     /// is refused.
     Standard(u64),
-    /// A user-defined application, 0 to 63.
+    /// A user-defined application, 0 to 31. Above 31 a question is refused: 32 to 63 are retired.
     User(u64),
 }
 
@@ -68,7 +68,7 @@ impl Subject {
 pub enum Application {
     /// A standard application by its number, 0 to 63.
     Standard(u8),
-    /// A user-defined application by its number, 0 to 63.
+    /// A user-defined application by its number, 0 to 31.
     User(u8),
 }
 
@@ -315,7 +315,7 @@ pub enum Refusal {
     },
     /// 5: the result is longer than the room that was lent.
     NoRoom,
-    /// 6: the application's number is above 63.
+    /// 6: the number of a standard application is above 63, or that of a user-defined one above 31.
     NoApplication,
     /// 7: the code is none of the fourteen.
     NoKind,
@@ -452,10 +452,11 @@ impl IntoIterator for Applications {
 /// ```
 /// use nakhshirul::{code, Link};
 ///
-/// // Two ASLAs: SR Policy and LFA have metric 20, user-defined application 63 has metric 21.
+/// // Two ASLAs: SR Policy and LFA have metric 20, user-defined application 31 has metric 21. The last
+/// // four bytes of its mask are rubbish: user bits 32 to 63 are retired.
 /// let a = [
 ///     0x10, 8, 1, 0, 0x60, 0x12, 3, 0, 0, 20,
-///     0x10, 15, 0, 8, 0, 0, 0, 0, 0, 0, 0, 1, 0x12, 3, 0, 0, 21,
+///     0x10, 15, 0, 8, 0, 0, 0, 1, 0xDE, 0xAD, 0xBE, 0xEF, 0x12, 3, 0, 0, 21,
 /// ];
 /// let link = Link { a: &a, b: &[], c: &[] };
 /// for application in link.named().unwrap() {

@@ -11,6 +11,7 @@ use crate::reference::kinds::{CODES, SRLG};
 use crate::reference::link::{named_on, read_link, Sides};
 use crate::reference::meaning::{self, Set};
 use crate::reference::reply::{Fault, Run};
+use crate::reference::side_a::Asla;
 
 /// Counts of calls and of what the links and runs had in them.
 #[derive(Default)]
@@ -129,7 +130,7 @@ const IGNORED: [(&str, Ignored); 7] = [
     ("BGP-LS", Ignored::MaskLength),
 ];
 
-const THINGS: [&str; 30] = [
+const THINGS: [&str; 43] = [
     "A general",
     "A naming",
     "A neither",
@@ -153,13 +154,26 @@ const THINGS: [&str; 30] = [
     "BGP-LS run of 524288 bytes accepted",
     "BGP-LS run of 524289 bytes",
     "95 ASLAs or more, each of one application",
-    "60 ASLAs or more, each of 100 applications or more",
+    "60 ASLAs or more, each of 90 applications or more",
     "400 ASLAs or more",
     "60 TLVs 238 or more",
     "464 SRLGs ascending",
     "464 SRLGs falling",
     "464 SRLGs in any order",
     "60 groups or more with 400 SRLGs or more",
+    "A with retired bits",
+    "A with retired bits alone",
+    "A with L and retired bits alone",
+    "A with RSVP-TE alone but for retired bits, and 1090",
+    "A with 1089 beside retired bits alone",
+    "B with retired bits",
+    "B with retired bits alone",
+    "BGP-LS with retired bits",
+    "BGP-LS with retired bits alone",
+    "BGP-LS with a user mask of 8 bytes without retired bits",
+    "user 31 asked and answered",
+    "user 32 asked",
+    "user 33 to 63 asked",
 ];
 
 impl Coverage {
@@ -180,6 +194,12 @@ impl Coverage {
         if outcome.status == 16 {
             let [rule, offset, run, _] = outcome.reply;
             *self.whys.entry((function, rule, offset != u64::MAX, run)).or_default() += 1;
+        }
+        if let Request::Ask { who: 2, number, .. } | Request::Why { who: 2, number, .. } = request {
+            let refused = outcome.status == 134;
+            self.thing_if(*number == 31 && outcome.status < 128, "user 31 asked and answered");
+            self.thing_if(*number == 32 && refused, "user 32 asked");
+            self.thing_if((33..64).contains(number) && refused, "user 33 to 63 asked");
         }
         let code = match request {
             Request::Ask { code, .. } | Request::Value { code, .. } => *code,
@@ -234,6 +254,14 @@ impl Coverage {
                 }
                 for asla in reader.aslas {
                     self.thing(pick(&asla, ["BGP-LS general", "BGP-LS naming", "BGP-LS neither"]));
+                    self.retired(
+                        &asla,
+                        ["BGP-LS with retired bits", "BGP-LS with retired bits alone"],
+                    );
+                    self.thing_if(
+                        asla.masks.user.len() == 8 && !asla.masks.retired,
+                        "BGP-LS with a user mask of 8 bytes without retired bits",
+                    );
                 }
             }
         }
@@ -255,12 +283,15 @@ impl Coverage {
             if asla.legacy_flag {
                 self.thing("A with L");
             }
+            self.retired(asla, ["A with retired bits", "A with retired bits alone"]);
+            self.retired_in_a(asla);
         }
         for tlv in &sides.b.live {
             self.thing(pick(tlv, ["B general", "B naming", "B neither"]));
             if tlv.legacy_flag {
                 self.thing("B with L");
             }
+            self.retired(tlv, ["B with retired bits", "B with retired bits alone"]);
         }
         if rule(&sides.a.live, RSVP_TE) == Rule::Legacy {
             self.thing("RSVP-TE with L on A");
@@ -270,6 +301,25 @@ impl Coverage {
         }
     }
 
+    /// Retired bits of a user mask: beside others, or alone.
+    fn retired<T>(&mut self, one: &Advertisement<T>, things: [&'static str; 2]) {
+        self.thing_if(one.masks.retired, things[0]);
+        self.thing_if(one.masks.retired && one.masks.bits_set() == 0, things[1]);
+    }
+
+    /// What retired bits must not change in A: whom L is for, and the bandwidths.
+    fn retired_in_a(&mut self, asla: &Asla) {
+        if !asla.masks.retired {
+            return;
+        }
+        let has = |code| asla.carries.iter().any(|one| one.code == code);
+        let alone = asla.masks.name(RSVP_TE) && asla.masks.bits_set() == 1;
+        let nobody = asla.masks.bits_set() == 0;
+        self.thing_if(nobody && asla.legacy_flag, "A with L and retired bits alone");
+        self.thing_if(alone && has(1090), "A with RSVP-TE alone but for retired bits, and 1090");
+        self.thing_if(nobody && has(1089), "A with 1089 beside retired bits alone");
+    }
+
     /// The shapes of `shapes.rs`.
     fn shapes(&mut self, sides: &Sides) {
         let naming = |least: u32, most: u32| {
@@ -277,7 +327,7 @@ impl Coverage {
             named.filter(|n| (least..=most).contains(n)).count()
         };
         self.thing_if(naming(1, 1) >= 95, "95 ASLAs or more, each of one application");
-        self.thing_if(naming(100, 128) >= 60, "60 ASLAs or more, each of 100 applications or more");
+        self.thing_if(naming(90, 96) >= 60, "60 ASLAs or more, each of 90 applications or more");
         self.thing_if(sides.a.live.len() >= 400, "400 ASLAs or more");
         self.thing_if(sides.b.live.len() >= 60, "60 TLVs 238 or more");
         let srlgs: Vec<u32> = sides.b.live.iter().flat_map(|tlv| tlv.carries.clone()).collect();

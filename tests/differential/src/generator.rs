@@ -63,7 +63,8 @@ impl Scene {
     }
 }
 
-/// Registered applications often, and those at the ends of mask bytes.
+/// Registered applications often, and those at the ends of mask bytes; user ones with a retired number
+/// too, whose masks have retired bits.
 pub fn some_application(random: &mut Random) -> Application {
     const ENDS: [u8; 14] = [0, 1, 2, 3, 7, 8, 15, 16, 30, 31, 32, 33, 62, 63];
     match random.below(10) {
@@ -71,8 +72,9 @@ pub fn some_application(random: &mut Random) -> Application {
         2..=3 => Application::Standard(random.between(1, 2) as u8),
         4 => Application::Standard(random.pick(&ENDS)),
         5 => Application::Standard(random.below(64) as u8),
-        6..=7 => Application::User(random.pick(&ENDS)),
-        _ => Application::User(random.below(64) as u8),
+        6 => Application::User(random.pick(&ENDS)),
+        7 => Application::User(random.below(64) as u8),
+        _ => Application::User(random.below(32) as u8),
     }
 }
 
@@ -180,6 +182,16 @@ fn stretch(mask: &mut Vec<u8>, random: &mut Random) {
     }
 }
 
+/// Rubbish in the retired bits of a user mask, which is then longer than four bytes, by `step` or by a
+/// multiple of it.
+pub fn rubbish(user: &mut Vec<u8>, step: usize, random: &mut Random) {
+    let length = 4 + step * random.between(1, 4 / step);
+    user.resize(length.max(user.len()), 0);
+    for byte in &mut user[4..] {
+        *byte = if random.percent(30) { 1 << random.below(8) } else { random.byte() };
+    }
+}
+
 fn some_masks(scene: &Scene, random: &mut Random) -> SentMasks {
     let mut masks = SentMasks {
         legacy_flag: random.percent(12),
@@ -197,6 +209,14 @@ fn some_masks(scene: &Scene, random: &mut Random) -> SentMasks {
     if random.percent(20) {
         stretch(&mut masks.standard, random);
         stretch(&mut masks.user, random);
+    }
+    if random.percent(12) {
+        if random.percent(20) {
+            // Retired bits alone, or beside RSVP-TE.
+            masks.standard = random.pick(&[vec![], vec![0], vec![128]]);
+            masks.user = Vec::new();
+        }
+        rubbish(&mut masks.user, 1, random);
     }
     if scene.odd(random) {
         odd_masks(&mut masks, random);

@@ -1,6 +1,6 @@
 //! BGP-LS runs, made at random: such as exporters write, and such as none does.
 
-use crate::generator::{masks_of, some_of, Scene};
+use crate::generator::{masks_of, rubbish, some_of, Scene};
 use crate::random::Random;
 use crate::reference::kinds::CODES;
 
@@ -66,6 +66,14 @@ fn masks(scene: &Scene, random: &mut Random) -> (Vec<u8>, Vec<u8>) {
         if mask.len() < 8 && random.percent(10) {
             mask.resize(mask.len() + 4, 0);
         }
+    }
+    if random.percent(10) {
+        if random.percent(25) {
+            // Retired bits alone.
+            standard.clear();
+            user.clear();
+        }
+        rubbish(&mut user, 4, random);
     }
     if scene.odd(random) {
         match random.below(6) {

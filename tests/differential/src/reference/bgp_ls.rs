@@ -106,8 +106,7 @@ fn read_asla(run: &[u8], tlv: &Tlv) -> Result<Verdict<Vec<Attribute>>, Refusal> 
         at = inner.end;
     }
     // Standard bit 0 is ignored, but a mask with no other bit is still a mask.
-    let mut masks =
-        Masks { standard: run[masks_at..user_at].to_vec(), user: run[user_at..list_at].to_vec() };
+    let mut masks = Masks::sent(&run[masks_at..user_at], &run[user_at..list_at]);
     if let Some(first) = masks.standard.first_mut() {
         *first &= 127;
     }

@@ -36,8 +36,8 @@ pub enum Fault {
     SrlgsUneven,
     /// The whole result is longer than the lent buffer.
     RoomTooSmall,
-    /// The application's number is above 63.
-    ApplicationAbove63,
+    /// There is no application of this number: above 63, of user ones above 31.
+    NoApplication,
     /// The code point is none of the fourteen.
     UnknownCode,
 }
@@ -56,7 +56,7 @@ impl Fault {
             | Fault::ListCut => 3,
             Fault::KindLength | Fault::IdentifierLength | Fault::SrlgsUneven => 4,
             Fault::RoomTooSmall => 5,
-            Fault::ApplicationAbove63 => 6,
+            Fault::NoApplication => 6,
             Fault::UnknownCode => 7,
         }
     }

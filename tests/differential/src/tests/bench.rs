@@ -9,7 +9,7 @@ use crate::reference::link::named;
 fn empty_a() {
     let link = Link::default();
     for code in CODES {
-        for asker in [Asker::General, RSVP_TE, SR_POLICY, Asker::User(63)] {
+        for asker in [Asker::General, RSVP_TE, SR_POLICY, Asker::User(31)] {
             assert_eq!(ask(&link, asker, code, 0), Ok(Answer::Absent));
         }
     }

@@ -6,6 +6,7 @@ mod comparison;
 mod limits;
 mod places;
 mod reader;
+mod retired;
 mod settled;
 mod why;
 

@@ -71,19 +71,19 @@ fn rsvp_te() {
 
 #[test]
 fn groups() {
-    // User 40 and standard 2 share a set, SR Policy and user 0 have empty ones.
-    let a = "10 0E 01 06 20 00 00 00 00 00 80 12 03 00 00 07 10 04 01 01 40 80 ";
+    // Standard 40 and user 2 share a set, SR Policy and user 0 have empty ones.
+    let a = "10 0E 06 01 00 00 00 00 00 80 20 12 03 00 00 07 10 04 01 01 40 80 ";
     let link = link(a, "", "");
     let names = [
         Application::Standard(1),
-        Application::Standard(2),
+        Application::Standard(40),
         Application::User(0),
-        Application::User(40),
+        Application::User(2),
     ];
     assert_eq!(named(&link).unwrap(), names);
     let written = bytes(
         "04 62 00 0C 04 04 00 00 40 00 00 00 80 00 00 00 \
-         04 62 00 18 04 08 00 00 20 00 00 00 00 00 00 00 00 80 00 00 04 44 00 04 00 00 00 07",
+         04 62 00 18 08 04 00 00 00 00 00 00 00 80 00 00 20 00 00 00 04 44 00 04 00 00 00 07",
     );
     assert_eq!(export(&link, usize::MAX), Ok(written));
 }
