@@ -86,7 +86,7 @@ extern "C" {
  * Numbers of a refusal. Of several reasons the first one is told, in this
  * order: NO_APPLICATION, NO_KIND, TOO_LONG, ODD_SRLGS, then faults of run a
  * from its start, of run b from its start (or of the BGP-LS run from its
- * start), then NO_ROOM. All but CUT and LENGTH name run a and offset 0.
+ * start), then NO_ROOM. All but CUT, LENGTH and TWICE name run a and offset 0.
  *
  *   TOO_LONG        a run is longer than said above
  *   ODD_SRLGS       the length of run c is not a multiple of 4
@@ -97,6 +97,11 @@ extern "C" {
  *   NO_APPLICATION  a standard application's number is above 63, a user-defined
  *                   one's above 31, or `who` is none of the three below
  *   NO_KIND         the code is none of the fourteen below
+ *   TWICE           a known kind stands twice in the list of one ASLA, be it a
+ *                   sub-TLV of run a or a TLV 1122 of a run; the second one is
+ *                   told. Lists that are not read (behind an L-flag, or where
+ *                   the ASLA is ignored), unknown types and what stands outside
+ *                   an ASLA are never refused so
  */
 #define NAKHSHIRUL_TOO_LONG 1
 #define NAKHSHIRUL_ODD_SRLGS 2
@@ -105,6 +110,7 @@ extern "C" {
 #define NAKHSHIRUL_NO_ROOM 5
 #define NAKHSHIRUL_NO_APPLICATION 6
 #define NAKHSHIRUL_NO_KIND 7
+#define NAKHSHIRUL_TWICE 8
 
 /* The run that a place or a refusal is in, in reply[2]; run c for WHY alone. */
 #define NAKHSHIRUL_RUN_A 0
@@ -305,6 +311,8 @@ static inline const char *nakhshirul_refusal_text(uint64_t status)
         return "there is no such application";
     case NAKHSHIRUL_REFUSED + NAKHSHIRUL_NO_KIND:
         return "the code is none of the fourteen";
+    case NAKHSHIRUL_REFUSED + NAKHSHIRUL_TWICE:
+        return "a kind stands twice in one ASLA";
     default:
         return "not refused";
     }

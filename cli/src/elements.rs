@@ -125,7 +125,7 @@ impl List {
 /// What is wrong with an element.
 #[derive(Clone, Debug, PartialEq, Eq)]
 pub struct Fault {
-    /// The number of the refusal: 3 or 4.
+    /// The number of the refusal: 3, 4 or 8.
     pub number: u8,
     pub run: RunName,
     /// The element's first byte.

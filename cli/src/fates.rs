@@ -43,7 +43,7 @@ impl Fates<'_> {
             (Body::Identifier, _) => fate("identifier", ""),
             (Body::PassedOver, _) => fate("unknown", "passed over inside an ASLA"),
             (Body::Attribute(kind), Body::Advertisement(found)) => match self.facts {
-                Some(facts) => self.inner_attribute(element, kind, holder, found, facts),
+                Some(facts) => self.inner_attribute(element, kind, found, facts),
                 None => fate("attribute", ""),
             },
             _ => fate("unknown", "unknown, passed over"),
@@ -137,7 +137,6 @@ impl Fates<'_> {
         &self,
         element: &Element,
         kind: &Kind,
-        holder: &Element,
         found: &Advertisement,
         facts: &Facts,
     ) -> Fate {
@@ -146,10 +145,6 @@ impl Fates<'_> {
         }
         if kind.code == 1096 {
             return fate("attribute", "");
-        }
-        let mut twice = holder.inner.elements.iter().take_while(|e| e.offset < element.offset);
-        if let Some(first) = twice.find(|e| e.number == element.number) {
-            return shadowed(first.offset);
         }
         if found.is_general() {
             return match self.place(facts, Subject::General, kind) {

@@ -111,7 +111,7 @@ fn check_table(file: &str, facts: &Facts, reference: &Reference) {
 fn check_walk(file: &str, report: &Report, number: u8) {
     let fault = report.lists.iter().find_map(|(_, list)| list.first_fault());
     let Err(refusal) = &report.facts else { return };
-    if matches!(number, 3 | 4) {
+    if matches!(number, 3 | 4 | 8) {
         let fault = fault.unwrap_or_else(|| panic!("{file}: no fault"));
         let place = Place { run: fault.run, offset: fault.offset };
         assert_eq!((fault.number, Some(place)), (number, refusal.place), "{file}");

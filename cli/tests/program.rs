@@ -40,6 +40,19 @@ fn a_refusal_is_status_1() {
 }
 
 #[test]
+fn a_kind_twice_is_told_with_both_places() {
+    let (out, _, status) = run(&["--brief"], "A 10 0D 01 00 40 12 03 00 00 14\nA 12 03 00 00 15\n");
+    let expected = "refused 8, run A at 10: TE metric (type 18) stands twice in its ASLA, first at 5 (line 2)\n";
+    assert!(out.ends_with(expected), "{out}");
+    assert_eq!(status, Some(1));
+    let run_text = "BGP-LS 0462 0010 04000000 40000000 0448 0000 0448 0000\n";
+    let (out, _, status) = run(&["--brief"], run_text);
+    let expected = "refused 8, run BGP-LS at 16: SRLG (type 1096) stands twice in its ASLA, first at 12 (line 1)\n";
+    assert!(out.ends_with(expected), "{out}");
+    assert_eq!(status, Some(1));
+}
+
+#[test]
 fn a_faulty_line_is_status_2_and_the_rest_is_shown() {
     let text = format!("link x\nA 12 0G\n{M_Z_G}");
     let (out, errors, status) = run(&["--brief"], &text);

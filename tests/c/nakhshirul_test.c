@@ -544,6 +544,8 @@ static void reasons(void)
 
 /* ---- the worked cases of document 02's requests */
 
+#define M_HEX "12 03 00 00 0A "
+#define S_HEX "10 08 01 00 40 12 03 00 00 14 "
 #define G_HEX "10 07 00 00 12 03 00 00 1E "
 
 /* Whether the export of a link is these bytes, its length is told so, and one byte less is too little. */
@@ -595,6 +597,49 @@ static void retired_bits(void)
     CHECK(is(named(l), NAKHSHIRUL_NAMED, 0, 0) && absent(ask(l, GENERAL, 0, 1096)) && exported(l, ""));
     CHECK(is(run_named(hex("0462 0014 0008 0000 00000001 00000001 0444 0004 00000014")), NAKHSHIRUL_NAMED, 0, 2147483648u));
     CHECK(absent(run_ask(hex("0462 0014 0008 0000 00000000 00000001 0444 0004 00000014"), GENERAL, 0, 1092)));
+}
+
+/* An ASLA of SR Policy with two TE metrics. */
+#define TWO_METRICS "10 0D 01 00 40 12 03 00 00 14 12 03 00 00 15 "
+
+/* Whether every function refuses a run so, whatever it is asked, and the value function has nothing. */
+static int all_of_run_refused(struct run r, unsigned number, uint64_t offset)
+{
+    return refused(run_ask(r, STANDARD, 1, 1092), number, NAKHSHIRUL_RUN_BGPLS, offset)
+        && refused(run_ask(r, STANDARD, 0, 1096), number, NAKHSHIRUL_RUN_BGPLS, offset)
+        && refused(run_why(r, GENERAL, 0, 1092), number, NAKHSHIRUL_RUN_BGPLS, offset)
+        && refused(run_named(r), number, NAKHSHIRUL_RUN_BGPLS, offset) && absent(run_value(r, STANDARD, 1, 1092)) && list_untouched_from(0);
+}
+
+/* E5: the same kind twice in one ASLA is refused. */
+static void twice(void)
+{
+    struct link l;
+    CHECK(all_refused(only_a_hex(TWO_METRICS), NAKHSHIRUL_TWICE, NAKHSHIRUL_RUN_A, 10));
+    CHECK(all_refused(only_a_hex(M_HEX TWO_METRICS), NAKHSHIRUL_TWICE, NAKHSHIRUL_RUN_A, 15));
+    CHECK(all_refused(only_a_hex("10 0C 01 00 40 12 03 00 00 14 12 02 00 15"), NAKHSHIRUL_LENGTH, NAKHSHIRUL_RUN_A, 10));
+    CHECK(all_refused(only_a_hex("10 0F 01 00 40 12 03 00 00 14 12 03 00 00 15 12 09"), NAKHSHIRUL_TWICE, NAKHSHIRUL_RUN_A, 10));
+    CHECK(all_refused(only_a_hex("10 0E 00 00 09 04 4C 00 00 01 09 04 4C 00 00 02"), NAKHSHIRUL_TWICE, NAKHSHIRUL_RUN_A, 10));
+    CHECK(all_refused(only_a_hex("10 0D 01 00 00 12 03 00 00 14 12 03 00 00 15"), NAKHSHIRUL_TWICE, NAKHSHIRUL_RUN_A, 10));
+    CHECK(all_refused(only_a_hex("10 13 01 00 40 12 03 00 00 14 03 04 00 00 00 01 12 03 00 00 15"), NAKHSHIRUL_TWICE, NAKHSHIRUL_RUN_A, 16));
+    l = only_a_hex(M_HEX "10 0D 81 00 40 12 03 00 00 14 12 03 00 00 15");
+    CHECK(metric(l, STANDARD, 1, 10));
+    l = only_a_hex("10 15 09 00 40 00 00 00 00 00 00 00 00 12 03 00 00 14 12 03 00 00 15");
+    CHECK(absent(ask(l, STANDARD, 1, 1092)) && is(named(l), NAKHSHIRUL_NAMED, 0, 0));
+    CHECK(is(named(only_a_hex("10 0B 01 00 40 C8 02 00 00 C8 02 00 01")), NAKHSHIRUL_NAMED, 2, 0));
+    CHECK(is(named(only_a_hex("10 07 01 00 40 10 00 10 00")), NAKHSHIRUL_NAMED, 2, 0));
+    CHECK(metric(only_a_hex("12 03 00 00 0A 12 03 00 00 0B"), STANDARD, 0, 10));
+    CHECK(metric(only_a_hex(S_HEX "10 08 01 00 40 12 03 00 00 15"), STANDARD, 1, 20));
+    l = link_hex("", "EE 22 00 00 00 00 00 02 00 00 00 14 04 08 00 00 00 01 00 00 00 02 04 08 00 00 00 01 00 00 00 02 00 00 00 07", "");
+    CHECK(absent(ask(l, GENERAL, 0, 1096)));
+    CHECK(all_of_run_refused(hex("0462 0018 04000000 40000000 0444 0004 00000014 0444 0004 00000015"), NAKHSHIRUL_TWICE, 20));
+    CHECK(all_of_run_refused(hex("0462 0010 04000000 40000000 0448 0000 0448 0000"), NAKHSHIRUL_TWICE, 16));
+    CHECK(all_of_run_refused(hex("0462 0013 04000000 40000000 0448 0000 0448 0003 000000"), NAKHSHIRUL_LENGTH, 16));
+    CHECK(is(run_named(hex("0462 0010 04000000 40000000 0441 0000 0441 0000")), NAKHSHIRUL_NAMED, 2, 0));
+    CHECK(is(run_named(hex("0462 0010 04000000 40000000 0462 0000 0462 0000")), NAKHSHIRUL_NAMED, 2, 0));
+    CHECK(is(run_named(hex("0462 0018 05000000 40000000 0444 0004 00000014 0444 0004 00000015")), NAKHSHIRUL_NAMED, 0, 0));
+    CHECK(is(run_ask(hex("0444 0004 00000014 0444 0004 00000015"), STANDARD, 0, 1092), NAKHSHIRUL_NUMBER, 20, 0));
+    CHECK(is(run_ask(hex("0448 0004 00000009 0448 0004 00000007"), STANDARD, 0, 1096), NAKHSHIRUL_SRLGS, 2, 0) && list[1] == 7 && list[2] == 9);
 }
 
 /* ---- null pointers with length 0 */
@@ -705,7 +750,8 @@ static void texts(void)
     char text[NAKHSHIRUL_TEXT];
     CHECK(strcmp(nakhshirul_refusal_text(named(only_a(run_of(msg, 4))).status), "an element is cut") == 0);
     CHECK(strcmp(nakhshirul_refusal_text(named(only_a(RUN(msg))).status), "not refused") == 0);
-    CHECK(strcmp(nakhshirul_refusal_text(NAKHSHIRUL_REFUSED + 8), "not refused") == 0);
+    CHECK(strcmp(nakhshirul_refusal_text(named(only_a_hex(TWO_METRICS)).status), "a kind stands twice in one ASLA") == 0);
+    CHECK(strcmp(nakhshirul_refusal_text(NAKHSHIRUL_REFUSED + 9), "not refused") == 0);
     CHECK(strcmp(nakhshirul_kind_text(1092), "TE metric") == 0 && strcmp(nakhshirul_kind_text(1122), "no kind") == 0);
     CHECK(strcmp(nakhshirul_application_text(GENERAL, 7, text), "general set") == 0);
     CHECK(strcmp(nakhshirul_application_text(STANDARD, NAKHSHIRUL_SR_POLICY, text), "SR Policy") == 0);
@@ -838,6 +884,7 @@ int main(int count, char **words)
     group("BGP-LS runs", runs);
     group("why", reasons);
     group("E12: user bits 32 to 63 retired", retired_bits);
+    group("E5: a kind twice in one ASLA", twice);
     group("null with length 0", nulls);
     group("most SRLGs of a link", most_of_a_link);
     group("most SRLGs of a run", most_of_a_run);

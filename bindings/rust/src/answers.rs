@@ -319,10 +319,19 @@ pub enum Refusal {
     NoApplication,
     /// 7: the code is none of the fourteen.
     NoKind,
+    /// 8: a known kind stands twice in the list of one ASLA. The second one begins there.
+    Twice {
+        /// The run to blame.
+        run: Run,
+        /// The element's first byte.
+        offset: usize,
+        /// The fragment of that run, 0.
+        fragment: u8,
+    },
 }
 
 impl Refusal {
-    /// Its number, 1 to 7.
+    /// Its number, 1 to 8.
     ///
     /// ```
     /// assert_eq!(nakhshirul::Refusal::NoRoom.number(), 5);
@@ -336,10 +345,11 @@ impl Refusal {
             Refusal::NoRoom => 5,
             Refusal::NoApplication => 6,
             Refusal::NoKind => 7,
+            Refusal::Twice { .. } => 8,
         }
     }
 
-    /// Where the faulty element begins, if one is to blame (3 and 4).
+    /// Where the faulty element begins, if one is to blame (3, 4 and 8).
     pub fn place(self) -> Option<Place> {
         match self {
             Refusal::Cut {
@@ -348,6 +358,11 @@ impl Refusal {
                 fragment,
             }
             | Refusal::Length {
+                run,
+                offset,
+                fragment,
+            }
+            | Refusal::Twice {
                 run,
                 offset,
                 fragment,
@@ -369,6 +384,7 @@ impl Refusal {
             Refusal::NoRoom => "the result is longer than the room lent",
             Refusal::NoApplication => "there is no such application",
             Refusal::NoKind => "the code is none of the fourteen",
+            Refusal::Twice { .. } => "a kind stands twice in one ASLA",
         }
     }
 }
@@ -382,6 +398,11 @@ impl Refusal {
 /// let link = Link { a: &[0x12, 3, 0, 0, 10, 0x12, 2, 0, 10], b: &[], c: &[] };
 /// let refusal = link.named().unwrap_err();
 /// assert_eq!(refusal.to_string(), "refused by 4: an element has a wrong length, run A at 5");
+///
+/// // An ASLA with two TE metrics, the second one at byte 10.
+/// let link = Link { a: &[0x10, 13, 1, 0, 0x40, 0x12, 3, 0, 0, 20, 0x12, 3, 0, 0, 21], b: &[], c: &[] };
+/// let refusal = link.named().unwrap_err();
+/// assert_eq!(refusal.to_string(), "refused by 8: a kind stands twice in one ASLA, run A at 10");
 /// ```
 impl fmt::Display for Refusal {
     fn fmt(&self, f: &mut fmt::Formatter<'_>) -> fmt::Result {
@@ -553,6 +574,11 @@ impl Reply {
             133 => Refusal::NoRoom,
             134 => Refusal::NoApplication,
             135 => Refusal::NoKind,
+            136 => Refusal::Twice {
+                run,
+                offset,
+                fragment,
+            },
             n => unreachable!("status {n}"),
         }
     }

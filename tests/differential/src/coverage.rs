@@ -10,8 +10,9 @@ use crate::reference::export::groups;
 use crate::reference::kinds::{CODES, SRLG};
 use crate::reference::link::{named_on, read_link, Sides};
 use crate::reference::meaning::{self, Set};
-use crate::reference::reply::{Fault, Run};
+use crate::reference::reply::{Fault, Refusal, Run};
 use crate::reference::side_a::Asla;
+use crate::repeats::{Format, Repeat};
 
 /// Counts of calls and of what the links and runs had in them.
 #[derive(Default)]
@@ -31,21 +32,22 @@ pub struct Coverage {
     rules: BTreeMap<(&'static str, Rule), u64>,
     whys: BTreeMap<(usize, u64, bool, u64), u64>,
     ignored: BTreeMap<(&'static str, Ignored), u64>,
+    repeats: BTreeMap<(&'static str, Repeat), u64>,
     things: BTreeMap<&'static str, u64>,
 }
 
 /// The statuses that each function can give.
 const STATUSES: [&[u64]; 10] = [
-    &[0, 1, 2, 3, 4, 5, 129, 130, 131, 132, 133, 134, 135],
+    &[0, 1, 2, 3, 4, 5, 129, 130, 131, 132, 133, 134, 135, 136],
     &[0, 4],
-    &[6, 129, 130, 131, 132],
-    &[7, 129, 130, 131, 132, 133],
-    &[0, 1, 2, 3, 4, 5, 129, 131, 132, 133, 134, 135],
+    &[6, 129, 130, 131, 132, 136],
+    &[7, 129, 130, 131, 132, 133, 136],
+    &[0, 1, 2, 3, 4, 5, 129, 131, 132, 133, 134, 135, 136],
     &[0, 4],
-    &[6, 129, 131, 132],
-    &[16, 129, 130, 131, 132, 134, 135],
-    &[16, 129, 131, 132, 134, 135],
-    &[7, 129, 130, 131, 132],
+    &[6, 129, 131, 132, 136],
+    &[16, 129, 130, 131, 132, 134, 135, 136],
+    &[16, 129, 131, 132, 134, 135, 136],
+    &[7, 129, 130, 131, 132, 136],
 ];
 
 /// The place of `nakhshirul_export_length`.
@@ -84,6 +86,7 @@ const FAULTS: [(&str, &[Fault]); 3] = [
             Fault::FixedFieldsCut,
             Fault::MasksCut,
             Fault::KindLength,
+            Fault::KindTwice,
         ],
     ),
     (
@@ -107,6 +110,7 @@ const FAULTS: [(&str, &[Fault]); 3] = [
             Fault::FixedFieldsCut,
             Fault::MasksCut,
             Fault::KindLength,
+            Fault::KindTwice,
         ],
     ),
 ];
@@ -128,6 +132,39 @@ const IGNORED: [(&str, Ignored); 7] = [
     ("B", Ignored::IdentifierRepeated),
     ("B", Ignored::IdentifiersMissing),
     ("BGP-LS", Ignored::MaskLength),
+];
+
+const REPEATS: [(&str, &[Repeat]); 2] = [
+    (
+        "A",
+        &[
+            Repeat::Neighbour,
+            Repeat::FurtherOn,
+            Repeat::BeforeAFault,
+            Repeat::Bandwidth,
+            Repeat::WrongLength,
+            Repeat::BehindAFault,
+            Repeat::Unknown,
+            Repeat::WithL,
+            Repeat::Ignored,
+            Repeat::Outside,
+        ],
+    ),
+    (
+        "BGP-LS",
+        &[
+            Repeat::Neighbour,
+            Repeat::FurtherOn,
+            Repeat::BeforeAFault,
+            Repeat::EmptySrlgs,
+            Repeat::Bandwidth,
+            Repeat::WrongLength,
+            Repeat::BehindAFault,
+            Repeat::Unknown,
+            Repeat::Ignored,
+            Repeat::Outside,
+        ],
+    ),
 ];
 
 const THINGS: [&str; 43] = [
@@ -218,7 +255,9 @@ impl Coverage {
                 self.thing_if(link.a.len() == 2049, "A of 2049 bytes");
                 self.thing_if(link.b.len() == 2049, "B of 2049 bytes");
                 self.thing_if(link.c.len() == 1028, "C of 1028 bytes");
-                let Ok(sides) = read_link(link) else { return };
+                let read = read_link(link);
+                self.repeats("A", Format::A, &link.a, read.as_ref().err());
+                let Ok(sides) = read else { return };
                 self.accepted_links += 1;
                 self.thing_if(link.a.len() == 2048, "A of 2048 bytes accepted");
                 self.thing_if(link.b.len() == 2048, "B of 2048 bytes accepted");
@@ -246,7 +285,9 @@ impl Coverage {
             Subject::Run(run) => {
                 self.runs += 1;
                 self.thing_if(run.len() == 524_289, "BGP-LS run of 524289 bytes");
-                let Ok(reader) = read_run(run) else { return };
+                let read = read_run(run);
+                self.repeats("BGP-LS", Format::BgpLs, run, read.as_ref().err());
+                let Ok(reader) = read else { return };
                 self.accepted_runs += 1;
                 self.thing_if(run.len() == 524_288, "BGP-LS run of 524288 bytes accepted");
                 for why in reader.ignored {
@@ -318,6 +359,26 @@ impl Coverage {
         self.thing_if(nobody && asla.legacy_flag, "A with L and retired bits alone");
         self.thing_if(alone && has(1090), "A with RSVP-TE alone but for retired bits, and 1090");
         self.thing_if(nobody && has(1089), "A with 1089 beside retired bits alone");
+    }
+
+    /// What stands twice in a run, if nothing but it is to blame for a refusal.
+    fn repeats(
+        &mut self,
+        name: &'static str,
+        format: Format,
+        run: &[u8],
+        refusal: Option<&Refusal>,
+    ) {
+        let blamed = match refusal.map(|refusal| (refusal.fault.number(), refusal.run)) {
+            None => true,
+            Some((3 | 4 | 8, blamed)) => blamed != Run::B,
+            Some(_) => false,
+        };
+        if blamed {
+            for one in format.repeats(run, refusal.copied()) {
+                *self.repeats.entry((name, one)).or_default() += 1;
+            }
+        }
     }
 
     /// The shapes of `shapes.rs`.
@@ -397,6 +458,13 @@ impl Coverage {
                 missing.push(format!("{one:?}"));
             }
         }
+        for (run, repeats) in REPEATS {
+            for one in repeats {
+                if !self.repeats.contains_key(&(run, *one)) {
+                    missing.push(format!("{run} twice {one:?}"));
+                }
+            }
+        }
         for one in THINGS {
             if !self.things.contains_key(one) {
                 missing.push(one.to_string());
@@ -419,10 +487,10 @@ impl Coverage {
             let counts = self.statuses.iter().filter(|((one, _), _)| *one == function);
             line(name, counts.map(|((_, status), n)| format!("{status}: {n}")));
         }
-        for number in 1..=7 {
+        for number in 1..=8 {
             let counts = self.faults.iter().filter(|((_, fault), _)| fault.number() == number);
             let texts = counts.map(|((run, fault), n)| match number {
-                3 | 4 => format!("{run} {fault:?}: {n}"),
+                3 | 4 | 8 => format!("{run} {fault:?}: {n}"),
                 _ => format!("{n}"),
             });
             line(&format!("refused by {number}"), texts);
@@ -443,6 +511,7 @@ impl Coverage {
         }
         line("rules", self.rules.iter().map(|((side, rule), n)| format!("{side} {rule:?}: {n}")));
         line("ignored", self.ignored.iter().map(|((side, why), n)| format!("{side} {why:?}: {n}")));
+        line("twice", self.repeats.iter().map(|((run, one), n)| format!("{run} {one:?}: {n}")));
         line("met", self.things.iter().map(|(thing, n)| format!("{thing}: {n}")));
     }
 }

@@ -2,6 +2,7 @@
 
 use crate::random::Random;
 use crate::reference::application::Application;
+use crate::reference::kinds::code_of_isis_type;
 use crate::reference::link::Link;
 
 /// What the parts of one link or run draw from: a few applications and a few values, so that they
@@ -124,10 +125,14 @@ pub struct SentMasks {
 }
 
 impl SentMasks {
+    /// Both lengths as they are declared.
+    fn lengths(&self) -> (u8, u8) {
+        self.declared.unwrap_or((self.standard.len() as u8, self.user.len() as u8))
+    }
+
     /// The two bytes of lengths and flags, and the masks.
     pub fn bytes(&self) -> Vec<u8> {
-        let (standard, user) =
-            self.declared.unwrap_or((self.standard.len() as u8, self.user.len() as u8));
+        let (standard, user) = self.lengths();
         let mut bytes = vec![
             standard | if self.legacy_flag { 128 } else { 0 },
             user | if self.reserved { 128 } else { 0 },
@@ -299,6 +304,50 @@ fn extended_group_length(random: &mut Random) -> usize {
     }
 }
 
+/// Leaves a list the first element of each kind.
+pub fn once(list: &mut Vec<Vec<u8>>, code: fn(&[u8]) -> Option<u16>) {
+    let mut seen = Vec::new();
+    list.retain(|part| match code(part) {
+        None => true,
+        Some(code) => {
+            let first = !seen.contains(&code);
+            seen.push(code);
+            first
+        }
+    });
+}
+
+/// The kind of an element in the list of an ASLA; none where it is unknown.
+pub fn kind_in_list(part: &[u8]) -> Option<u16> {
+    code_of_isis_type(part[0])
+}
+
+/// Repeats an element of a list, right behind it or further on: as it is, with another value, or of a
+/// wrong length; now and then beside another fault. `header` bytes stand before a value, the last of
+/// them gives its length.
+pub fn repeat(list: &mut Vec<Vec<u8>>, header: usize, fault: Vec<u8>, random: &mut Random) {
+    if list.is_empty() {
+        return;
+    }
+    let at = random.below(list.len());
+    let mut again = list[at].clone();
+    match random.below(6) {
+        0 if again[header - 1] < 255 => {
+            again.push(0);
+            again[header - 1] += 1;
+        }
+        1..=2 if again.len() > header => {
+            let last = again.len() - 1;
+            again[last] ^= 1;
+        }
+        _ => {}
+    }
+    list.insert(random.between(at + 1, list.len()), again);
+    if random.percent(25) {
+        list.insert(random.between(0, list.len()), fault);
+    }
+}
+
 /// Parts one after another, as many as fit in so many bytes.
 fn as_many_as_fit(parts: Vec<Vec<u8>>, room: usize) -> Vec<u8> {
     let mut bytes = Vec::new();
@@ -328,6 +377,15 @@ pub fn asla(scene: &Scene, random: &mut Random) -> Vec<u8> {
         } else {
             list.push(attribute(scene, random));
         }
+    }
+    // A list that is not read may have anything twice.
+    let (standard, user) = masks.lengths();
+    let read = !masks.legacy_flag && standard <= 8 && user <= 8;
+    if read {
+        once(&mut list, kind_in_list);
+    }
+    if random.percent(25) && (!read || scene.odd(random)) {
+        repeat(&mut list, 2, element(18, &[0, 0]), random);
     }
     if masks.legacy_flag && scene.odd(random) && random.percent(40) {
         // A list that is not read.

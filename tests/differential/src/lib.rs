@@ -11,6 +11,7 @@ pub mod limits;
 pub mod mutate;
 pub mod random;
 pub mod reference;
+pub mod repeats;
 pub mod runs;
 pub mod session;
 pub mod shapes;

@@ -114,7 +114,7 @@ const KINDS: [u8; 13] = [3, 9, 10, 11, 14, 18, 33, 34, 35, 36, 37, 38, 39];
 /// its own. Sometimes one for everybody, or a general one, before or behind them.
 fn one_asla_each(random: &mut Random) -> Vec<u8> {
     let sets = random.pick(&[1, 2, 3, 17, 128, 128]);
-    let second = random.percent(50).then(|| random.pick(&KINDS));
+    let second = random.percent(50).then(|| random.pick(&KINDS)).filter(|kind| *kind != 18);
     let longer = random.percent(20);
     let mut parts = Vec::new();
     for (at, one) in many_applications(random).into_iter().enumerate() {

@@ -5,7 +5,7 @@ use super::application::{
 };
 use super::isis::{frame, mask_header, Element};
 use super::kinds::{
-    code_of_isis_type, isis_length_is_right, Attribute, MAXIMUM_LINK_BANDWIDTH,
+    add_to_list, code_of_isis_type, isis_length_is_right, Attribute, MAXIMUM_LINK_BANDWIDTH,
     MAXIMUM_RESERVABLE_BANDWIDTH, UNRESERVED_BANDWIDTH,
 };
 use super::reply::{Fault, Refusal, Run};
@@ -79,13 +79,13 @@ fn read_asla(a: &[u8], element: &Element) -> Result<Verdict<Vec<Attribute>>, Ref
     // L set: the list is not read.
     let mut attributes = Vec::new();
     if !header.legacy_flag {
-        // Otherwise each list element in turn is framed and, if known, its length checked. An ASLA
-        // in the list is unknown, since 16 is the type of no kind.
+        // Otherwise each list element in turn is framed and, if known, its length checked, and that it
+        // is the first of its kind. An ASLA in the list is unknown, since 16 is the type of no kind.
         let mut at = list_at;
         while at < element.end {
             let inner = frame(a, at, element.end, Run::A)?;
             if let Some(attribute) = read_attribute(&inner)? {
-                attributes.push(attribute);
+                add_to_list(&mut attributes, attribute, Run::A, inner.start)?;
             }
             at = inner.end;
         }

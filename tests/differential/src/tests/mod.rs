@@ -8,6 +8,7 @@ mod places;
 mod reader;
 mod retired;
 mod settled;
+mod twice;
 mod why;
 
 use crate::reference::application::Asker;
