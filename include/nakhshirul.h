@@ -129,8 +129,9 @@ extern "C" {
  *            none has the kind, the first that names it
  *   GENERAL  the general set was asked for: the one that holds the value, of
  *            SRLGs the first general one; none where there is no value
- *   UNNAMED  nothing names the application, so that the general set counts:
- *            as for GENERAL
+ *   UNNAMED  nothing names the application (and, for RSVP-TE, none of the
+ *            eleven kinds of applications is there as a legacy value), so that
+ *            the general set counts: as for GENERAL
  *   LEGACY   legacy values without an L-flag, be they there or not: RSVP-TE's
  *            where no advertisement that names it has the kind, and a
  *            bandwidth (1089 to 1091) that no ASLA gives. No advertisement;

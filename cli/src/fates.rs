@@ -1,7 +1,7 @@
 //! What becomes of each element of a run.
 use crate::elements::{Advertisement, Body, Element, Ignored, List};
 use crate::input::RunName;
-use crate::library::{Application, Subject};
+use crate::library::{Application, Fact, Rule, Subject};
 use crate::names::{self, Kind, RSVP_TE};
 use crate::report::Facts;
 
@@ -68,7 +68,10 @@ impl Fates<'_> {
         }
         let named = found.named();
         if found.is_general() {
-            let whom = if self.facts.is_some() { ": for all not named" } else { "" };
+            let whom = self.facts.map_or("", |facts| match self.is_for_rsvp_te(facts) {
+                true => ": for all not named, RSVP-TE too",
+                false => ": for all not named",
+            });
             return fate("general", format!("general{whom}"));
         }
         let retired = retired(found);
@@ -88,6 +91,14 @@ impl Fates<'_> {
             _ => String::new(),
         };
         fate("names", format!("names {who}{retired}{overruled}"))
+    }
+
+    /// Whether RSVP-TE takes the general set of this run, as the library says of its kinds.
+    fn is_for_rsvp_te(&self, facts: &Facts) -> bool {
+        let gets = facts.all.iter().find(|g| g.whom == RSVP_TE.into());
+        let of_this_run = |f: &&Fact| (f.kind.code == 1096) == (self.run == RunName::B);
+        let mut all = gets.into_iter().flat_map(|g| &g.facts).filter(of_this_run);
+        all.any(|f| f.why.rule == Rule::Unnamed)
     }
 
     /// Of the applications that an advertisement names, those that another names with L.

@@ -107,6 +107,19 @@ fn why_tells_one_fact_a_line() {
 }
 
 #[test]
+fn the_general_set_of_rsvp_te_is_told_as_such() {
+    let g = "link G\nA 10 07 00 00 12 03 00 00 1E\n";
+    let (out, _, status) = run(&["--why", "rsvp-te", "1092", "-"], g);
+    let expected = "G: RSVP-TE: 1092 TE metric: 30: \
+        no ASLA names it and legacy has none of its kinds, so the general ASLA at A 0; value at A 6\n";
+    assert_eq!((out.as_str(), status), (expected, Some(0)));
+    let note = "\"note\":\"general: for all not named, RSVP-TE too\"";
+    assert!(run(&["--json", "-"], g).0.contains(note));
+    let shut_out = format!("{g}A 03 04 00 00 00 05\n");
+    assert!(run(&["--json", "-"], &shut_out).0.contains("\"note\":\"general: for all not named\""));
+}
+
+#[test]
 fn retired_bits_are_told_as_ignored() {
     let text =
         "A 10 0F 00 08 04 00 00 00 00 00 00 81 12 03 00 00 14 10 08 01 05 00 00 00 00 00 80\n";

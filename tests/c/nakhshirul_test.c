@@ -307,14 +307,15 @@ static void worked_links(void)
     CHECK(metric(l, STANDARD, 1, 10) && metric(l, STANDARD, 2, 30));
     CHECK(metric(only_a(RUN(msz)), STANDARD, 1, 10));
     l = only_a(RUN(empty_named));
-    CHECK(absent(ask(l, STANDARD, 1, 1092)) && metric(l, STANDARD, 2, 30));
-    CHECK(metric(only_a(RUN(no_bit)), STANDARD, 1, 30));
+    CHECK(absent(ask(l, STANDARD, 1, 1092)) && metric(l, STANDARD, 2, 30) && metric(l, STANDARD, 0, 30));
+    l = only_a(RUN(no_bit));
+    CHECK(metric(l, STANDARD, 1, 30) && metric(l, STANDARD, 0, 30));
     l = only_a(RUN(bit_6));
     CHECK(metric(l, STANDARD, 6, 20) && absent(ask(l, STANDARD, 1, 1092)));
     l = only_a(RUN(two_naming));
     CHECK(metric(l, STANDARD, 1, 20) && metric(l, STANDARD, 2, 21));
     l = only_a(RUN(user_0));
-    CHECK(metric(l, USER, 0, 20) && absent(ask(l, STANDARD, 0, 1092)) && metric(l, STANDARD, 1, 30));
+    CHECK(metric(l, USER, 0, 20) && metric(l, STANDARD, 0, 30) && metric(l, STANDARD, 1, 30));
     CHECK(absent(ask(only_a(RUN(long_mask)), STANDARD, 1, 1092)));
     l = link_of(RUN(just_g), RUN(srlg_7), run_of(nothing, 0));
     CHECK(metric(l, STANDARD, 1, 30));
@@ -405,9 +406,9 @@ static void exports(void)
     CHECK(refused(export_to(l, 43), NAKHSHIRUL_NO_ROOM, NAKHSHIRUL_RUN_A, 0) && out_untouched_from(0));
     CHECK(refused(export_to(l, 0), NAKHSHIRUL_NO_ROOM, NAKHSHIRUL_RUN_A, 0) && out_untouched_from(0));
     CHECK(is(export_to(only_a(run_of(nothing, 0)), 0), NAKHSHIRUL_WRITTEN, 0, 0) && out_untouched_from(0));
-    CHECK(is(export_to(only_a(RUN(empty_named)), OUT), NAKHSHIRUL_WRITTEN, 28, 0));
+    CHECK(is(export_to(only_a(RUN(empty_named)), OUT), NAKHSHIRUL_WRITTEN, 36, 0));
     CHECK(refused(export_to(only_a(run_of(msg, 4)), OUT), NAKHSHIRUL_CUT, NAKHSHIRUL_RUN_A, 0) && out_untouched_from(0));
-    CHECK(is(export_length(l), NAKHSHIRUL_WRITTEN, 44, 0) && is(export_length(only_a(RUN(empty_named))), NAKHSHIRUL_WRITTEN, 28, 0));
+    CHECK(is(export_length(l), NAKHSHIRUL_WRITTEN, 44, 0) && is(export_length(only_a(RUN(empty_named))), NAKHSHIRUL_WRITTEN, 36, 0));
     CHECK(refused(export_length(only_a(run_of(msg, 4))), NAKHSHIRUL_CUT, NAKHSHIRUL_RUN_A, 0));
 }
 
@@ -520,7 +521,8 @@ static void reasons(void)
     CHECK(by(why(l, GENERAL, 99, 1092), NAKHSHIRUL_RULE_GENERAL, NAKHSHIRUL_RUN_A, 10));
     CHECK(by_none(why(l, GENERAL, 0, 1096), NAKHSHIRUL_RULE_GENERAL));
     CHECK(by_legacy(why(l, STANDARD, 0, 1092), NAKHSHIRUL_RUN_A));
-    CHECK(by_legacy(why(l, STANDARD, 0, 1096), NAKHSHIRUL_RUN_C));
+    CHECK(by_none(why(l, STANDARD, 0, 1096), NAKHSHIRUL_RULE_UNNAMED));
+    CHECK(by_legacy(why(link_of(RUN(mzg), none, RUN(four_srlgs)), STANDARD, 0, 1096), NAKHSHIRUL_RUN_C));
     CHECK(by_legacy(why(l, USER, 5, 1089), NAKHSHIRUL_RUN_A));
     CHECK(by(why(only_a(RUN(msg)), STANDARD, 1, 1092), NAKHSHIRUL_RULE_NAMED, NAKHSHIRUL_RUN_A, 5));
     CHECK(by(why(only_a(RUN(empty_named)), STANDARD, 1, 1092), NAKHSHIRUL_RULE_NAMED, NAKHSHIRUL_RUN_A, 0));
@@ -583,7 +585,7 @@ static void retired_bits(void)
     }
     CHECK(metric(l, USER, 31, 30));
     CHECK(is(named(l), NAKHSHIRUL_NAMED, 0, 0));
-    CHECK(exported(l, "0462000c00000000044400040000001e"));
+    CHECK(exported(l, "044400040000001e0462000c00000000044400040000001e"));
     l = only_a_hex("10 0F 00 08 00 00 00 01 00 00 00 01 12 03 00 00 14");
     CHECK(is(named(l), NAKHSHIRUL_NAMED, 0, 2147483648u) && metric(l, USER, 31, 20));
     CHECK(exported(l, "0462001000040000000000010444000400000014"));
@@ -640,6 +642,57 @@ static void twice(void)
     CHECK(is(run_named(hex("0462 0018 05000000 40000000 0444 0004 00000014 0444 0004 00000015")), NAKHSHIRUL_NAMED, 0, 0));
     CHECK(is(run_ask(hex("0444 0004 00000014 0444 0004 00000015"), STANDARD, 0, 1092), NAKHSHIRUL_NUMBER, 20, 0));
     CHECK(is(run_ask(hex("0448 0004 00000009 0448 0004 00000007"), STANDARD, 0, 1096), NAKHSHIRUL_SRLGS, 2, 0) && list[1] == 7 && list[2] == 9);
+}
+
+/* A TLV 238 for everybody not named, with SRLG 9. */
+#define GENERAL_9 "EE 18 00 00 00 00 00 02 00 00 00 0A 04 08 00 00 00 01 00 00 00 02 00 00 00 09 "
+
+static int has_srlg(struct link l, unsigned who, uint64_t number, uint32_t srlg)
+{
+    return is(ask(l, who, number, 1096), NAKHSHIRUL_SRLGS, 1, 0) && list[1] == srlg && list_untouched_from(1);
+}
+
+/* E2: RSVP-TE takes the general set of a side where nothing names it and legacy has none of the eleven kinds. */
+static void general_for_rsvp_te(void)
+{
+    struct link l = only_a_hex("10 03 01 00 40 " G_HEX);
+    CHECK(metric(l, STANDARD, 0, 30) && is(export_length(l), NAKHSHIRUL_WRITTEN, 36, 0));
+    CHECK(by(why(l, STANDARD, 0, 1092), NAKHSHIRUL_RULE_UNNAMED, NAKHSHIRUL_RUN_A, 5));
+    CHECK(by_none(why(l, STANDARD, 0, 1114), NAKHSHIRUL_RULE_UNNAMED));
+    CHECK(exported(l, "044400040000001e 0462000c00000000 044400040000001e 0462000804000000 40000000"));
+    l = only_a_hex("10 08 01 00 00 12 03 00 00 14 " G_HEX);
+    CHECK(metric(l, STANDARD, 0, 30) && is(export_length(l), NAKHSHIRUL_WRITTEN, 24, 0));
+    l = only_a_hex("10 08 00 01 80 12 03 00 00 14 " G_HEX);
+    CHECK(metric(l, STANDARD, 0, 30) && metric(l, USER, 0, 20) && is(export_length(l), NAKHSHIRUL_WRITTEN, 44, 0));
+    CHECK(is(export_length(link_of(RUN(just_g), RUN(srlg_7), run_of(nothing, 0))), NAKHSHIRUL_WRITTEN, 52, 0));
+    l = only_a_hex("09 04 4C 00 00 01 " G_HEX);
+    CHECK(metric(l, STANDARD, 0, 30) && is(export_length(l), NAKHSHIRUL_WRITTEN, 32, 0));
+    l = only_a_hex("03 04 00 00 00 05 " G_HEX);
+    CHECK(absent(ask(l, STANDARD, 0, 1092)) && is(export_length(l), NAKHSHIRUL_WRITTEN, 24, 0));
+    CHECK(by_legacy(why(l, STANDARD, 0, 1092), NAKHSHIRUL_RUN_A));
+    l = only_a_hex("10 03 01 00 80 " G_HEX);
+    CHECK(absent(ask(l, STANDARD, 0, 1092)) && is(export_length(l), NAKHSHIRUL_WRITTEN, 16, 0));
+    l = only_a_hex("10 03 81 00 80 " G_HEX);
+    CHECK(absent(ask(l, STANDARD, 0, 1092)) && is(export_length(l), NAKHSHIRUL_WRITTEN, 16, 0));
+    l = link_hex(G_HEX, GENERAL_9, "");
+    CHECK(has_srlg(l, STANDARD, 0, 9) && metric(l, STANDARD, 0, 30));
+    CHECK(by(why(l, STANDARD, 0, 1096), NAKHSHIRUL_RULE_UNNAMED, NAKHSHIRUL_RUN_B, 0));
+    CHECK(place(value(l, STANDARD, 0, 1092), NAKHSHIRUL_RUN_A, 6, 3));
+    CHECK(exported(l, "044400040000001e04480004000000090462001400000000044400040000001e0448000400000009"));
+    l = link_hex(G_HEX, GENERAL_9, "00000001");
+    CHECK(has_srlg(l, STANDARD, 0, 1) && has_srlg(l, STANDARD, 1, 9) && metric(l, STANDARD, 0, 30));
+    CHECK(by_legacy(why(l, STANDARD, 0, 1096), NAKHSHIRUL_RUN_C));
+    l = link_hex(M_HEX G_HEX, GENERAL_9, "");
+    CHECK(has_srlg(l, STANDARD, 0, 9) && metric(l, STANDARD, 0, 10));
+    /* Named on side B, without a value and with the L-flag. */
+    l = link_hex(G_HEX, GENERAL_9 "EE 15 00 00 00 00 00 02 00 01 00 80 0A 04 08 00 00 00 01 00 00 00 02", "");
+    CHECK(absent(ask(l, STANDARD, 0, 1096)) && metric(l, STANDARD, 0, 30) && by_legacy(why(l, STANDARD, 0, 1096), NAKHSHIRUL_RUN_C));
+    l = link_hex(G_HEX, GENERAL_9 "EE 15 00 00 00 00 00 02 00 81 00 80 0A 04 08 00 00 00 01 00 00 00 02", "");
+    CHECK(absent(ask(l, STANDARD, 0, 1096)) && metric(l, STANDARD, 0, 30));
+    CHECK(by(why(l, STANDARD, 0, 1096), NAKHSHIRUL_RULE_L_FLAG, NAKHSHIRUL_RUN_B, 26));
+    /* The reader does not change. */
+    CHECK(absent(run_ask(hex("0462000c00000000044400040000001e"), STANDARD, 0, 1092)));
+    CHECK(by_none(run_why(hex("0462000c00000000044400040000001e"), STANDARD, 0, 1092), NAKHSHIRUL_RULE_TOP));
 }
 
 /* ---- null pointers with length 0 */
@@ -885,6 +938,7 @@ int main(int count, char **words)
     group("why", reasons);
     group("E12: user bits 32 to 63 retired", retired_bits);
     group("E5: a kind twice in one ASLA", twice);
+    group("E2: the general set for RSVP-TE", general_for_rsvp_te);
     group("null with length 0", nulls);
     group("most SRLGs of a link", most_of_a_link);
     group("most SRLGs of a run", most_of_a_run);

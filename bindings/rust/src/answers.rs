@@ -264,7 +264,8 @@ pub enum Rule {
     Named = 1,
     /// The general set was asked for.
     General = 2,
-    /// Nothing names the application: the general set.
+    /// Nothing names the application (RSVP-TE: and no kind of applications is there as a legacy value):
+    /// the general set.
     Unnamed = 3,
     /// Legacy values, without an L-flag: what RSVP-TE is given by no advertisement that names it, or
     /// a bandwidth that no ASLA gives.

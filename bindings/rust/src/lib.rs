@@ -202,9 +202,14 @@ impl<'a> Link<'a> {
     /// let why = link.why(Subject::Standard(2), code::TE_METRIC).unwrap();
     /// assert_eq!((why.rule, why.advertisement.unwrap().offset), (Rule::Unnamed, 10));
     ///
-    /// // RSVP-TE is named nowhere: its SRLGs are those of run C, be there some or none.
-    /// let why = link.why(Subject::Standard(0), code::SRLG).unwrap();
-    /// assert_eq!((why.rule, why.advertisement, why.legacy), (Rule::Legacy, None, Some(Run::C)));
+    /// // RSVP-TE is named nowhere: its values are the legacy ones, be there one of the kind or not.
+    /// let why = link.why(Subject::Standard(0), code::DELAY).unwrap();
+    /// assert_eq!((why.rule, why.advertisement, why.legacy), (Rule::Legacy, None, Some(Run::A)));
+    ///
+    /// // Where there is no legacy value of any kind of applications, the general set is RSVP-TE's too.
+    /// let link = Link { a: &a[10..], b: &[], c: &[] };
+    /// let why = link.why(Subject::Standard(0), code::TE_METRIC).unwrap();
+    /// assert_eq!((why.rule, why.advertisement.unwrap().offset), (Rule::Unnamed, 0));
     /// ```
     pub fn why(&self, whom: Subject, code: u16) -> Result<Why, Refusal> {
         let mut reply = Reply::new();

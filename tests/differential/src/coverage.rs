@@ -4,15 +4,47 @@ use std::collections::BTreeMap;
 
 use crate::calls::{function, Request, Subject, FUNCTIONS, WITH_EXPORT_LENGTH};
 use crate::expected::Outcome;
-use crate::reference::application::{rule, Advertisement, Application, Ignored, Rule, RSVP_TE};
+use crate::reference::application::{
+    general, naming, rule, Advertisement, Application, Ignored, Rule, RSVP_TE,
+};
 use crate::reference::bgp_ls::read_run;
 use crate::reference::export::groups;
-use crate::reference::kinds::{CODES, SRLG};
+use crate::reference::kinds::{Attribute, APPLICATION_CODES, CODES, SRLG};
 use crate::reference::link::{named_on, read_link, Sides};
 use crate::reference::meaning::{self, Set};
 use crate::reference::reply::{Fault, Refusal, Run};
 use crate::reference::side_a::Asla;
 use crate::repeats::{Format, Repeat};
+
+/// What becomes of a side's general values for RSVP-TE.
+#[derive(Clone, Copy, PartialEq, Eq, PartialOrd, Ord, Debug)]
+enum ForRsvpTe {
+    Taken,
+    NamedWithL,
+    NamedWithoutAValue,
+    NamedWithAValue,
+    /// Nothing names it, and a kind of applications is legacy.
+    Legacy,
+}
+
+/// The same, for the live advertisements of a side; none where it has no general values.
+fn for_rsvp_te<T>(
+    live: &[Advertisement<T>],
+    has: impl Fn(&T) -> bool,
+    legacy_has_a_kind: bool,
+) -> Option<ForRsvpTe> {
+    let some_has = |of: Vec<&Advertisement<T>>| of.iter().any(|one| has(&one.carries));
+    if !some_has(general(live)) {
+        return None;
+    }
+    Some(match rule(live, RSVP_TE) {
+        Rule::Legacy => ForRsvpTe::NamedWithL,
+        Rule::Naming if some_has(naming(live, RSVP_TE)) => ForRsvpTe::NamedWithAValue,
+        Rule::Naming => ForRsvpTe::NamedWithoutAValue,
+        Rule::General if legacy_has_a_kind => ForRsvpTe::Legacy,
+        Rule::General => ForRsvpTe::Taken,
+    })
+}
 
 /// Counts of calls and of what the links and runs had in them.
 #[derive(Default)]
@@ -33,6 +65,7 @@ pub struct Coverage {
     whys: BTreeMap<(usize, u64, bool, u64), u64>,
     ignored: BTreeMap<(&'static str, Ignored), u64>,
     repeats: BTreeMap<(&'static str, Repeat), u64>,
+    rsvp_te: BTreeMap<(&'static str, ForRsvpTe), u64>,
     things: BTreeMap<&'static str, u64>,
 }
 
@@ -167,7 +200,16 @@ const REPEATS: [(&str, &[Repeat]); 2] = [
     ),
 ];
 
-const THINGS: [&str; 43] = [
+/// What can become of a side's general values for RSVP-TE.
+const FOR_RSVP_TE: [ForRsvpTe; 5] = [
+    ForRsvpTe::Taken,
+    ForRsvpTe::NamedWithL,
+    ForRsvpTe::NamedWithoutAValue,
+    ForRsvpTe::NamedWithAValue,
+    ForRsvpTe::Legacy,
+];
+
+const THINGS: [&str; 50] = [
     "A general",
     "A naming",
     "A neither",
@@ -211,6 +253,13 @@ const THINGS: [&str; 43] = [
     "user 31 asked and answered",
     "user 32 asked",
     "user 33 to 63 asked",
+    "RSVP-TE takes general values of both sides",
+    "RSVP-TE takes general values of A, not of B",
+    "RSVP-TE takes general values of B, not of A",
+    "RSVP-TE takes general values beside legacy bandwidths",
+    "RSVP-TE takes no general values, for legacy has other kinds",
+    "why RSVP-TE takes general values of A",
+    "why RSVP-TE takes general values of B",
 ];
 
 impl Coverage {
@@ -231,6 +280,11 @@ impl Coverage {
         if outcome.status == 16 {
             let [rule, offset, run, _] = outcome.reply;
             *self.whys.entry((function, rule, offset != u64::MAX, run)).or_default() += 1;
+            let rsvp_te = matches!(request, Request::Why { who: 1, number: 0, .. });
+            if rsvp_te && rule == 3 && offset != u64::MAX {
+                self.thing_if(run == 0, "why RSVP-TE takes general values of A");
+                self.thing_if(run == 1, "why RSVP-TE takes general values of B");
+            }
         }
         if let Request::Ask { who: 2, number, .. } | Request::Why { who: 2, number, .. } = request {
             let refused = outcome.status == 134;
@@ -264,6 +318,7 @@ impl Coverage {
                 self.thing_if(link.c.len() == 1024, "C of 1024 bytes accepted");
                 self.sides(&sides);
                 self.shapes(&sides);
+                self.rsvp_te(&sides);
                 let meaning = meaning::of_sides(link, &sides);
                 let groups = groups(&meaning.named);
                 self.groups += groups.len() as u64;
@@ -359,6 +414,32 @@ impl Coverage {
         self.thing_if(nobody && asla.legacy_flag, "A with L and retired bits alone");
         self.thing_if(alone && has(1090), "A with RSVP-TE alone but for retired bits, and 1090");
         self.thing_if(nobody && has(1089), "A with 1089 beside retired bits alone");
+    }
+
+    /// What becomes of the general values of both sides for RSVP-TE.
+    fn rsvp_te(&mut self, sides: &Sides) {
+        let (a, b) = (&sides.a, &sides.b);
+        let of_an_application = |one: &Attribute| APPLICATION_CODES.contains(&one.code);
+        let in_a = |list: &Vec<Attribute>| list.iter().any(of_an_application);
+        let on_a = for_rsvp_te(&a.live, in_a, a.legacy_has_a_kind());
+        let on_b = for_rsvp_te(&b.live, |srlgs| !srlgs.is_empty(), b.legacy_has_a_kind());
+        for (side, one) in [("A", on_a), ("B", on_b)] {
+            if let Some(one) = one {
+                *self.rsvp_te.entry((side, one)).or_default() += 1;
+            }
+        }
+        let taken = |one: Option<ForRsvpTe>| one == Some(ForRsvpTe::Taken);
+        let left = |one: Option<ForRsvpTe>| one.is_some() && !taken(one);
+        self.thing_if(taken(on_a) && taken(on_b), "RSVP-TE takes general values of both sides");
+        self.thing_if(taken(on_a) && left(on_b), "RSVP-TE takes general values of A, not of B");
+        self.thing_if(left(on_a) && taken(on_b), "RSVP-TE takes general values of B, not of A");
+        let bandwidths = taken(on_a) && !a.legacy.is_empty();
+        self.thing_if(bandwidths, "RSVP-TE takes general values beside legacy bandwidths");
+        let general: Vec<u16> =
+            general(&a.live).iter().flat_map(|one| &one.carries).map(|one| one.code).collect();
+        let others = a.legacy.iter().all(|one| !general.contains(&one.code));
+        let shut_out = on_a == Some(ForRsvpTe::Legacy) && others;
+        self.thing_if(shut_out, "RSVP-TE takes no general values, for legacy has other kinds");
     }
 
     /// What stands twice in a run, if nothing but it is to blame for a refusal.
@@ -458,6 +539,11 @@ impl Coverage {
                 missing.push(format!("{one:?}"));
             }
         }
+        for one in ["A", "B"].iter().flat_map(|side| FOR_RSVP_TE.map(|one| (*side, one))) {
+            if !self.rsvp_te.contains_key(&one) {
+                missing.push(format!("{one:?} for RSVP-TE"));
+            }
+        }
         for (run, repeats) in REPEATS {
             for one in repeats {
                 if !self.repeats.contains_key(&(run, *one)) {
@@ -511,6 +597,8 @@ impl Coverage {
         }
         line("rules", self.rules.iter().map(|((side, rule), n)| format!("{side} {rule:?}: {n}")));
         line("ignored", self.ignored.iter().map(|((side, why), n)| format!("{side} {why:?}: {n}")));
+        let general = self.rsvp_te.iter();
+        line("general for RSVP-TE", general.map(|((side, one), n)| format!("{side} {one:?}: {n}")));
         line("twice", self.repeats.iter().map(|((run, one), n)| format!("{run} {one:?}: {n}")));
         line("met", self.things.iter().map(|(thing, n)| format!("{thing}: {n}")));
     }

@@ -13,6 +13,9 @@ pub struct Scene {
     pub srlgs: Vec<u32>,
     /// Of a hundred choices, so many are odd ones.
     pub oddness: usize,
+    /// Nothing legacy but the link's bandwidths in A, and nothing in C, with but few exceptions.
+    pub bare_a: bool,
+    pub bare_c: bool,
 }
 
 impl Scene {
@@ -29,7 +32,8 @@ impl Scene {
         for _ in 0..random.between(1, 6) {
             srlgs.push(some_srlg(random));
         }
-        Scene { applications, words, srlgs, oddness }
+        let (bare_a, bare_c) = (random.percent(35), random.percent(35));
+        Scene { applications, words, srlgs, oddness, bare_a, bare_c }
     }
 
     /// True where an odd choice is due.
@@ -476,11 +480,22 @@ pub fn srlg_tlv(scene: &Scene, random: &mut Random) -> Vec<u8> {
     element(238, &value)
 }
 
+/// An attribute outside an ASLA.
+fn legacy(scene: &Scene, random: &mut Random) -> Vec<u8> {
+    if !scene.bare_a || random.percent(5) {
+        return attribute(scene, random);
+    }
+    match random.pick(&[(9, 4), (10, 4), (11, 32), (0, 0)]) {
+        (0, _) => Vec::new(),
+        (kind, length) => element(kind, &scene.value(random, length)),
+    }
+}
+
 fn run_a(scene: &Scene, random: &mut Random) -> Vec<u8> {
     let mut a = Vec::new();
     for _ in 0..random.pick(&[0, 1, 2, 2, 3, 3, 4, 4, 5, 6, 8, 12]) {
         if random.percent(50) {
-            a.extend(attribute(scene, random));
+            a.extend(legacy(scene, random));
         } else {
             a.extend(asla(scene, random));
         }
@@ -507,6 +522,9 @@ fn run_b(scene: &Scene, random: &mut Random) -> Vec<u8> {
 /// The legacy SRLGs.
 pub fn run_c(scene: &Scene, random: &mut Random) -> Vec<u8> {
     let mut c = Vec::new();
+    if scene.bare_c && !random.percent(5) {
+        return c;
+    }
     for _ in 0..random.pick(&[0, 0, 1, 2, 2, 3, 5]) {
         c.extend(scene.srlg(random));
     }

@@ -149,6 +149,12 @@ pub fn rule<T>(live: &[Advertisement<T>], application: Application) -> Rule {
     }
 }
 
+/// Does RSVP-TE take the general set of a side? It does if no live advertisement of that side names it,
+/// with L or without, and the side's legacy holds none of the application kinds (E2).
+pub fn general_for_rsvp_te<T>(live: &[Advertisement<T>], legacy_has_a_kind: bool) -> bool {
+    rule(live, RSVP_TE) == Rule::General && !legacy_has_a_kind
+}
+
 /// The advertisements that name an application, in byte order.
 pub fn naming<T>(live: &[Advertisement<T>], application: Application) -> Vec<&Advertisement<T>> {
     live.iter().filter(|one| one.masks.name(application)).collect()

@@ -3,6 +3,7 @@
 
 mod bench;
 mod comparison;
+mod general_for_rsvp_te;
 mod limits;
 mod places;
 mod reader;

@@ -21,7 +21,8 @@ fn retired_bits_alone() {
     assert_eq!(value(&link, Asker::User(32), 1092), None);
     assert_eq!(metric(&link, Asker::User(31)), Some(30));
     assert_eq!(named(&link), Ok(Vec::new()));
-    let written = bytes("04 62 00 0C 00 00 00 00 04 44 00 04 00 00 00 1E");
+    // By E2 the general metric is RSVP-TE's too.
+    let written = bytes("04 44 00 04 00 00 00 1E 04 62 00 0C 00 00 00 00 04 44 00 04 00 00 00 1E");
     assert_eq!(export(&link, usize::MAX), Ok(written));
     // Without G nothing is general, whatever the retired bits say.
     let alone = link_a(&["10 0C 00 05 00 00 00 00 80 12 03 00 00 14 "]);
