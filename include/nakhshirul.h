@@ -58,8 +58,8 @@ extern "C" {
  *              value functions every code but 1096)
  *   SRLGS      [0] how many different SRLGs there are; they stand ascending at
  *              the front of list (1096)
- *   NAMED      [0] the standard applications, [1] the user-defined ones:
- *              application n as 2 to the n, RSVP-TE left out
+ *   NAMED      [0] the standard applications, [1] the user-defined ones, 0 to
+ *              31: application n as 2 to the n, RSVP-TE left out
  *   WRITTEN    [0] the number of bytes written to the front of out
  *   WHY        [0] the rule, [1] the offset of the first byte (the type) of
  *              the advertisement that decides by it or holds the value,
@@ -86,7 +86,7 @@ extern "C" {
  * Numbers of a refusal. Of several reasons the first one is told, in this
  * order: NO_APPLICATION, NO_KIND, TOO_LONG, ODD_SRLGS, then faults of run a
  * from its start, of run b from its start (or of the BGP-LS run from its
- * start), then NO_ROOM. All but CUT and LENGTH name run a and offset 0.
+ * start), then NO_ROOM. All but CUT, LENGTH and TWICE name run a and offset 0.
  *
  *   TOO_LONG        a run is longer than said above
  *   ODD_SRLGS       the length of run c is not a multiple of 4
@@ -94,9 +94,14 @@ extern "C" {
  *                   it, or is too short for its fixed fields
  *   LENGTH          a known kind or link identifier has a wrong length
  *   NO_ROOM         the result is longer than list or out; nothing is written
- *   NO_APPLICATION  the application's number is above 63, or `who` is none of
- *                   the three below
+ *   NO_APPLICATION  a standard application's number is above 63, a user-defined
+ *                   one's above 31, or `who` is none of the three below
  *   NO_KIND         the code is none of the fourteen below
+ *   TWICE           a known kind stands twice in the list of one ASLA, be it a
+ *                   sub-TLV of run a or a TLV 1122 of a run; the second one is
+ *                   told. Lists that are not read (behind an L-flag, or where
+ *                   the ASLA is ignored), unknown types and what stands outside
+ *                   an ASLA are never refused so
  */
 #define NAKHSHIRUL_TOO_LONG 1
 #define NAKHSHIRUL_ODD_SRLGS 2
@@ -105,6 +110,7 @@ extern "C" {
 #define NAKHSHIRUL_NO_ROOM 5
 #define NAKHSHIRUL_NO_APPLICATION 6
 #define NAKHSHIRUL_NO_KIND 7
+#define NAKHSHIRUL_TWICE 8
 
 /* The run that a place or a refusal is in, in reply[2]; run c for WHY alone. */
 #define NAKHSHIRUL_RUN_A 0
@@ -123,8 +129,9 @@ extern "C" {
  *            none has the kind, the first that names it
  *   GENERAL  the general set was asked for: the one that holds the value, of
  *            SRLGs the first general one; none where there is no value
- *   UNNAMED  nothing names the application, so that the general set counts:
- *            as for GENERAL
+ *   UNNAMED  nothing names the application (and, for RSVP-TE, none of the
+ *            eleven kinds of applications is there as a legacy value), so that
+ *            the general set counts: as for GENERAL
  *   LEGACY   legacy values without an L-flag, be they there or not: RSVP-TE's
  *            where no advertisement that names it has the kind, and a
  *            bandwidth (1089 to 1091) that no ASLA gives. No advertisement;
@@ -147,7 +154,11 @@ extern "C" {
 /*
  * Whom a question is about (`who` and `number`): the general set, what every
  * application gets that nothing names (its number is ignored); a standard
- * application by its number, 0 to 63; a user-defined one, 0 to 63.
+ * application by its number, 0 to 63; a user-defined one, 0 to 31.
+ *
+ * User-defined applications 32 to 63 are retired. Their bits in a mask count as
+ * 0, in a link and in a run; the mask keeps its length, so that one with no
+ * other bit names nobody, and is not general either. No export has them.
  */
 #define NAKHSHIRUL_GENERAL 0
 #define NAKHSHIRUL_STANDARD 1
@@ -184,7 +195,7 @@ extern "C" {
 #define NAKHSHIRUL_MAX_B 2048
 #define NAKHSHIRUL_MAX_C 1024
 #define NAKHSHIRUL_MAX_RUN 524288
-#define NAKHSHIRUL_MAX_EXPORT 310644
+#define NAKHSHIRUL_MAX_EXPORT 233588
 #define NAKHSHIRUL_MAX_LINK_SRLGS 464
 #define NAKHSHIRUL_MAX_RUN_SRLGS 131064
 
@@ -301,6 +312,8 @@ static inline const char *nakhshirul_refusal_text(uint64_t status)
         return "there is no such application";
     case NAKHSHIRUL_REFUSED + NAKHSHIRUL_NO_KIND:
         return "the code is none of the fourteen";
+    case NAKHSHIRUL_REFUSED + NAKHSHIRUL_TWICE:
+        return "a kind stands twice in one ASLA";
     default:
         return "not refused";
     }
@@ -358,7 +371,7 @@ static inline const char *nakhshirul_application_text(uint8_t who, uint64_t numb
     char *end = text;
     if (who == NAKHSHIRUL_GENERAL)
         return "general set";
-    if (who > NAKHSHIRUL_USER || number > 63)
+    if (who > NAKHSHIRUL_USER || number > (who == NAKHSHIRUL_USER ? 31 : 63))
         return "no application";
     if (who == NAKHSHIRUL_STANDARD && number <= NAKHSHIRUL_FLEX_ALGO)
         return known[number];

@@ -41,6 +41,8 @@ pub struct Advertisement {
     pub user: Range<usize>,
     /// The bits of both masks, application n as 2 to the n.
     pub names: [u64; 2],
+    /// The retired bits of the user mask, which count as 0, in the same way.
+    pub retired: u64,
     pub ignored: Option<Ignored>,
     /// What is not read, since it is ignored or has L.
     pub unread: Range<usize>,
@@ -81,6 +83,11 @@ impl Advertisement {
         let all = (0..64).map(Application::Standard).chain((0..64).map(Application::User));
         all.filter(|a| self.names(*a)).collect()
     }
+
+    /// The retired bits that are set in its user mask, by their numbers.
+    pub fn retired(&self) -> Vec<usize> {
+        (0..64).filter(|n| self.retired >> n & 1 == 1).collect()
+    }
 }
 
 /// Elements in a row, up to the first fault.
@@ -118,7 +125,7 @@ impl List {
 /// What is wrong with an element.
 #[derive(Clone, Debug, PartialEq, Eq)]
 pub struct Fault {
-    /// The number of the refusal: 3 or 4.
+    /// The number of the refusal: 3, 4 or 8.
     pub number: u8,
     pub run: RunName,
     /// The element's first byte.

@@ -1,7 +1,7 @@
 //! What becomes of each element of a run.
 use crate::elements::{Advertisement, Body, Element, Ignored, List};
 use crate::input::RunName;
-use crate::library::{Application, Subject};
+use crate::library::{Application, Fact, Rule, Subject};
 use crate::names::{self, Kind, RSVP_TE};
 use crate::report::Facts;
 
@@ -43,7 +43,7 @@ impl Fates<'_> {
             (Body::Identifier, _) => fate("identifier", ""),
             (Body::PassedOver, _) => fate("unknown", "passed over inside an ASLA"),
             (Body::Attribute(kind), Body::Advertisement(found)) => match self.facts {
-                Some(facts) => self.inner_attribute(element, kind, holder, found, facts),
+                Some(facts) => self.inner_attribute(element, kind, found, facts),
                 None => fate("attribute", ""),
             },
             _ => fate("unknown", "unknown, passed over"),
@@ -68,23 +68,37 @@ impl Fates<'_> {
         }
         let named = found.named();
         if found.is_general() {
-            let whom = if self.facts.is_some() { ": for all not named" } else { "" };
+            let whom = self.facts.map_or("", |facts| match self.is_for_rsvp_te(facts) {
+                true => ": for all not named, RSVP-TE too",
+                false => ": for all not named",
+            });
             return fate("general", format!("general{whom}"));
         }
+        let retired = retired(found);
         if named.is_empty() {
-            return fate("neither", "neither: its masks have no bit, so it names nobody");
+            let no_bit = if retired.is_empty() { "no bit" } else { "no other bit" };
+            let text = format!("neither{retired}: its masks have {no_bit}, so it names nobody");
+            return fate("neither", text);
         }
         let who = who(&named);
         if found.l_flag {
             let legacy = if self.run == RunName::B { "the SRLGs of C" } else { "legacy values" };
-            let text = format!("names {who}, L-flag (byte {}): {legacy}", found.flags);
+            let text = format!("names {who}{retired}, L-flag (byte {}): {legacy}", found.flags);
             return fate("names", text);
         }
         let overruled = match self.run {
             RunName::B => self.overruled(&named),
             _ => String::new(),
         };
-        fate("names", format!("names {who}{overruled}"))
+        fate("names", format!("names {who}{retired}{overruled}"))
+    }
+
+    /// Whether RSVP-TE takes the general set of this run, as the library says of its kinds.
+    fn is_for_rsvp_te(&self, facts: &Facts) -> bool {
+        let gets = facts.all.iter().find(|g| g.whom == RSVP_TE.into());
+        let of_this_run = |f: &&Fact| (f.kind.code == 1096) == (self.run == RunName::B);
+        let mut all = gets.into_iter().flat_map(|g| &g.facts).filter(of_this_run);
+        all.any(|f| f.why.rule == Rule::Unnamed)
     }
 
     /// Of the applications that an advertisement names, those that another names with L.
@@ -134,7 +148,6 @@ impl Fates<'_> {
         &self,
         element: &Element,
         kind: &Kind,
-        holder: &Element,
         found: &Advertisement,
         facts: &Facts,
     ) -> Fate {
@@ -143,10 +156,6 @@ impl Fates<'_> {
         }
         if kind.code == 1096 {
             return fate("attribute", "");
-        }
-        let mut twice = holder.inner.elements.iter().take_while(|e| e.offset < element.offset);
-        if let Some(first) = twice.find(|e| e.number == element.number) {
-            return shadowed(first.offset);
         }
         if found.is_general() {
             return match self.place(facts, Subject::General, kind) {
@@ -235,6 +244,16 @@ impl Fates<'_> {
     fn element_at(&self, value: usize) -> usize {
         value - if self.is_bgp_ls() { 4 } else { 2 }
     }
+}
+
+/// ` (retired user bits 40, 62-63 ignored)`, or nothing.
+fn retired(found: &Advertisement) -> String {
+    let bits = found.retired();
+    if bits.is_empty() {
+        return String::new();
+    }
+    let s = if bits.len() == 1 { "" } else { "s" };
+    format!(" (retired user bit{s} {} ignored)", names::ranges(&bits).join(", "))
 }
 
 /// Applications, each in one piece where a line is broken.

@@ -223,6 +223,7 @@ fn advertisement(bytes: &[u8], found: &Advertisement) -> Vec<(&'static str, Json
         ("standard_mask", hex(&bytes[found.standard.clone()]).into()),
         ("user_mask", hex(&bytes[found.user.clone()]).into()),
         ("names", applications(&found.named())),
+        ("retired_user_bits", list(found.retired())),
         ("srlgs", srlgs(&values::words(&bytes[found.srlgs.clone()]))),
         ("not_read", hex(&bytes[found.unread.clone()]).into()),
     ]

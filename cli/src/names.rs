@@ -239,9 +239,9 @@ pub fn applications(all: &[Application]) -> Vec<String> {
 pub fn parse_subject(text: &str) -> Option<Subject> {
     let plain: String =
         text.to_lowercase().chars().filter(|c| !matches!(c, ' ' | '-' | '_')).collect();
-    let number = |prefix: &str| -> Option<u64> {
+    let number = |prefix: &str, last: u64| -> Option<u64> {
         let digits = plain.strip_prefix(prefix)?;
-        digits.parse().ok().filter(|n| *n < 64)
+        digits.parse().ok().filter(|n| *n <= last)
     };
     match plain.as_str() {
         "general" => Some(Subject::General),
@@ -251,9 +251,9 @@ pub fn parse_subject(text: &str) -> Option<Subject> {
         "flexalgo" => Some(Subject::Standard(3)),
         _ => ["standard", "std"]
             .iter()
-            .find_map(|p| number(p))
+            .find_map(|p| number(p, 63))
             .map(Subject::Standard)
-            .or_else(|| number("user").map(Subject::User)),
+            .or_else(|| number("user", 31).map(Subject::User)),
     }
 }
 
@@ -282,7 +282,9 @@ mod tests {
         assert_eq!(parse_subject("Flex-Algo"), Some(Subject::Standard(3)));
         assert_eq!(parse_subject("std 63"), Some(Subject::Standard(63)));
         assert_eq!(parse_subject("user5"), Some(Subject::User(5)));
-        assert_eq!(parse_subject("user 64"), None);
+        assert_eq!(parse_subject("std 64"), None);
+        assert_eq!(parse_subject("user 31"), Some(Subject::User(31)));
+        assert_eq!(parse_subject("user 32"), None);
         assert_eq!(parse_subject("users"), None);
     }
 

@@ -85,7 +85,7 @@ fn why(rest: &mut std::collections::VecDeque<String>) -> Result<Mode, String> {
     let name =
         rest.pop_front().ok_or("--why needs an application: sr-policy, lfa, user-5, general ..")?;
     let whom = parse_subject(&name).ok_or(format!(
-        "{name} is no application: sr-policy, lfa, standard-0 to 63, user-0 to 63, general .."
+        "{name} is no application: sr-policy, lfa, standard-0 to 63, user-0 to 31, general .."
     ))?;
     let is_number = |text: &String| !text.is_empty() && text.bytes().all(|b| b.is_ascii_digit());
     let Some(text) = rest.front().filter(|t| is_number(t)).cloned() else {

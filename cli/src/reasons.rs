@@ -1,8 +1,8 @@
 //! Why somebody gets what he gets, in words, from what the library says.
 use crate::input::RunName;
 use crate::library::{Application, Fact, Place, Rule, Subject, Why};
-use crate::names;
-use crate::report::{Facts, Report};
+use crate::names::{self, RSVP_TE};
+use crate::report::{Facts, Gets, Report};
 use crate::values;
 
 /// `A 12` is the byte at offset 12 of run A; in a BGP-LS run the offset says all.
@@ -32,9 +32,16 @@ fn one_of(code: u16, at_top: bool) -> &'static str {
     }
 }
 
-/// The rule of a fact in words.
-pub fn rule(fact: &Fact, is_link: bool) -> String {
+/// The rule of a subject's fact in words.
+pub fn rule(whom: Subject, fact: &Fact, is_link: bool) -> String {
     let one = one_of(fact.kind.code, !is_link);
+    // Others than RSVP-TE take the general set whatever is legacy.
+    let legacy = match (names::application(whom), fact.kind.code) {
+        (Some(RSVP_TE), 1096) => " and C is empty",
+        (Some(RSVP_TE), _) => " and legacy has none of its kinds",
+        _ => "",
+    };
+    let unnamed = format!("no {one} names it{legacy}");
     match (fact.why.rule, fact.why.advertisement) {
         (Rule::LFlag, Some(at)) => {
             let flag = place(flag_of(at));
@@ -45,10 +52,8 @@ pub fn rule(fact: &Fact, is_link: bool) -> String {
         (Rule::Named, None) => "named".into(),
         (Rule::General, Some(at)) => format!("the general {}", advertisement(at)),
         (Rule::General, None) => format!("no general {one} has it"),
-        (Rule::Unnamed, Some(at)) => {
-            format!("no {one} names it, so the general {}", advertisement(at))
-        }
-        (Rule::Unnamed, None) => format!("no {one} names it, and no general one has it"),
+        (Rule::Unnamed, Some(at)) => format!("{unnamed}, so the general {}", advertisement(at)),
+        (Rule::Unnamed, None) => format!("{unnamed}, and no general one has it"),
         (Rule::Legacy, _) => "legacy".into(),
         (Rule::Carried, Some(at)) => format!("in the {}", advertisement(at)),
         (Rule::Carried, None) => "in an ASLA".into(),
@@ -69,7 +74,7 @@ pub fn stands(fact: &Fact) -> String {
 pub fn sentence(whom: Subject, fact: &Fact, is_link: bool) -> String {
     let who = names::subject(whom);
     let kind = format!("{} {}", fact.kind.code, fact.kind.name);
-    let rule = rule(fact, is_link);
+    let rule = rule(whom, fact, is_link);
     let line = match &fact.value {
         None => format!("{who}: {kind}: none: {}", absent(fact, &rule)),
         Some(value) => {
@@ -126,15 +131,16 @@ impl Reason {
 }
 
 /// The reasons of one subject, for the kinds that somebody gets.
-fn of_subject(facts: &[Fact], told: &[&names::Kind], is_link: bool) -> Vec<String> {
+fn of_subject(gets: &Gets, told: &[&names::Kind], is_link: bool) -> Vec<String> {
     let mut all: Vec<Reason> = Vec::new();
     // Words are made once for each rule and advertisement.
     let mut known: Vec<(Why, bool, usize)> = Vec::new();
-    for fact in facts.iter().filter(|f| told.contains(&f.kind)) {
+    for fact in gets.facts.iter().filter(|f| told.contains(&f.kind)) {
         let of_srlgs = fact.kind.code == 1096;
         let same = known.iter().find(|(why, srlgs, _)| *why == fact.why && *srlgs == of_srlgs);
         let i = same.map(|(.., i)| *i).unwrap_or_else(|| {
-            let i = place_for(&mut all, fact, is_link);
+            let words = rule(gets.whom, fact, is_link);
+            let i = place_for(&mut all, fact.why, words);
             known.push((fact.why, of_srlgs, i));
             i
         });
@@ -147,11 +153,10 @@ fn of_subject(facts: &[Fact], told: &[&names::Kind], is_link: bool) -> Vec<Strin
     all.iter().map(Reason::text).collect()
 }
 
-/// Where the reason with the words of a fact stands; added if there is none.
-fn place_for(all: &mut Vec<Reason>, fact: &Fact, is_link: bool) -> usize {
-    let words = rule(fact, is_link);
+/// Where the reason with these words stands; added if there is none.
+fn place_for(all: &mut Vec<Reason>, why: Why, words: String) -> usize {
     all.iter().position(|r| r.words == words).unwrap_or_else(|| {
-        all.push(Reason { why: fact.why, words, has: Vec::new(), lacks: Vec::new() });
+        all.push(Reason { why, words, has: Vec::new(), lacks: Vec::new() });
         all.len() - 1
     })
 }
@@ -161,7 +166,7 @@ pub fn all(facts: &Facts, is_link: bool) -> Vec<(String, String)> {
     let told = facts.kinds();
     let mut all: Vec<(Vec<Subject>, String)> = Vec::new();
     for gets in &facts.all {
-        for text in of_subject(&gets.facts, &told, is_link) {
+        for text in of_subject(gets, &told, is_link) {
             match all.iter_mut().find(|(_, other)| *other == text) {
                 Some((whom, _)) => whom.push(gets.whom),
                 None => all.push((vec![gets.whom], text)),

@@ -1,6 +1,7 @@
 //! A report as text.
 use crate::input::RunName;
 use crate::layout::{padded, unbroken, wrap};
+use crate::library::Subject;
 use crate::listing::{self, Listing};
 use crate::names::{applications, Kind};
 use crate::reasons;
@@ -95,7 +96,7 @@ fn write_facts(out: &mut dyn Write, facts: &Facts, is_link: bool) -> io::Result<
     for (fact, value) in found {
         let Kind { code, name, .. } = fact.kind;
         let text = unbroken(&values::text(fact.kind, value));
-        let why = reasons::rule(fact, is_link);
+        let why = reasons::rule(Subject::General, fact, is_link);
         let text =
             format!("{code} {name}, for everyone: {text} ({why}, {})", reasons::stands(fact));
         hanging(out, "  ", "    ", &text)?;

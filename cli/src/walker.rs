@@ -41,15 +41,18 @@ impl Frame {
     }
 }
 
-/// Where elements stand in a row: what holds them, what they are called, and how one is read.
+/// Where elements stand in a row: what holds them, whether a kind may stand there once alone, what they
+/// are called, and how one is read.
 struct Level {
     holder: &'static str,
+    once: bool,
     name: fn(u16) -> Option<&'static str>,
     read: fn(&Walker, Frame) -> Result<Element, Fault>,
 }
 
 const TOP_OF_A: Level = Level {
     holder: "the run",
+    once: false,
     name: |number| match number {
         ASLA => Some("ASLA"),
         _ => (IN_ASLA.name)(number),
@@ -62,12 +65,14 @@ const TOP_OF_A: Level = Level {
 
 const IN_ASLA: Level = Level {
     holder: "its ASLA",
+    once: true,
     name: |number| Kind::of_isis_type(number).map(|k| k.name),
     read: |walker, frame| walker.attribute(frame),
 };
 
 const TOP_OF_B: Level = Level {
     holder: "the run",
+    once: false,
     name: |number| (number == SRLG_TLV).then_some("app-specific SRLG"),
     read: |walker, frame| match frame.number {
         SRLG_TLV => walker.tlv_238(frame),
@@ -77,12 +82,14 @@ const TOP_OF_B: Level = Level {
 
 const IN_238: Level = Level {
     holder: "the list of identifiers",
+    once: false,
     name: |number| Identifier::of(number).map(|i| i.name),
     read: |walker, frame| walker.identifier(frame),
 };
 
 const TOP_OF_BGP_LS: Level = Level {
     holder: "the run",
+    once: false,
     name: |number| match number {
         ASLA_TLV => Some("ASLA"),
         _ => Kind::of_code(number).map(|k| k.name),
@@ -95,6 +102,7 @@ const TOP_OF_BGP_LS: Level = Level {
 
 const IN_1122: Level = Level {
     holder: "its ASLA",
+    once: true,
     name: TOP_OF_BGP_LS.name,
     read: |walker, frame| match frame.number {
         ASLA_TLV | 1089..=1091 => Ok(frame.element(Body::PassedOver)),
@@ -115,6 +123,9 @@ const ISIS: Layout = Layout { has_flags: true, header: 2, allowed: |length| leng
 const BGP_LS: Layout =
     Layout { has_flags: false, header: 4, allowed: |length| matches!(length, 0 | 4 | 8) };
 
+/// The bits of user applications; from 32 on they are retired and count as 0.
+const USERS: u64 = 0xFFFF_FFFF;
+
 struct Walker<'a> {
     run: &'a [u8],
     name: RunName,
@@ -128,6 +139,7 @@ impl Walker<'_> {
         let mut at = range.start;
         while at < range.end {
             let read = self.frame(at, range.end, level).and_then(|frame| (level.read)(self, frame));
+            let read = read.and_then(|element| self.first_of_its_kind(element, &list, level));
             let element = match read {
                 Ok(element) => element,
                 Err(fault) => {
@@ -143,6 +155,27 @@ impl Walker<'_> {
             }
         }
         list
+    }
+
+    /// The element, unless its kind stands in a list already where it may stand once alone.
+    fn first_of_its_kind(
+        &self,
+        element: Element,
+        list: &List,
+        level: &Level,
+    ) -> Result<Element, Fault> {
+        let Element { offset, number, name, .. } = element;
+        let same = list.elements.iter().find(|before| before.number == number);
+        match (same, &element.body) {
+            (Some(first), Body::Attribute(_)) if level.once => {
+                let what = format!(
+                    "{name} (type {number}) stands twice in {}, first at {}",
+                    level.holder, first.offset
+                );
+                Err(Fault { number: 8, run: self.name, offset, what })
+            }
+            _ => Ok(element),
+        }
     }
 
     fn number(&self, at: usize) -> usize {
@@ -265,7 +298,9 @@ impl Walker<'_> {
         found.standard = start..start + standard;
         found.user = found.standard.end..found.standard.end + user;
         found.unread.start = found.user.end;
-        found.names = [self.bits(&found.standard), self.bits(&found.user)];
+        let user = self.bits(&found.user);
+        found.names = [self.bits(&found.standard), user & USERS];
+        found.retired = user & !USERS;
         Ok(found)
     }
 

@@ -111,7 +111,7 @@ fn check_table(file: &str, facts: &Facts, reference: &Reference) {
 fn check_walk(file: &str, report: &Report, number: u8) {
     let fault = report.lists.iter().find_map(|(_, list)| list.first_fault());
     let Err(refusal) = &report.facts else { return };
-    if matches!(number, 3 | 4) {
+    if matches!(number, 3 | 4 | 8) {
         let fault = fault.unwrap_or_else(|| panic!("{file}: no fault"));
         let place = Place { run: fault.run, offset: fault.offset };
         assert_eq!((fault.number, Some(place)), (number, refusal.place), "{file}");
@@ -124,7 +124,7 @@ fn check_walk(file: &str, report: &Report, number: u8) {
 fn check_fates(file: &str, report: &Report, facts: &Facts) {
     assert!(report.lists.iter().all(|(_, list)| list.first_fault().is_none()), "{file}");
     let standard = (0..64).map(Subject::Standard);
-    let all = standard.chain((0..64).map(Subject::User)).chain([Subject::General]);
+    let all = standard.chain((0..32).map(Subject::User)).chain([Subject::General]);
     let everyone: Vec<Subject> = all.collect();
     for (run, list) in report.lists.iter().filter(|(run, _)| *run != RunName::B) {
         let fates = Fates { run: *run, list, facts: Some(facts) };

@@ -40,6 +40,19 @@ fn a_refusal_is_status_1() {
 }
 
 #[test]
+fn a_kind_twice_is_told_with_both_places() {
+    let (out, _, status) = run(&["--brief"], "A 10 0D 01 00 40 12 03 00 00 14\nA 12 03 00 00 15\n");
+    let expected = "refused 8, run A at 10: TE metric (type 18) stands twice in its ASLA, first at 5 (line 2)\n";
+    assert!(out.ends_with(expected), "{out}");
+    assert_eq!(status, Some(1));
+    let run_text = "BGP-LS 0462 0010 04000000 40000000 0448 0000 0448 0000\n";
+    let (out, _, status) = run(&["--brief"], run_text);
+    let expected = "refused 8, run BGP-LS at 16: SRLG (type 1096) stands twice in its ASLA, first at 12 (line 1)\n";
+    assert!(out.ends_with(expected), "{out}");
+    assert_eq!(status, Some(1));
+}
+
+#[test]
 fn a_faulty_line_is_status_2_and_the_rest_is_shown() {
     let text = format!("link x\nA 12 0G\n{M_Z_G}");
     let (out, errors, status) = run(&["--brief"], &text);
@@ -91,6 +104,33 @@ fn why_tells_one_fact_a_line() {
     let expected = "M Z G: SR Policy: 1092 TE metric: 10: \
         the ASLA at A 5 names it with the L-flag, byte A 7, so legacy; value at A 2\n";
     assert_eq!((out.as_str(), status), (expected, Some(0)));
+}
+
+#[test]
+fn the_general_set_of_rsvp_te_is_told_as_such() {
+    let g = "link G\nA 10 07 00 00 12 03 00 00 1E\n";
+    let (out, _, status) = run(&["--why", "rsvp-te", "1092", "-"], g);
+    let expected = "G: RSVP-TE: 1092 TE metric: 30: \
+        no ASLA names it and legacy has none of its kinds, so the general ASLA at A 0; value at A 6\n";
+    assert_eq!((out.as_str(), status), (expected, Some(0)));
+    let note = "\"note\":\"general: for all not named, RSVP-TE too\"";
+    assert!(run(&["--json", "-"], g).0.contains(note));
+    let shut_out = format!("{g}A 03 04 00 00 00 05\n");
+    assert!(run(&["--json", "-"], &shut_out).0.contains("\"note\":\"general: for all not named\""));
+}
+
+#[test]
+fn retired_bits_are_told_as_ignored() {
+    let text =
+        "A 10 0F 00 08 04 00 00 00 00 00 00 81 12 03 00 00 14 10 08 01 05 00 00 00 00 00 80\n";
+    let (out, _, status) = run(&["--json", "-"], text);
+    let names = "\"note\":\"names user 5 (retired user bits 56, 63 ignored)\"";
+    let neither = "\"note\":\"neither (retired user bit 32 ignored): its masks have no other bit";
+    assert!(out.contains(names) && out.contains(neither), "{out}");
+    assert!(
+        out.contains("\"named\":[\"user 5\"]") && out.contains("\"retired_user_bits\":[56,63]")
+    );
+    assert_eq!(status, Some(0));
 }
 
 #[test]

@@ -1,8 +1,8 @@
 /*
  * Calls every function of the C interface and compares what it answers: the
- * worked links of document 01, each status, each refusal with its run and
- * offset, what is written and what is left alone, and the links of
- * bench/links (the folder is the first argument).
+ * worked links of document 01 and those of document 02's requests, each
+ * status, each refusal with its run and offset, what is written and what is
+ * left alone, and the links of bench/links (the folder is the first argument).
  *
  * A line for each group; the last line is 'N passed, M failed', in groups. The
  * status is 0 only if nothing differed.
@@ -124,6 +124,39 @@ static struct link link_of(struct run a, struct run b, struct run c)
 static struct link only_a(struct run a)
 {
     return link_of(a, run_of(nothing, 0), run_of(nothing, 0));
+}
+
+/* A run of bytes in hex, with blanks between them or without; it stays until it has been followed by seven more. */
+static struct run hex(const char *text)
+{
+    static uint8_t rooms[8][256];
+    static unsigned next;
+    static const char digits[] = "0123456789ABCDEF";
+    uint8_t *room = rooms[next++ % 8];
+    size_t n = 0;
+    for (; *text != '\0'; text++) {
+        const char *digit = strchr(digits, *text >= 'a' ? *text - 'a' + 'A' : *text);
+        if (*text == ' ')
+            continue;
+        if (digit == NULL || n / 2 == sizeof rooms[0]) {
+            check(0, "bytes in hex", __LINE__);
+            break;
+        }
+        room[n / 2] = (uint8_t)(n % 2 == 0 ? (digit - digits) << 4 : room[n / 2] | (digit - digits));
+        n++;
+    }
+    check(n % 2 == 0, "whole bytes in hex", __LINE__);
+    return run_of(room, n / 2);
+}
+
+static struct link only_a_hex(const char *a)
+{
+    return only_a(hex(a));
+}
+
+static struct link link_hex(const char *a, const char *b, const char *c)
+{
+    return link_of(hex(a), hex(b), hex(c));
 }
 
 #define LIST 1024
@@ -265,7 +298,7 @@ static void worked_links(void)
         CHECK(absent(ask(l, GENERAL, 0, codes[i])));
         CHECK(absent(ask(l, STANDARD, 0, codes[i])));
         CHECK(absent(ask(l, STANDARD, 1, codes[i])));
-        CHECK(absent(ask(l, USER, 63, codes[i])));
+        CHECK(absent(ask(l, USER, 31, codes[i])));
     }
     l = only_a(RUN(msg));
     CHECK(metric(l, STANDARD, 0, 10) && metric(l, STANDARD, 1, 20) && metric(l, STANDARD, 2, 30) && metric(l, USER, 5, 30));
@@ -274,14 +307,15 @@ static void worked_links(void)
     CHECK(metric(l, STANDARD, 1, 10) && metric(l, STANDARD, 2, 30));
     CHECK(metric(only_a(RUN(msz)), STANDARD, 1, 10));
     l = only_a(RUN(empty_named));
-    CHECK(absent(ask(l, STANDARD, 1, 1092)) && metric(l, STANDARD, 2, 30));
-    CHECK(metric(only_a(RUN(no_bit)), STANDARD, 1, 30));
+    CHECK(absent(ask(l, STANDARD, 1, 1092)) && metric(l, STANDARD, 2, 30) && metric(l, STANDARD, 0, 30));
+    l = only_a(RUN(no_bit));
+    CHECK(metric(l, STANDARD, 1, 30) && metric(l, STANDARD, 0, 30));
     l = only_a(RUN(bit_6));
     CHECK(metric(l, STANDARD, 6, 20) && absent(ask(l, STANDARD, 1, 1092)));
     l = only_a(RUN(two_naming));
     CHECK(metric(l, STANDARD, 1, 20) && metric(l, STANDARD, 2, 21));
     l = only_a(RUN(user_0));
-    CHECK(metric(l, USER, 0, 20) && absent(ask(l, STANDARD, 0, 1092)) && metric(l, STANDARD, 1, 30));
+    CHECK(metric(l, USER, 0, 20) && metric(l, STANDARD, 0, 30) && metric(l, STANDARD, 1, 30));
     CHECK(absent(ask(only_a(RUN(long_mask)), STANDARD, 1, 1092)));
     l = link_of(RUN(just_g), RUN(srlg_7), run_of(nothing, 0));
     CHECK(metric(l, STANDARD, 1, 30));
@@ -308,7 +342,7 @@ static void readings(void)
     CHECK(is(ask(l, STANDARD, 0, 1088), NAKHSHIRUL_NUMBER, 0x80000001u, 0));
     CHECK(is(ask(l, STANDARD, 0, 1115), NAKHSHIRUL_PAIR, 0x80000005u, 9));
     CHECK(is(ask(l, STANDARD, 0, 1089), NAKHSHIRUL_BANDWIDTH, 0x7FA12345u, 0));
-    CHECK(is(ask(l, USER, 63, 1089), NAKHSHIRUL_BANDWIDTH, 0x7FA12345u, 0));
+    CHECK(is(ask(l, USER, 31, 1089), NAKHSHIRUL_BANDWIDTH, 0x7FA12345u, 0));
     CHECK(is(ask(l, GENERAL, 0, 1090), NAKHSHIRUL_BANDWIDTH, 0x3F800000u, 0));
     CHECK(is(ask(l, STANDARD, 0, 1118), NAKHSHIRUL_BANDWIDTH, 0xFFFFFFFFu, 0));
     CHECK(absent(ask(l, STANDARD, 1, 1118)));
@@ -342,13 +376,13 @@ static void values(void)
 
 static void names(void)
 {
-    static const uint8_t all[] = {0x10, 0x12, 0x08, 0x08, 0xFF, 0xFF, 0xFF, 0xFF, 0xFF, 0xFF, 0xFF, 0xFF, 0x80, 0, 0, 0, 0, 0, 0, 1};
+    static const uint8_t all[] = {0x10, 0x12, 0x08, 0x08, 0xFF, 0xFF, 0xFF, 0xFF, 0xFF, 0xFF, 0xFF, 0xFF, 0x80, 0, 0, 1, 0, 0, 0, 1};
     CHECK(is(named(only_a(run_of(nothing, 0))), NAKHSHIRUL_NAMED, 0, 0));
     CHECK(is(named(only_a(RUN(msg))), NAKHSHIRUL_NAMED, 2, 0));
     CHECK(is(named(only_a(RUN(two_naming))), NAKHSHIRUL_NAMED, 6, 0));
     CHECK(is(named(only_a(RUN(bit_6))), NAKHSHIRUL_NAMED, 64, 0));
     CHECK(is(named(only_a(RUN(user_0))), NAKHSHIRUL_NAMED, 0, 1));
-    CHECK(is(named(only_a(RUN(all))), NAKHSHIRUL_NAMED, 0xFFFFFFFFFFFFFFFEu, 0x8000000000000001u));
+    CHECK(is(named(only_a(RUN(all))), NAKHSHIRUL_NAMED, 0xFFFFFFFFFFFFFFFEu, 0x80000001u));
     CHECK(is(named(link_of(RUN(just_g), RUN(srlg_7), run_of(nothing, 0))), NAKHSHIRUL_NAMED, 2, 0));
     CHECK(refused(named(only_a(run_of(msg, 4))), NAKHSHIRUL_CUT, NAKHSHIRUL_RUN_A, 0));
 }
@@ -372,9 +406,9 @@ static void exports(void)
     CHECK(refused(export_to(l, 43), NAKHSHIRUL_NO_ROOM, NAKHSHIRUL_RUN_A, 0) && out_untouched_from(0));
     CHECK(refused(export_to(l, 0), NAKHSHIRUL_NO_ROOM, NAKHSHIRUL_RUN_A, 0) && out_untouched_from(0));
     CHECK(is(export_to(only_a(run_of(nothing, 0)), 0), NAKHSHIRUL_WRITTEN, 0, 0) && out_untouched_from(0));
-    CHECK(is(export_to(only_a(RUN(empty_named)), OUT), NAKHSHIRUL_WRITTEN, 28, 0));
+    CHECK(is(export_to(only_a(RUN(empty_named)), OUT), NAKHSHIRUL_WRITTEN, 36, 0));
     CHECK(refused(export_to(only_a(run_of(msg, 4)), OUT), NAKHSHIRUL_CUT, NAKHSHIRUL_RUN_A, 0) && out_untouched_from(0));
-    CHECK(is(export_length(l), NAKHSHIRUL_WRITTEN, 44, 0) && is(export_length(only_a(RUN(empty_named))), NAKHSHIRUL_WRITTEN, 28, 0));
+    CHECK(is(export_length(l), NAKHSHIRUL_WRITTEN, 44, 0) && is(export_length(only_a(RUN(empty_named))), NAKHSHIRUL_WRITTEN, 36, 0));
     CHECK(refused(export_length(only_a(run_of(msg, 4))), NAKHSHIRUL_CUT, NAKHSHIRUL_RUN_A, 0));
 }
 
@@ -403,8 +437,10 @@ static void refusals(void)
     CHECK(refused(ask(only_a(run_of(zeros, 2049)), STANDARD, 1, 1092), NAKHSHIRUL_TOO_LONG, NAKHSHIRUL_RUN_A, 0));
     CHECK(refused(ask(link_of(none, run_of(zeros, 2049), none), STANDARD, 1, 1092), NAKHSHIRUL_TOO_LONG, NAKHSHIRUL_RUN_A, 0));
     CHECK(refused(ask(link_of(none, none, run_of(zeros, 1025)), STANDARD, 1, 1092), NAKHSHIRUL_TOO_LONG, NAKHSHIRUL_RUN_A, 0));
-    CHECK(metric(l, STANDARD, 63, 30) && metric(l, USER, 63, 30));
+    CHECK(metric(l, STANDARD, 63, 30) && metric(l, USER, 31, 30));
     CHECK(refused(ask(l, STANDARD, 64, 1092), NAKHSHIRUL_NO_APPLICATION, NAKHSHIRUL_RUN_A, 0));
+    CHECK(refused(ask(l, USER, 32, 1092), NAKHSHIRUL_NO_APPLICATION, NAKHSHIRUL_RUN_A, 0));
+    CHECK(refused(ask(l, USER, 63, 1092), NAKHSHIRUL_NO_APPLICATION, NAKHSHIRUL_RUN_A, 0));
     CHECK(refused(ask(l, USER, 64, 1092), NAKHSHIRUL_NO_APPLICATION, NAKHSHIRUL_RUN_A, 0));
     CHECK(refused(ask(l, STANDARD, 0x100000001u, 1092), NAKHSHIRUL_NO_APPLICATION, NAKHSHIRUL_RUN_A, 0));
     CHECK(refused(ask(l, USER, 0xFFFFFFFFFFFFFFFFu, 1092), NAKHSHIRUL_NO_APPLICATION, NAKHSHIRUL_RUN_A, 0));
@@ -449,7 +485,7 @@ static void runs(void)
     CHECK(refused(run_named(RUN(cut_header)), NAKHSHIRUL_CUT, NAKHSHIRUL_RUN_BGPLS, 4));
     CHECK(absent(run_value(RUN(bad_length), GENERAL, 0, 1092)));
     CHECK(refused(run_ask(r, 3, 0, 1092), NAKHSHIRUL_NO_APPLICATION, NAKHSHIRUL_RUN_A, 0));
-    CHECK(refused(run_ask(r, USER, 64, 1), NAKHSHIRUL_NO_APPLICATION, NAKHSHIRUL_RUN_A, 0));
+    CHECK(refused(run_ask(r, USER, 32, 1), NAKHSHIRUL_NO_APPLICATION, NAKHSHIRUL_RUN_A, 0));
     CHECK(refused(run_ask(r, USER, 1, 1), NAKHSHIRUL_NO_KIND, NAKHSHIRUL_RUN_A, 0));
     CHECK(absent(run_ask(run_of(zeros, 524288), GENERAL, 0, 1092)));
     CHECK(refused(run_ask(run_of(zeros, 524289), GENERAL, 0, 1092), NAKHSHIRUL_TOO_LONG, NAKHSHIRUL_RUN_A, 0));
@@ -485,11 +521,12 @@ static void reasons(void)
     CHECK(by(why(l, GENERAL, 99, 1092), NAKHSHIRUL_RULE_GENERAL, NAKHSHIRUL_RUN_A, 10));
     CHECK(by_none(why(l, GENERAL, 0, 1096), NAKHSHIRUL_RULE_GENERAL));
     CHECK(by_legacy(why(l, STANDARD, 0, 1092), NAKHSHIRUL_RUN_A));
-    CHECK(by_legacy(why(l, STANDARD, 0, 1096), NAKHSHIRUL_RUN_C));
+    CHECK(by_none(why(l, STANDARD, 0, 1096), NAKHSHIRUL_RULE_UNNAMED));
+    CHECK(by_legacy(why(link_of(RUN(mzg), none, RUN(four_srlgs)), STANDARD, 0, 1096), NAKHSHIRUL_RUN_C));
     CHECK(by_legacy(why(l, USER, 5, 1089), NAKHSHIRUL_RUN_A));
     CHECK(by(why(only_a(RUN(msg)), STANDARD, 1, 1092), NAKHSHIRUL_RULE_NAMED, NAKHSHIRUL_RUN_A, 5));
     CHECK(by(why(only_a(RUN(empty_named)), STANDARD, 1, 1092), NAKHSHIRUL_RULE_NAMED, NAKHSHIRUL_RUN_A, 0));
-    CHECK(by(why(only_a(RUN(carried)), USER, 63, 1089), NAKHSHIRUL_RULE_CARRIED, NAKHSHIRUL_RUN_A, 5));
+    CHECK(by(why(only_a(RUN(carried)), USER, 31, 1089), NAKHSHIRUL_RULE_CARRIED, NAKHSHIRUL_RUN_A, 5));
     l = link_of(RUN(just_g), RUN(srlg_7), none);
     CHECK(by(why(l, STANDARD, 1, 1096), NAKHSHIRUL_RULE_NAMED, NAKHSHIRUL_RUN_B, 0));
     CHECK(by(why(l, STANDARD, 1, 1092), NAKHSHIRUL_RULE_UNNAMED, NAKHSHIRUL_RUN_A, 0));
@@ -505,6 +542,157 @@ static void reasons(void)
     CHECK(by(run_why(RUN(msg_export), GENERAL, 1, 1092), NAKHSHIRUL_RULE_GENERAL, NAKHSHIRUL_RUN_BGPLS, 8));
     CHECK(by_none(run_why(RUN(msg_export), GENERAL, 1, 1096), NAKHSHIRUL_RULE_GENERAL));
     CHECK(refused(run_why(run_of(msg_export, 43), GENERAL, 1, 1092), NAKHSHIRUL_CUT, NAKHSHIRUL_RUN_BGPLS, 24));
+}
+
+/* ---- the worked cases of document 02's requests */
+
+#define M_HEX "12 03 00 00 0A "
+#define S_HEX "10 08 01 00 40 12 03 00 00 14 "
+#define G_HEX "10 07 00 00 12 03 00 00 1E "
+
+/* Whether the export of a link is these bytes, its length is told so, and one byte less is too little. */
+static int exported(struct link l, const char *text)
+{
+    struct run due = hex(text);
+    if (!is(export_to(l, due.len), NAKHSHIRUL_WRITTEN, due.len, 0) || memcmp(out + 1, due.bytes, due.len) != 0 || !out_untouched_from(due.len))
+        return 0;
+    if (due.len > 0 && !(refused(export_to(l, due.len - 1), NAKHSHIRUL_NO_ROOM, NAKHSHIRUL_RUN_A, 0) && out_untouched_from(0)))
+        return 0;
+    return is(export_length(l), NAKHSHIRUL_WRITTEN, due.len, 0);
+}
+
+/* Whether every function refuses a link so, whatever it is asked, and the value function has nothing. */
+static int all_refused(struct link l, unsigned number, unsigned run, uint64_t offset)
+{
+    return refused(ask(l, STANDARD, 1, 1092), number, run, offset) && refused(ask(l, GENERAL, 0, 1096), number, run, offset)
+        && refused(why(l, STANDARD, 0, 1089), number, run, offset) && refused(named(l), number, run, offset)
+        && refused(export_to(l, OUT), number, run, offset) && out_untouched_from(0) && refused(export_length(l), number, run, offset)
+        && absent(value(l, STANDARD, 1, 1092)) && list_untouched_from(0);
+}
+
+/* E12: user bits 32 to 63 are retired. */
+static void retired_bits(void)
+{
+    struct link l = only_a_hex("10 0C 00 05 00 00 00 00 80 12 03 00 00 14" G_HEX);
+    uint64_t n;
+    for (n = 32; n < 64; n++) {
+        CHECK(refused(ask(l, USER, n, 1092), NAKHSHIRUL_NO_APPLICATION, NAKHSHIRUL_RUN_A, 0));
+        CHECK(refused(ask(l, USER, n, 1), NAKHSHIRUL_NO_APPLICATION, NAKHSHIRUL_RUN_A, 0));
+        CHECK(refused(why(l, USER, n, 1092), NAKHSHIRUL_NO_APPLICATION, NAKHSHIRUL_RUN_A, 0));
+        CHECK(refused(run_ask(RUN(msg_export), USER, n, 1092), NAKHSHIRUL_NO_APPLICATION, NAKHSHIRUL_RUN_A, 0));
+        CHECK(refused(run_why(RUN(msg_export), USER, n, 1092), NAKHSHIRUL_NO_APPLICATION, NAKHSHIRUL_RUN_A, 0));
+        CHECK(absent(value(l, USER, n, 1092)) && absent(run_value(RUN(msg_export), USER, n, 1092)));
+    }
+    CHECK(metric(l, USER, 31, 30));
+    CHECK(is(named(l), NAKHSHIRUL_NAMED, 0, 0));
+    CHECK(exported(l, "044400040000001e0462000c00000000044400040000001e"));
+    l = only_a_hex("10 0F 00 08 00 00 00 01 00 00 00 01 12 03 00 00 14");
+    CHECK(is(named(l), NAKHSHIRUL_NAMED, 0, 2147483648u) && metric(l, USER, 31, 20));
+    CHECK(exported(l, "0462001000040000000000010444000400000014"));
+    l = only_a_hex("10 0F 01 06 80 00 00 00 00 00 80 0A 04 4C 00 00 01");
+    CHECK(is(ask(l, STANDARD, 0, 1090), NAKHSHIRUL_BANDWIDTH, 0x4C000001u, 0));
+    CHECK(absent(ask(only_a_hex("10 0D 01 04 80 00 00 00 01 0A 04 4C 00 00 01"), STANDARD, 0, 1090)));
+    l = only_a_hex("10 0D 00 05 00 00 00 00 80 09 04 4C 00 00 02");
+    CHECK(is(ask(l, USER, 7, 1089), NAKHSHIRUL_BANDWIDTH, 0x4C000002u, 0));
+    CHECK(all_refused(only_a_hex("10 0B 00 05 00 00 00 00 80 12 02 00 14"), NAKHSHIRUL_LENGTH, NAKHSHIRUL_RUN_A, 9));
+    l = link_hex("", "EE 1E 00 00 00 00 00 02 00 00 06 00 00 00 00 00 80 0A 04 08 00 00 00 01 00 00 00 02 00 00 00 07", "");
+    CHECK(is(named(l), NAKHSHIRUL_NAMED, 0, 0) && absent(ask(l, GENERAL, 0, 1096)) && exported(l, ""));
+    CHECK(is(run_named(hex("0462 0014 0008 0000 00000001 00000001 0444 0004 00000014")), NAKHSHIRUL_NAMED, 0, 2147483648u));
+    CHECK(absent(run_ask(hex("0462 0014 0008 0000 00000000 00000001 0444 0004 00000014"), GENERAL, 0, 1092)));
+}
+
+/* An ASLA of SR Policy with two TE metrics. */
+#define TWO_METRICS "10 0D 01 00 40 12 03 00 00 14 12 03 00 00 15 "
+
+/* Whether every function refuses a run so, whatever it is asked, and the value function has nothing. */
+static int all_of_run_refused(struct run r, unsigned number, uint64_t offset)
+{
+    return refused(run_ask(r, STANDARD, 1, 1092), number, NAKHSHIRUL_RUN_BGPLS, offset)
+        && refused(run_ask(r, STANDARD, 0, 1096), number, NAKHSHIRUL_RUN_BGPLS, offset)
+        && refused(run_why(r, GENERAL, 0, 1092), number, NAKHSHIRUL_RUN_BGPLS, offset)
+        && refused(run_named(r), number, NAKHSHIRUL_RUN_BGPLS, offset) && absent(run_value(r, STANDARD, 1, 1092)) && list_untouched_from(0);
+}
+
+/* E5: the same kind twice in one ASLA is refused. */
+static void twice(void)
+{
+    struct link l;
+    CHECK(all_refused(only_a_hex(TWO_METRICS), NAKHSHIRUL_TWICE, NAKHSHIRUL_RUN_A, 10));
+    CHECK(all_refused(only_a_hex(M_HEX TWO_METRICS), NAKHSHIRUL_TWICE, NAKHSHIRUL_RUN_A, 15));
+    CHECK(all_refused(only_a_hex("10 0C 01 00 40 12 03 00 00 14 12 02 00 15"), NAKHSHIRUL_LENGTH, NAKHSHIRUL_RUN_A, 10));
+    CHECK(all_refused(only_a_hex("10 0F 01 00 40 12 03 00 00 14 12 03 00 00 15 12 09"), NAKHSHIRUL_TWICE, NAKHSHIRUL_RUN_A, 10));
+    CHECK(all_refused(only_a_hex("10 0E 00 00 09 04 4C 00 00 01 09 04 4C 00 00 02"), NAKHSHIRUL_TWICE, NAKHSHIRUL_RUN_A, 10));
+    CHECK(all_refused(only_a_hex("10 0D 01 00 00 12 03 00 00 14 12 03 00 00 15"), NAKHSHIRUL_TWICE, NAKHSHIRUL_RUN_A, 10));
+    CHECK(all_refused(only_a_hex("10 13 01 00 40 12 03 00 00 14 03 04 00 00 00 01 12 03 00 00 15"), NAKHSHIRUL_TWICE, NAKHSHIRUL_RUN_A, 16));
+    l = only_a_hex(M_HEX "10 0D 81 00 40 12 03 00 00 14 12 03 00 00 15");
+    CHECK(metric(l, STANDARD, 1, 10));
+    l = only_a_hex("10 15 09 00 40 00 00 00 00 00 00 00 00 12 03 00 00 14 12 03 00 00 15");
+    CHECK(absent(ask(l, STANDARD, 1, 1092)) && is(named(l), NAKHSHIRUL_NAMED, 0, 0));
+    CHECK(is(named(only_a_hex("10 0B 01 00 40 C8 02 00 00 C8 02 00 01")), NAKHSHIRUL_NAMED, 2, 0));
+    CHECK(is(named(only_a_hex("10 07 01 00 40 10 00 10 00")), NAKHSHIRUL_NAMED, 2, 0));
+    CHECK(metric(only_a_hex("12 03 00 00 0A 12 03 00 00 0B"), STANDARD, 0, 10));
+    CHECK(metric(only_a_hex(S_HEX "10 08 01 00 40 12 03 00 00 15"), STANDARD, 1, 20));
+    l = link_hex("", "EE 22 00 00 00 00 00 02 00 00 00 14 04 08 00 00 00 01 00 00 00 02 04 08 00 00 00 01 00 00 00 02 00 00 00 07", "");
+    CHECK(absent(ask(l, GENERAL, 0, 1096)));
+    CHECK(all_of_run_refused(hex("0462 0018 04000000 40000000 0444 0004 00000014 0444 0004 00000015"), NAKHSHIRUL_TWICE, 20));
+    CHECK(all_of_run_refused(hex("0462 0010 04000000 40000000 0448 0000 0448 0000"), NAKHSHIRUL_TWICE, 16));
+    CHECK(all_of_run_refused(hex("0462 0013 04000000 40000000 0448 0000 0448 0003 000000"), NAKHSHIRUL_LENGTH, 16));
+    CHECK(is(run_named(hex("0462 0010 04000000 40000000 0441 0000 0441 0000")), NAKHSHIRUL_NAMED, 2, 0));
+    CHECK(is(run_named(hex("0462 0010 04000000 40000000 0462 0000 0462 0000")), NAKHSHIRUL_NAMED, 2, 0));
+    CHECK(is(run_named(hex("0462 0018 05000000 40000000 0444 0004 00000014 0444 0004 00000015")), NAKHSHIRUL_NAMED, 0, 0));
+    CHECK(is(run_ask(hex("0444 0004 00000014 0444 0004 00000015"), STANDARD, 0, 1092), NAKHSHIRUL_NUMBER, 20, 0));
+    CHECK(is(run_ask(hex("0448 0004 00000009 0448 0004 00000007"), STANDARD, 0, 1096), NAKHSHIRUL_SRLGS, 2, 0) && list[1] == 7 && list[2] == 9);
+}
+
+/* A TLV 238 for everybody not named, with SRLG 9. */
+#define GENERAL_9 "EE 18 00 00 00 00 00 02 00 00 00 0A 04 08 00 00 00 01 00 00 00 02 00 00 00 09 "
+
+static int has_srlg(struct link l, unsigned who, uint64_t number, uint32_t srlg)
+{
+    return is(ask(l, who, number, 1096), NAKHSHIRUL_SRLGS, 1, 0) && list[1] == srlg && list_untouched_from(1);
+}
+
+/* E2: RSVP-TE takes the general set of a side where nothing names it and legacy has none of the eleven kinds. */
+static void general_for_rsvp_te(void)
+{
+    struct link l = only_a_hex("10 03 01 00 40 " G_HEX);
+    CHECK(metric(l, STANDARD, 0, 30) && is(export_length(l), NAKHSHIRUL_WRITTEN, 36, 0));
+    CHECK(by(why(l, STANDARD, 0, 1092), NAKHSHIRUL_RULE_UNNAMED, NAKHSHIRUL_RUN_A, 5));
+    CHECK(by_none(why(l, STANDARD, 0, 1114), NAKHSHIRUL_RULE_UNNAMED));
+    CHECK(exported(l, "044400040000001e 0462000c00000000 044400040000001e 0462000804000000 40000000"));
+    l = only_a_hex("10 08 01 00 00 12 03 00 00 14 " G_HEX);
+    CHECK(metric(l, STANDARD, 0, 30) && is(export_length(l), NAKHSHIRUL_WRITTEN, 24, 0));
+    l = only_a_hex("10 08 00 01 80 12 03 00 00 14 " G_HEX);
+    CHECK(metric(l, STANDARD, 0, 30) && metric(l, USER, 0, 20) && is(export_length(l), NAKHSHIRUL_WRITTEN, 44, 0));
+    CHECK(is(export_length(link_of(RUN(just_g), RUN(srlg_7), run_of(nothing, 0))), NAKHSHIRUL_WRITTEN, 52, 0));
+    l = only_a_hex("09 04 4C 00 00 01 " G_HEX);
+    CHECK(metric(l, STANDARD, 0, 30) && is(export_length(l), NAKHSHIRUL_WRITTEN, 32, 0));
+    l = only_a_hex("03 04 00 00 00 05 " G_HEX);
+    CHECK(absent(ask(l, STANDARD, 0, 1092)) && is(export_length(l), NAKHSHIRUL_WRITTEN, 24, 0));
+    CHECK(by_legacy(why(l, STANDARD, 0, 1092), NAKHSHIRUL_RUN_A));
+    l = only_a_hex("10 03 01 00 80 " G_HEX);
+    CHECK(absent(ask(l, STANDARD, 0, 1092)) && is(export_length(l), NAKHSHIRUL_WRITTEN, 16, 0));
+    l = only_a_hex("10 03 81 00 80 " G_HEX);
+    CHECK(absent(ask(l, STANDARD, 0, 1092)) && is(export_length(l), NAKHSHIRUL_WRITTEN, 16, 0));
+    l = link_hex(G_HEX, GENERAL_9, "");
+    CHECK(has_srlg(l, STANDARD, 0, 9) && metric(l, STANDARD, 0, 30));
+    CHECK(by(why(l, STANDARD, 0, 1096), NAKHSHIRUL_RULE_UNNAMED, NAKHSHIRUL_RUN_B, 0));
+    CHECK(place(value(l, STANDARD, 0, 1092), NAKHSHIRUL_RUN_A, 6, 3));
+    CHECK(exported(l, "044400040000001e04480004000000090462001400000000044400040000001e0448000400000009"));
+    l = link_hex(G_HEX, GENERAL_9, "00000001");
+    CHECK(has_srlg(l, STANDARD, 0, 1) && has_srlg(l, STANDARD, 1, 9) && metric(l, STANDARD, 0, 30));
+    CHECK(by_legacy(why(l, STANDARD, 0, 1096), NAKHSHIRUL_RUN_C));
+    l = link_hex(M_HEX G_HEX, GENERAL_9, "");
+    CHECK(has_srlg(l, STANDARD, 0, 9) && metric(l, STANDARD, 0, 10));
+    /* Named on side B, without a value and with the L-flag. */
+    l = link_hex(G_HEX, GENERAL_9 "EE 15 00 00 00 00 00 02 00 01 00 80 0A 04 08 00 00 00 01 00 00 00 02", "");
+    CHECK(absent(ask(l, STANDARD, 0, 1096)) && metric(l, STANDARD, 0, 30) && by_legacy(why(l, STANDARD, 0, 1096), NAKHSHIRUL_RUN_C));
+    l = link_hex(G_HEX, GENERAL_9 "EE 15 00 00 00 00 00 02 00 81 00 80 0A 04 08 00 00 00 01 00 00 00 02", "");
+    CHECK(absent(ask(l, STANDARD, 0, 1096)) && metric(l, STANDARD, 0, 30));
+    CHECK(by(why(l, STANDARD, 0, 1096), NAKHSHIRUL_RULE_L_FLAG, NAKHSHIRUL_RUN_B, 26));
+    /* The reader does not change. */
+    CHECK(absent(run_ask(hex("0462000c00000000044400040000001e"), STANDARD, 0, 1092)));
+    CHECK(by_none(run_why(hex("0462000c00000000044400040000001e"), STANDARD, 0, 1092), NAKHSHIRUL_RULE_TOP));
 }
 
 /* ---- null pointers with length 0 */
@@ -615,14 +803,17 @@ static void texts(void)
     char text[NAKHSHIRUL_TEXT];
     CHECK(strcmp(nakhshirul_refusal_text(named(only_a(run_of(msg, 4))).status), "an element is cut") == 0);
     CHECK(strcmp(nakhshirul_refusal_text(named(only_a(RUN(msg))).status), "not refused") == 0);
-    CHECK(strcmp(nakhshirul_refusal_text(NAKHSHIRUL_REFUSED + 8), "not refused") == 0);
+    CHECK(strcmp(nakhshirul_refusal_text(named(only_a_hex(TWO_METRICS)).status), "a kind stands twice in one ASLA") == 0);
+    CHECK(strcmp(nakhshirul_refusal_text(NAKHSHIRUL_REFUSED + 9), "not refused") == 0);
     CHECK(strcmp(nakhshirul_kind_text(1092), "TE metric") == 0 && strcmp(nakhshirul_kind_text(1122), "no kind") == 0);
     CHECK(strcmp(nakhshirul_application_text(GENERAL, 7, text), "general set") == 0);
     CHECK(strcmp(nakhshirul_application_text(STANDARD, NAKHSHIRUL_SR_POLICY, text), "SR Policy") == 0);
     CHECK(strcmp(nakhshirul_application_text(STANDARD, NAKHSHIRUL_FLEX_ALGO, text), "Flex-Algo") == 0);
     CHECK(strcmp(nakhshirul_application_text(STANDARD, 63, text), "standard 63") == 0);
     CHECK(strcmp(nakhshirul_application_text(USER, 3, text), "user 3") == 0);
-    CHECK(strcmp(nakhshirul_application_text(USER, 64, text), "no application") == 0);
+    CHECK(strcmp(nakhshirul_application_text(STANDARD, 64, text), "no application") == 0);
+    CHECK(strcmp(nakhshirul_application_text(USER, 31, text), "user 31") == 0);
+    CHECK(strcmp(nakhshirul_application_text(USER, 32, text), "no application") == 0);
     CHECK(strcmp(nakhshirul_application_text(3, 0, text), "no application") == 0);
 }
 
@@ -698,10 +889,10 @@ static void bench_link(const char *name)
     CHECK(x.status == NAKHSHIRUL_NAMED && is(y, x.status, x.reply[0], x.reply[1]));
     for (i = 0; i < sizeof codes / sizeof codes[0]; i++) {
         CHECK(alike(l, r, GENERAL, 0, codes[i]));
-        for (n = 0; n < 64; n++) {
+        for (n = 0; n < 64; n++)
             CHECK(alike(l, r, STANDARD, n, codes[i]));
+        for (n = 0; n < 32; n++)
             CHECK(alike(l, r, USER, n, codes[i]));
-        }
     }
 }
 
@@ -745,6 +936,9 @@ int main(int count, char **words)
     group("refusals", refusals);
     group("BGP-LS runs", runs);
     group("why", reasons);
+    group("E12: user bits 32 to 63 retired", retired_bits);
+    group("E5: a kind twice in one ASLA", twice);
+    group("E2: the general set for RSVP-TE", general_for_rsvp_te);
     group("null with length 0", nulls);
     group("most SRLGs of a link", most_of_a_link);
     group("most SRLGs of a run", most_of_a_run);

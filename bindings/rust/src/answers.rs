@@ -11,7 +11,7 @@ pub enum Subject {
     /// A standard application: 0 is RSVP-TE, 1 SR Policy, 2 LFA, 3 Flex-Algo. Above 63 a question
     /// is refused.
     Standard(u64),
-    /// A user-defined application, 0 to 63.
+    /// A user-defined application, 0 to 31. Above 31 a question is refused: 32 to 63 are retired.
     User(u64),
 }
 
@@ -68,7 +68,7 @@ impl Subject {
 pub enum Application {
     /// A standard application by its number, 0 to 63.
     Standard(u8),
-    /// A user-defined application by its number, 0 to 63.
+    /// A user-defined application by its number, 0 to 31.
     User(u8),
 }
 
@@ -264,7 +264,8 @@ pub enum Rule {
     Named = 1,
     /// The general set was asked for.
     General = 2,
-    /// Nothing names the application: the general set.
+    /// Nothing names the application (RSVP-TE: and no kind of applications is there as a legacy value):
+    /// the general set.
     Unnamed = 3,
     /// Legacy values, without an L-flag: what RSVP-TE is given by no advertisement that names it, or
     /// a bandwidth that no ASLA gives.
@@ -315,14 +316,23 @@ pub enum Refusal {
     },
     /// 5: the result is longer than the room that was lent.
     NoRoom,
-    /// 6: the application's number is above 63.
+    /// 6: the number of a standard application is above 63, or that of a user-defined one above 31.
     NoApplication,
     /// 7: the code is none of the fourteen.
     NoKind,
+    /// 8: a known kind stands twice in the list of one ASLA. The second one begins there.
+    Twice {
+        /// The run to blame.
+        run: Run,
+        /// The element's first byte.
+        offset: usize,
+        /// The fragment of that run, 0.
+        fragment: u8,
+    },
 }
 
 impl Refusal {
-    /// Its number, 1 to 7.
+    /// Its number, 1 to 8.
     ///
     /// ```
     /// assert_eq!(nakhshirul::Refusal::NoRoom.number(), 5);
@@ -336,10 +346,11 @@ impl Refusal {
             Refusal::NoRoom => 5,
             Refusal::NoApplication => 6,
             Refusal::NoKind => 7,
+            Refusal::Twice { .. } => 8,
         }
     }
 
-    /// Where the faulty element begins, if one is to blame (3 and 4).
+    /// Where the faulty element begins, if one is to blame (3, 4 and 8).
     pub fn place(self) -> Option<Place> {
         match self {
             Refusal::Cut {
@@ -348,6 +359,11 @@ impl Refusal {
                 fragment,
             }
             | Refusal::Length {
+                run,
+                offset,
+                fragment,
+            }
+            | Refusal::Twice {
                 run,
                 offset,
                 fragment,
@@ -369,6 +385,7 @@ impl Refusal {
             Refusal::NoRoom => "the result is longer than the room lent",
             Refusal::NoApplication => "there is no such application",
             Refusal::NoKind => "the code is none of the fourteen",
+            Refusal::Twice { .. } => "a kind stands twice in one ASLA",
         }
     }
 }
@@ -382,6 +399,11 @@ impl Refusal {
 /// let link = Link { a: &[0x12, 3, 0, 0, 10, 0x12, 2, 0, 10], b: &[], c: &[] };
 /// let refusal = link.named().unwrap_err();
 /// assert_eq!(refusal.to_string(), "refused by 4: an element has a wrong length, run A at 5");
+///
+/// // An ASLA with two TE metrics, the second one at byte 10.
+/// let link = Link { a: &[0x10, 13, 1, 0, 0x40, 0x12, 3, 0, 0, 20, 0x12, 3, 0, 0, 21], b: &[], c: &[] };
+/// let refusal = link.named().unwrap_err();
+/// assert_eq!(refusal.to_string(), "refused by 8: a kind stands twice in one ASLA, run A at 10");
 /// ```
 impl fmt::Display for Refusal {
     fn fmt(&self, f: &mut fmt::Formatter<'_>) -> fmt::Result {
@@ -452,10 +474,11 @@ impl IntoIterator for Applications {
 /// ```
 /// use nakhshirul::{code, Link};
 ///
-/// // Two ASLAs: SR Policy and LFA have metric 20, user-defined application 63 has metric 21.
+/// // Two ASLAs: SR Policy and LFA have metric 20, user-defined application 31 has metric 21. The last
+/// // four bytes of its mask are rubbish: user bits 32 to 63 are retired.
 /// let a = [
 ///     0x10, 8, 1, 0, 0x60, 0x12, 3, 0, 0, 20,
-///     0x10, 15, 0, 8, 0, 0, 0, 0, 0, 0, 0, 1, 0x12, 3, 0, 0, 21,
+///     0x10, 15, 0, 8, 0, 0, 0, 1, 0xDE, 0xAD, 0xBE, 0xEF, 0x12, 3, 0, 0, 21,
 /// ];
 /// let link = Link { a: &a, b: &[], c: &[] };
 /// for application in link.named().unwrap() {
@@ -552,6 +575,11 @@ impl Reply {
             133 => Refusal::NoRoom,
             134 => Refusal::NoApplication,
             135 => Refusal::NoKind,
+            136 => Refusal::Twice {
+                run,
+                offset,
+                fragment,
+            },
             n => unreachable!("status {n}"),
         }
     }

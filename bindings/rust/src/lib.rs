@@ -79,7 +79,7 @@ pub mod code {
 }
 
 /// No export is longer.
-pub const LONGEST_EXPORT: usize = 310_644;
+pub const LONGEST_EXPORT: usize = 233_588;
 
 /// No answer of a link has more SRLGs.
 pub const MOST_LINK_SRLGS: usize = 464;
@@ -124,9 +124,11 @@ impl<'a> Link<'a> {
     ///     other => panic!("{other:?}"),
     /// }
     ///
-    /// // Absent is a normal answer; an application above 63 is none.
-    /// assert_eq!(link.ask(Subject::User(63), code::TE_METRIC, &mut []), Answer::Absent);
-    /// assert_eq!(link.ask(Subject::User(64), code::TE_METRIC, &mut []), Answer::Refused(Refusal::NoApplication));
+    /// // Absent is a normal answer; a standard application above 63 is none, nor is a user-defined one above 31.
+    /// assert_eq!(link.ask(Subject::Standard(63), code::TE_METRIC, &mut []), Answer::Absent);
+    /// assert_eq!(link.ask(Subject::User(31), code::TE_METRIC, &mut []), Answer::Absent);
+    /// assert_eq!(link.ask(Subject::Standard(64), code::TE_METRIC, &mut []), Answer::Refused(Refusal::NoApplication));
+    /// assert_eq!(link.ask(Subject::User(32), code::TE_METRIC, &mut []), Answer::Refused(Refusal::NoApplication));
     /// ```
     pub fn ask<'l>(&self, whom: Subject, code: u16, list: &'l mut [u32]) -> Answer<'a, 'l> {
         let mut reply = Reply::new();
@@ -200,9 +202,14 @@ impl<'a> Link<'a> {
     /// let why = link.why(Subject::Standard(2), code::TE_METRIC).unwrap();
     /// assert_eq!((why.rule, why.advertisement.unwrap().offset), (Rule::Unnamed, 10));
     ///
-    /// // RSVP-TE is named nowhere: its SRLGs are those of run C, be there some or none.
-    /// let why = link.why(Subject::Standard(0), code::SRLG).unwrap();
-    /// assert_eq!((why.rule, why.advertisement, why.legacy), (Rule::Legacy, None, Some(Run::C)));
+    /// // RSVP-TE is named nowhere: its values are the legacy ones, be there one of the kind or not.
+    /// let why = link.why(Subject::Standard(0), code::DELAY).unwrap();
+    /// assert_eq!((why.rule, why.advertisement, why.legacy), (Rule::Legacy, None, Some(Run::A)));
+    ///
+    /// // Where there is no legacy value of any kind of applications, the general set is RSVP-TE's too.
+    /// let link = Link { a: &a[10..], b: &[], c: &[] };
+    /// let why = link.why(Subject::Standard(0), code::TE_METRIC).unwrap();
+    /// assert_eq!((why.rule, why.advertisement.unwrap().offset), (Rule::Unnamed, 0));
     /// ```
     pub fn why(&self, whom: Subject, code: u16) -> Result<Why, Refusal> {
         let mut reply = Reply::new();
@@ -234,6 +241,10 @@ impl<'a> Link<'a> {
     /// assert_eq!(named.len(), 3);
     /// let all: Vec<Application> = named.iter().collect();
     /// assert_eq!(all, [Application::Standard(1), Application::Standard(2), Application::User(0)]);
+    ///
+    /// // User bits from 32 on are retired: a mask of such bits alone names nobody.
+    /// let a = [0x10, 7, 0, 5, 0, 0, 0, 0, 0xFF];
+    /// assert!(Link { a: &a, b: &[], c: &[] }.named().unwrap().is_empty());
     /// ```
     pub fn named(&self) -> Result<Applications, Refusal> {
         let mut reply = Reply::new();

@@ -4,13 +4,47 @@ use std::collections::BTreeMap;
 
 use crate::calls::{function, Request, Subject, FUNCTIONS, WITH_EXPORT_LENGTH};
 use crate::expected::Outcome;
-use crate::reference::application::{rule, Advertisement, Application, Ignored, Rule, RSVP_TE};
+use crate::reference::application::{
+    general, naming, rule, Advertisement, Application, Ignored, Rule, RSVP_TE,
+};
 use crate::reference::bgp_ls::read_run;
 use crate::reference::export::groups;
-use crate::reference::kinds::{CODES, SRLG};
+use crate::reference::kinds::{Attribute, APPLICATION_CODES, CODES, SRLG};
 use crate::reference::link::{named_on, read_link, Sides};
 use crate::reference::meaning::{self, Set};
-use crate::reference::reply::{Fault, Run};
+use crate::reference::reply::{Fault, Refusal, Run};
+use crate::reference::side_a::Asla;
+use crate::repeats::{Format, Repeat};
+
+/// What becomes of a side's general values for RSVP-TE.
+#[derive(Clone, Copy, PartialEq, Eq, PartialOrd, Ord, Debug)]
+enum ForRsvpTe {
+    Taken,
+    NamedWithL,
+    NamedWithoutAValue,
+    NamedWithAValue,
+    /// Nothing names it, and a kind of applications is legacy.
+    Legacy,
+}
+
+/// The same, for the live advertisements of a side; none where it has no general values.
+fn for_rsvp_te<T>(
+    live: &[Advertisement<T>],
+    has: impl Fn(&T) -> bool,
+    legacy_has_a_kind: bool,
+) -> Option<ForRsvpTe> {
+    let some_has = |of: Vec<&Advertisement<T>>| of.iter().any(|one| has(&one.carries));
+    if !some_has(general(live)) {
+        return None;
+    }
+    Some(match rule(live, RSVP_TE) {
+        Rule::Legacy => ForRsvpTe::NamedWithL,
+        Rule::Naming if some_has(naming(live, RSVP_TE)) => ForRsvpTe::NamedWithAValue,
+        Rule::Naming => ForRsvpTe::NamedWithoutAValue,
+        Rule::General if legacy_has_a_kind => ForRsvpTe::Legacy,
+        Rule::General => ForRsvpTe::Taken,
+    })
+}
 
 /// Counts of calls and of what the links and runs had in them.
 #[derive(Default)]
@@ -30,21 +64,23 @@ pub struct Coverage {
     rules: BTreeMap<(&'static str, Rule), u64>,
     whys: BTreeMap<(usize, u64, bool, u64), u64>,
     ignored: BTreeMap<(&'static str, Ignored), u64>,
+    repeats: BTreeMap<(&'static str, Repeat), u64>,
+    rsvp_te: BTreeMap<(&'static str, ForRsvpTe), u64>,
     things: BTreeMap<&'static str, u64>,
 }
 
 /// The statuses that each function can give.
 const STATUSES: [&[u64]; 10] = [
-    &[0, 1, 2, 3, 4, 5, 129, 130, 131, 132, 133, 134, 135],
+    &[0, 1, 2, 3, 4, 5, 129, 130, 131, 132, 133, 134, 135, 136],
     &[0, 4],
-    &[6, 129, 130, 131, 132],
-    &[7, 129, 130, 131, 132, 133],
-    &[0, 1, 2, 3, 4, 5, 129, 131, 132, 133, 134, 135],
+    &[6, 129, 130, 131, 132, 136],
+    &[7, 129, 130, 131, 132, 133, 136],
+    &[0, 1, 2, 3, 4, 5, 129, 131, 132, 133, 134, 135, 136],
     &[0, 4],
-    &[6, 129, 131, 132],
-    &[16, 129, 130, 131, 132, 134, 135],
-    &[16, 129, 131, 132, 134, 135],
-    &[7, 129, 130, 131, 132],
+    &[6, 129, 131, 132, 136],
+    &[16, 129, 130, 131, 132, 134, 135, 136],
+    &[16, 129, 131, 132, 134, 135, 136],
+    &[7, 129, 130, 131, 132, 136],
 ];
 
 /// The place of `nakhshirul_export_length`.
@@ -83,6 +119,7 @@ const FAULTS: [(&str, &[Fault]); 3] = [
             Fault::FixedFieldsCut,
             Fault::MasksCut,
             Fault::KindLength,
+            Fault::KindTwice,
         ],
     ),
     (
@@ -106,6 +143,7 @@ const FAULTS: [(&str, &[Fault]); 3] = [
             Fault::FixedFieldsCut,
             Fault::MasksCut,
             Fault::KindLength,
+            Fault::KindTwice,
         ],
     ),
 ];
@@ -129,7 +167,49 @@ const IGNORED: [(&str, Ignored); 7] = [
     ("BGP-LS", Ignored::MaskLength),
 ];
 
-const THINGS: [&str; 30] = [
+const REPEATS: [(&str, &[Repeat]); 2] = [
+    (
+        "A",
+        &[
+            Repeat::Neighbour,
+            Repeat::FurtherOn,
+            Repeat::BeforeAFault,
+            Repeat::Bandwidth,
+            Repeat::WrongLength,
+            Repeat::BehindAFault,
+            Repeat::Unknown,
+            Repeat::WithL,
+            Repeat::Ignored,
+            Repeat::Outside,
+        ],
+    ),
+    (
+        "BGP-LS",
+        &[
+            Repeat::Neighbour,
+            Repeat::FurtherOn,
+            Repeat::BeforeAFault,
+            Repeat::EmptySrlgs,
+            Repeat::Bandwidth,
+            Repeat::WrongLength,
+            Repeat::BehindAFault,
+            Repeat::Unknown,
+            Repeat::Ignored,
+            Repeat::Outside,
+        ],
+    ),
+];
+
+/// What can become of a side's general values for RSVP-TE.
+const FOR_RSVP_TE: [ForRsvpTe; 5] = [
+    ForRsvpTe::Taken,
+    ForRsvpTe::NamedWithL,
+    ForRsvpTe::NamedWithoutAValue,
+    ForRsvpTe::NamedWithAValue,
+    ForRsvpTe::Legacy,
+];
+
+const THINGS: [&str; 50] = [
     "A general",
     "A naming",
     "A neither",
@@ -153,13 +233,33 @@ const THINGS: [&str; 30] = [
     "BGP-LS run of 524288 bytes accepted",
     "BGP-LS run of 524289 bytes",
     "95 ASLAs or more, each of one application",
-    "60 ASLAs or more, each of 100 applications or more",
+    "60 ASLAs or more, each of 90 applications or more",
     "400 ASLAs or more",
     "60 TLVs 238 or more",
     "464 SRLGs ascending",
     "464 SRLGs falling",
     "464 SRLGs in any order",
     "60 groups or more with 400 SRLGs or more",
+    "A with retired bits",
+    "A with retired bits alone",
+    "A with L and retired bits alone",
+    "A with RSVP-TE alone but for retired bits, and 1090",
+    "A with 1089 beside retired bits alone",
+    "B with retired bits",
+    "B with retired bits alone",
+    "BGP-LS with retired bits",
+    "BGP-LS with retired bits alone",
+    "BGP-LS with a user mask of 8 bytes without retired bits",
+    "user 31 asked and answered",
+    "user 32 asked",
+    "user 33 to 63 asked",
+    "RSVP-TE takes general values of both sides",
+    "RSVP-TE takes general values of A, not of B",
+    "RSVP-TE takes general values of B, not of A",
+    "RSVP-TE takes general values beside legacy bandwidths",
+    "RSVP-TE takes no general values, for legacy has other kinds",
+    "why RSVP-TE takes general values of A",
+    "why RSVP-TE takes general values of B",
 ];
 
 impl Coverage {
@@ -180,6 +280,17 @@ impl Coverage {
         if outcome.status == 16 {
             let [rule, offset, run, _] = outcome.reply;
             *self.whys.entry((function, rule, offset != u64::MAX, run)).or_default() += 1;
+            let rsvp_te = matches!(request, Request::Why { who: 1, number: 0, .. });
+            if rsvp_te && rule == 3 && offset != u64::MAX {
+                self.thing_if(run == 0, "why RSVP-TE takes general values of A");
+                self.thing_if(run == 1, "why RSVP-TE takes general values of B");
+            }
+        }
+        if let Request::Ask { who: 2, number, .. } | Request::Why { who: 2, number, .. } = request {
+            let refused = outcome.status == 134;
+            self.thing_if(*number == 31 && outcome.status < 128, "user 31 asked and answered");
+            self.thing_if(*number == 32 && refused, "user 32 asked");
+            self.thing_if((33..64).contains(number) && refused, "user 33 to 63 asked");
         }
         let code = match request {
             Request::Ask { code, .. } | Request::Value { code, .. } => *code,
@@ -198,13 +309,16 @@ impl Coverage {
                 self.thing_if(link.a.len() == 2049, "A of 2049 bytes");
                 self.thing_if(link.b.len() == 2049, "B of 2049 bytes");
                 self.thing_if(link.c.len() == 1028, "C of 1028 bytes");
-                let Ok(sides) = read_link(link) else { return };
+                let read = read_link(link);
+                self.repeats("A", Format::A, &link.a, read.as_ref().err());
+                let Ok(sides) = read else { return };
                 self.accepted_links += 1;
                 self.thing_if(link.a.len() == 2048, "A of 2048 bytes accepted");
                 self.thing_if(link.b.len() == 2048, "B of 2048 bytes accepted");
                 self.thing_if(link.c.len() == 1024, "C of 1024 bytes accepted");
                 self.sides(&sides);
                 self.shapes(&sides);
+                self.rsvp_te(&sides);
                 let meaning = meaning::of_sides(link, &sides);
                 let groups = groups(&meaning.named);
                 self.groups += groups.len() as u64;
@@ -226,7 +340,9 @@ impl Coverage {
             Subject::Run(run) => {
                 self.runs += 1;
                 self.thing_if(run.len() == 524_289, "BGP-LS run of 524289 bytes");
-                let Ok(reader) = read_run(run) else { return };
+                let read = read_run(run);
+                self.repeats("BGP-LS", Format::BgpLs, run, read.as_ref().err());
+                let Ok(reader) = read else { return };
                 self.accepted_runs += 1;
                 self.thing_if(run.len() == 524_288, "BGP-LS run of 524288 bytes accepted");
                 for why in reader.ignored {
@@ -234,6 +350,14 @@ impl Coverage {
                 }
                 for asla in reader.aslas {
                     self.thing(pick(&asla, ["BGP-LS general", "BGP-LS naming", "BGP-LS neither"]));
+                    self.retired(
+                        &asla,
+                        ["BGP-LS with retired bits", "BGP-LS with retired bits alone"],
+                    );
+                    self.thing_if(
+                        asla.masks.user.len() == 8 && !asla.masks.retired,
+                        "BGP-LS with a user mask of 8 bytes without retired bits",
+                    );
                 }
             }
         }
@@ -255,18 +379,86 @@ impl Coverage {
             if asla.legacy_flag {
                 self.thing("A with L");
             }
+            self.retired(asla, ["A with retired bits", "A with retired bits alone"]);
+            self.retired_in_a(asla);
         }
         for tlv in &sides.b.live {
             self.thing(pick(tlv, ["B general", "B naming", "B neither"]));
             if tlv.legacy_flag {
                 self.thing("B with L");
             }
+            self.retired(tlv, ["B with retired bits", "B with retired bits alone"]);
         }
         if rule(&sides.a.live, RSVP_TE) == Rule::Legacy {
             self.thing("RSVP-TE with L on A");
         }
         if rule(&sides.b.live, RSVP_TE) == Rule::Legacy {
             self.thing("RSVP-TE with L on B");
+        }
+    }
+
+    /// Retired bits of a user mask: beside others, or alone.
+    fn retired<T>(&mut self, one: &Advertisement<T>, things: [&'static str; 2]) {
+        self.thing_if(one.masks.retired, things[0]);
+        self.thing_if(one.masks.retired && one.masks.bits_set() == 0, things[1]);
+    }
+
+    /// What retired bits must not change in A: whom L is for, and the bandwidths.
+    fn retired_in_a(&mut self, asla: &Asla) {
+        if !asla.masks.retired {
+            return;
+        }
+        let has = |code| asla.carries.iter().any(|one| one.code == code);
+        let alone = asla.masks.name(RSVP_TE) && asla.masks.bits_set() == 1;
+        let nobody = asla.masks.bits_set() == 0;
+        self.thing_if(nobody && asla.legacy_flag, "A with L and retired bits alone");
+        self.thing_if(alone && has(1090), "A with RSVP-TE alone but for retired bits, and 1090");
+        self.thing_if(nobody && has(1089), "A with 1089 beside retired bits alone");
+    }
+
+    /// What becomes of the general values of both sides for RSVP-TE.
+    fn rsvp_te(&mut self, sides: &Sides) {
+        let (a, b) = (&sides.a, &sides.b);
+        let of_an_application = |one: &Attribute| APPLICATION_CODES.contains(&one.code);
+        let in_a = |list: &Vec<Attribute>| list.iter().any(of_an_application);
+        let on_a = for_rsvp_te(&a.live, in_a, a.legacy_has_a_kind());
+        let on_b = for_rsvp_te(&b.live, |srlgs| !srlgs.is_empty(), b.legacy_has_a_kind());
+        for (side, one) in [("A", on_a), ("B", on_b)] {
+            if let Some(one) = one {
+                *self.rsvp_te.entry((side, one)).or_default() += 1;
+            }
+        }
+        let taken = |one: Option<ForRsvpTe>| one == Some(ForRsvpTe::Taken);
+        let left = |one: Option<ForRsvpTe>| one.is_some() && !taken(one);
+        self.thing_if(taken(on_a) && taken(on_b), "RSVP-TE takes general values of both sides");
+        self.thing_if(taken(on_a) && left(on_b), "RSVP-TE takes general values of A, not of B");
+        self.thing_if(left(on_a) && taken(on_b), "RSVP-TE takes general values of B, not of A");
+        let bandwidths = taken(on_a) && !a.legacy.is_empty();
+        self.thing_if(bandwidths, "RSVP-TE takes general values beside legacy bandwidths");
+        let general: Vec<u16> =
+            general(&a.live).iter().flat_map(|one| &one.carries).map(|one| one.code).collect();
+        let others = a.legacy.iter().all(|one| !general.contains(&one.code));
+        let shut_out = on_a == Some(ForRsvpTe::Legacy) && others;
+        self.thing_if(shut_out, "RSVP-TE takes no general values, for legacy has other kinds");
+    }
+
+    /// What stands twice in a run, if nothing but it is to blame for a refusal.
+    fn repeats(
+        &mut self,
+        name: &'static str,
+        format: Format,
+        run: &[u8],
+        refusal: Option<&Refusal>,
+    ) {
+        let blamed = match refusal.map(|refusal| (refusal.fault.number(), refusal.run)) {
+            None => true,
+            Some((3 | 4 | 8, blamed)) => blamed != Run::B,
+            Some(_) => false,
+        };
+        if blamed {
+            for one in format.repeats(run, refusal.copied()) {
+                *self.repeats.entry((name, one)).or_default() += 1;
+            }
         }
     }
 
@@ -277,7 +469,7 @@ impl Coverage {
             named.filter(|n| (least..=most).contains(n)).count()
         };
         self.thing_if(naming(1, 1) >= 95, "95 ASLAs or more, each of one application");
-        self.thing_if(naming(100, 128) >= 60, "60 ASLAs or more, each of 100 applications or more");
+        self.thing_if(naming(90, 96) >= 60, "60 ASLAs or more, each of 90 applications or more");
         self.thing_if(sides.a.live.len() >= 400, "400 ASLAs or more");
         self.thing_if(sides.b.live.len() >= 60, "60 TLVs 238 or more");
         let srlgs: Vec<u32> = sides.b.live.iter().flat_map(|tlv| tlv.carries.clone()).collect();
@@ -347,6 +539,18 @@ impl Coverage {
                 missing.push(format!("{one:?}"));
             }
         }
+        for one in ["A", "B"].iter().flat_map(|side| FOR_RSVP_TE.map(|one| (*side, one))) {
+            if !self.rsvp_te.contains_key(&one) {
+                missing.push(format!("{one:?} for RSVP-TE"));
+            }
+        }
+        for (run, repeats) in REPEATS {
+            for one in repeats {
+                if !self.repeats.contains_key(&(run, *one)) {
+                    missing.push(format!("{run} twice {one:?}"));
+                }
+            }
+        }
         for one in THINGS {
             if !self.things.contains_key(one) {
                 missing.push(one.to_string());
@@ -369,10 +573,10 @@ impl Coverage {
             let counts = self.statuses.iter().filter(|((one, _), _)| *one == function);
             line(name, counts.map(|((_, status), n)| format!("{status}: {n}")));
         }
-        for number in 1..=7 {
+        for number in 1..=8 {
             let counts = self.faults.iter().filter(|((_, fault), _)| fault.number() == number);
             let texts = counts.map(|((run, fault), n)| match number {
-                3 | 4 => format!("{run} {fault:?}: {n}"),
+                3 | 4 | 8 => format!("{run} {fault:?}: {n}"),
                 _ => format!("{n}"),
             });
             line(&format!("refused by {number}"), texts);
@@ -393,6 +597,9 @@ impl Coverage {
         }
         line("rules", self.rules.iter().map(|((side, rule), n)| format!("{side} {rule:?}: {n}")));
         line("ignored", self.ignored.iter().map(|((side, why), n)| format!("{side} {why:?}: {n}")));
+        let general = self.rsvp_te.iter();
+        line("general for RSVP-TE", general.map(|((side, one), n)| format!("{side} {one:?}: {n}")));
+        line("twice", self.repeats.iter().map(|((run, one), n)| format!("{run} {one:?}: {n}")));
         line("met", self.things.iter().map(|(thing, n)| format!("{thing}: {n}")));
     }
 }

@@ -19,7 +19,8 @@ pub fn dense_link(random: &mut Random) -> Link {
     }
 }
 
-/// The two length bytes and the mask of one application: 0 to 63 standard, 64 to 127 user.
+/// The two length bytes and the mask of one application: 0 to 63 standard, 64 to 95 user, from there
+/// on a retired bit.
 fn masks_of_one(number: u8) -> Vec<u8> {
     let mask = mask_of(&[number % 64]);
     let mut bytes = vec![0, 0];
@@ -28,7 +29,7 @@ fn masks_of_one(number: u8) -> Vec<u8> {
     bytes
 }
 
-/// The length bytes and masks of all applications.
+/// The length bytes and masks of all applications, retired bits too.
 fn masks_of_all() -> Vec<u8> {
     let mut bytes = vec![8, 8];
     bytes.extend([255; 16]);
@@ -91,7 +92,7 @@ fn longest_sets(random: &mut Random) -> Vec<u8> {
         shared.extend(element(kind, &random.bytes(4)));
     }
     parts.push(asla(masks_of_all(), &shared));
-    for number in 1..128 {
+    for number in 1..96 {
         parts.push(asla(masks_of_one(number), &element(18, &[0, 1, number])));
     }
     random.shuffle(&mut parts);

@@ -22,7 +22,7 @@ pub fn expected(subject: &Subject, request: &Request) -> Outcome {
     match *request {
         Request::Ask { who, number, code, room } => {
             let Some(asker) = asker(who, number) else {
-                return refused(Refusal::of_request(Fault::ApplicationAbove63));
+                return refused(Refusal::of_request(Fault::NoApplication));
             };
             let answer = match subject {
                 Subject::Link(link) => link::ask(link, asker, code, room),
@@ -42,7 +42,7 @@ pub fn expected(subject: &Subject, request: &Request) -> Outcome {
         }
         Request::Why { who, number, code } => {
             let Some(asker) = asker(who, number) else {
-                return refused(Refusal::of_request(Fault::ApplicationAbove63));
+                return refused(Refusal::of_request(Fault::NoApplication));
             };
             reasoned(match subject {
                 Subject::Link(link) => why::of_link(link, asker, code),

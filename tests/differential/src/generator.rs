@@ -2,6 +2,7 @@
 
 use crate::random::Random;
 use crate::reference::application::Application;
+use crate::reference::kinds::code_of_isis_type;
 use crate::reference::link::Link;
 
 /// What the parts of one link or run draw from: a few applications and a few values, so that they
@@ -12,6 +13,9 @@ pub struct Scene {
     pub srlgs: Vec<u32>,
     /// Of a hundred choices, so many are odd ones.
     pub oddness: usize,
+    /// Nothing legacy but the link's bandwidths in A, and nothing in C, with but few exceptions.
+    pub bare_a: bool,
+    pub bare_c: bool,
 }
 
 impl Scene {
@@ -28,7 +32,8 @@ impl Scene {
         for _ in 0..random.between(1, 6) {
             srlgs.push(some_srlg(random));
         }
-        Scene { applications, words, srlgs, oddness }
+        let (bare_a, bare_c) = (random.percent(35), random.percent(35));
+        Scene { applications, words, srlgs, oddness, bare_a, bare_c }
     }
 
     /// True where an odd choice is due.
@@ -63,7 +68,8 @@ impl Scene {
     }
 }
 
-/// Registered applications often, and those at the ends of mask bytes.
+/// Registered applications often, and those at the ends of mask bytes; user ones with a retired number
+/// too, whose masks have retired bits.
 pub fn some_application(random: &mut Random) -> Application {
     const ENDS: [u8; 14] = [0, 1, 2, 3, 7, 8, 15, 16, 30, 31, 32, 33, 62, 63];
     match random.below(10) {
@@ -71,8 +77,9 @@ pub fn some_application(random: &mut Random) -> Application {
         2..=3 => Application::Standard(random.between(1, 2) as u8),
         4 => Application::Standard(random.pick(&ENDS)),
         5 => Application::Standard(random.below(64) as u8),
-        6..=7 => Application::User(random.pick(&ENDS)),
-        _ => Application::User(random.below(64) as u8),
+        6 => Application::User(random.pick(&ENDS)),
+        7 => Application::User(random.below(64) as u8),
+        _ => Application::User(random.below(32) as u8),
     }
 }
 
@@ -122,10 +129,14 @@ pub struct SentMasks {
 }
 
 impl SentMasks {
+    /// Both lengths as they are declared.
+    fn lengths(&self) -> (u8, u8) {
+        self.declared.unwrap_or((self.standard.len() as u8, self.user.len() as u8))
+    }
+
     /// The two bytes of lengths and flags, and the masks.
     pub fn bytes(&self) -> Vec<u8> {
-        let (standard, user) =
-            self.declared.unwrap_or((self.standard.len() as u8, self.user.len() as u8));
+        let (standard, user) = self.lengths();
         let mut bytes = vec![
             standard | if self.legacy_flag { 128 } else { 0 },
             user | if self.reserved { 128 } else { 0 },
@@ -180,6 +191,16 @@ fn stretch(mask: &mut Vec<u8>, random: &mut Random) {
     }
 }
 
+/// Rubbish in the retired bits of a user mask, which is then longer than four bytes, by `step` or by a
+/// multiple of it.
+pub fn rubbish(user: &mut Vec<u8>, step: usize, random: &mut Random) {
+    let length = 4 + step * random.between(1, 4 / step);
+    user.resize(length.max(user.len()), 0);
+    for byte in &mut user[4..] {
+        *byte = if random.percent(30) { 1 << random.below(8) } else { random.byte() };
+    }
+}
+
 fn some_masks(scene: &Scene, random: &mut Random) -> SentMasks {
     let mut masks = SentMasks {
         legacy_flag: random.percent(12),
@@ -197,6 +218,14 @@ fn some_masks(scene: &Scene, random: &mut Random) -> SentMasks {
     if random.percent(20) {
         stretch(&mut masks.standard, random);
         stretch(&mut masks.user, random);
+    }
+    if random.percent(12) {
+        if random.percent(20) {
+            // Retired bits alone, or beside RSVP-TE.
+            masks.standard = random.pick(&[vec![], vec![0], vec![128]]);
+            masks.user = Vec::new();
+        }
+        rubbish(&mut masks.user, 1, random);
     }
     if scene.odd(random) {
         odd_masks(&mut masks, random);
@@ -279,6 +308,50 @@ fn extended_group_length(random: &mut Random) -> usize {
     }
 }
 
+/// Leaves a list the first element of each kind.
+pub fn once(list: &mut Vec<Vec<u8>>, code: fn(&[u8]) -> Option<u16>) {
+    let mut seen = Vec::new();
+    list.retain(|part| match code(part) {
+        None => true,
+        Some(code) => {
+            let first = !seen.contains(&code);
+            seen.push(code);
+            first
+        }
+    });
+}
+
+/// The kind of an element in the list of an ASLA; none where it is unknown.
+pub fn kind_in_list(part: &[u8]) -> Option<u16> {
+    code_of_isis_type(part[0])
+}
+
+/// Repeats an element of a list, right behind it or further on: as it is, with another value, or of a
+/// wrong length; now and then beside another fault. `header` bytes stand before a value, the last of
+/// them gives its length.
+pub fn repeat(list: &mut Vec<Vec<u8>>, header: usize, fault: Vec<u8>, random: &mut Random) {
+    if list.is_empty() {
+        return;
+    }
+    let at = random.below(list.len());
+    let mut again = list[at].clone();
+    match random.below(6) {
+        0 if again[header - 1] < 255 => {
+            again.push(0);
+            again[header - 1] += 1;
+        }
+        1..=2 if again.len() > header => {
+            let last = again.len() - 1;
+            again[last] ^= 1;
+        }
+        _ => {}
+    }
+    list.insert(random.between(at + 1, list.len()), again);
+    if random.percent(25) {
+        list.insert(random.between(0, list.len()), fault);
+    }
+}
+
 /// Parts one after another, as many as fit in so many bytes.
 fn as_many_as_fit(parts: Vec<Vec<u8>>, room: usize) -> Vec<u8> {
     let mut bytes = Vec::new();
@@ -308,6 +381,15 @@ pub fn asla(scene: &Scene, random: &mut Random) -> Vec<u8> {
         } else {
             list.push(attribute(scene, random));
         }
+    }
+    // A list that is not read may have anything twice.
+    let (standard, user) = masks.lengths();
+    let read = !masks.legacy_flag && standard <= 8 && user <= 8;
+    if read {
+        once(&mut list, kind_in_list);
+    }
+    if random.percent(25) && (!read || scene.odd(random)) {
+        repeat(&mut list, 2, element(18, &[0, 0]), random);
     }
     if masks.legacy_flag && scene.odd(random) && random.percent(40) {
         // A list that is not read.
@@ -398,11 +480,22 @@ pub fn srlg_tlv(scene: &Scene, random: &mut Random) -> Vec<u8> {
     element(238, &value)
 }
 
+/// An attribute outside an ASLA.
+fn legacy(scene: &Scene, random: &mut Random) -> Vec<u8> {
+    if !scene.bare_a || random.percent(5) {
+        return attribute(scene, random);
+    }
+    match random.pick(&[(9, 4), (10, 4), (11, 32), (0, 0)]) {
+        (0, _) => Vec::new(),
+        (kind, length) => element(kind, &scene.value(random, length)),
+    }
+}
+
 fn run_a(scene: &Scene, random: &mut Random) -> Vec<u8> {
     let mut a = Vec::new();
     for _ in 0..random.pick(&[0, 1, 2, 2, 3, 3, 4, 4, 5, 6, 8, 12]) {
         if random.percent(50) {
-            a.extend(attribute(scene, random));
+            a.extend(legacy(scene, random));
         } else {
             a.extend(asla(scene, random));
         }
@@ -429,6 +522,9 @@ fn run_b(scene: &Scene, random: &mut Random) -> Vec<u8> {
 /// The legacy SRLGs.
 pub fn run_c(scene: &Scene, random: &mut Random) -> Vec<u8> {
     let mut c = Vec::new();
+    if scene.bare_c && !random.percent(5) {
+        return c;
+    }
     for _ in 0..random.pick(&[0, 0, 1, 2, 2, 3, 5]) {
         c.extend(scene.srlg(random));
     }

@@ -1,5 +1,5 @@
-//! A differential test of the library: a second implementation of the paper (document 01), written
-//! without regard to the first, a generator of links and runs, and a comparison of every answer.
+//! A differential test of the library: a second implementation of the papers (documents 01 and 02),
+//! written without regard to the first, a generator of links and runs, and a comparison of every answer.
 
 pub mod calls;
 pub mod compare;
@@ -11,6 +11,7 @@ pub mod limits;
 pub mod mutate;
 pub mod random;
 pub mod reference;
+pub mod repeats;
 pub mod runs;
 pub mod session;
 pub mod shapes;

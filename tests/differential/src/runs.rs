@@ -1,8 +1,8 @@
 //! BGP-LS runs, made at random: such as exporters write, and such as none does.
 
-use crate::generator::{masks_of, some_of, Scene};
+use crate::generator::{masks_of, once, repeat, rubbish, some_of, Scene};
 use crate::random::Random;
-use crate::reference::kinds::CODES;
+use crate::reference::kinds::{APPLICATION_CODES, CODES, SRLG};
 
 /// Codes that are no kinds; those beside the kinds among them.
 const UNKNOWN: [u16; 20] = [
@@ -67,6 +67,14 @@ fn masks(scene: &Scene, random: &mut Random) -> (Vec<u8>, Vec<u8>) {
             mask.resize(mask.len() + 4, 0);
         }
     }
+    if random.percent(10) {
+        if random.percent(25) {
+            // Retired bits alone.
+            standard.clear();
+            user.clear();
+        }
+        rubbish(&mut user, 4, random);
+    }
     if scene.odd(random) {
         match random.below(6) {
             0 => standard = vec![255; 4 * random.between(0, 2)],
@@ -102,11 +110,15 @@ fn asla(scene: &Scene, random: &mut Random) -> Vec<u8> {
         let length = random.below(4);
         return tlv(1122, &random.bytes(length));
     }
-    let (standard, user) = masks(scene, random);
+    let (mut standard, mut user) = masks(scene, random);
     let mut lengths = [standard.len() as u8, user.len() as u8];
     if scene.odd(random) && random.percent(20) {
-        lengths[random.below(2)] =
-            random.pick(&[0, 1, 2, 3, 4, 5, 6, 7, 8, 9, 12, 16, 128, 132, 136, 255]);
+        let which = random.below(2);
+        lengths[which] = random.pick(&[0, 1, 2, 3, 4, 5, 6, 7, 8, 9, 12, 16, 128, 132, 136, 255]);
+        if random.percent(40) {
+            // The mask has that length.
+            [&mut standard, &mut user][which].resize(lengths[which].into(), 0);
+        }
     }
     let reserved = if random.percent(85) { [0, 0] } else { [random.byte(), random.byte()] };
     let mut value = lengths.to_vec();
@@ -116,10 +128,30 @@ fn asla(scene: &Scene, random: &mut Random) -> Vec<u8> {
     if scene.odd(random) && random.percent(3) {
         value.truncate(random.between(4, value.len()));
     }
+    let mut list = Vec::new();
     for _ in 0..random.pick(&[0, 1, 1, 2, 2, 3, 4, 6]) {
-        value.extend(inner(scene, random));
+        list.push(inner(scene, random));
     }
+    let read = lengths.iter().all(|length| [0, 4, 8].contains(length));
+    if read {
+        once(&mut list, kind_in_list);
+    }
+    if random.percent(25) && (!read || scene.odd(random)) {
+        if random.percent(20) {
+            // SRLGs without a number, before all else.
+            list.retain(|part| kind_in_list(part) != Some(SRLG));
+            list.splice(0..0, [tlv(SRLG, &[]), tlv(SRLG, &[])]);
+        }
+        repeat(&mut list, 4, tlv(1092, &[0, 0, 0]), random);
+    }
+    value.extend(list.concat());
     tlv(1122, &value)
+}
+
+/// The kind of a TLV in a 1122; none where it is unknown.
+fn kind_in_list(part: &[u8]) -> Option<u16> {
+    let code = u16::from_be_bytes([part[0], part[1]]);
+    APPLICATION_CODES.contains(&code).then_some(code)
 }
 
 /// What stands in a 1122: the kinds, and sometimes what is skipped there whatever its length.

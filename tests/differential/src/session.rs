@@ -280,7 +280,8 @@ fn accepted(random: &mut Random, mut make: impl FnMut(&mut Random) -> Subject) -
     }
 }
 
-/// All fourteen kinds for the general set and every application, their values, and why.
+/// All fourteen kinds for the general set and every application, their values, and why; user 32 to 63
+/// too, which are refused.
 fn every_question(subject: &Subject) -> Vec<Request> {
     let mut requests = Vec::new();
     for (who, number) in (0..64).flat_map(|n| [(1, n), (2, n)]).chain([(0, 0)]) {
@@ -320,12 +321,13 @@ fn who(scene: &Scene, random: &mut Random) -> (u8, u64) {
     }
 }
 
-/// Any number of an application, mostly above 63.
+/// Any number of an application, mostly above 63, or 31 and the next.
 fn number(random: &mut Random) -> u64 {
     let low = random.below(64) as u64;
-    match random.below(8) {
+    match random.below(9) {
         0 => low,
         1 => 64,
+        8 => random.between(31, 33) as u64,
         2 => 64 + low,
         3 => 256 + low,
         4 => (1 << 32) + low,

@@ -55,7 +55,7 @@ fn as_many_as_fit(parts: Vec<Vec<u8>>) -> Vec<u8> {
     run
 }
 
-/// Application n of 128: standard ones, then user ones.
+/// Application n of 96: standard ones, then user ones; up to 127 those with retired bits.
 fn application(n: usize) -> Application {
     if n < 64 {
         Application::Standard(n as u8)
@@ -64,8 +64,7 @@ fn application(n: usize) -> Application {
     }
 }
 
-/// Applications in some order: the 95 that are standard 1 to 63 or user 0 to 31, all 128, or any of
-/// them.
+/// Applications in some order: the 95 other than RSVP-TE, all 96 and the retired bits, or any of them.
 fn many_applications(random: &mut Random) -> Vec<Application> {
     let mut numbers: Vec<usize> = match random.below(4) {
         0..=1 => (1..96).collect(),
@@ -115,7 +114,7 @@ const KINDS: [u8; 13] = [3, 9, 10, 11, 14, 18, 33, 34, 35, 36, 37, 38, 39];
 /// its own. Sometimes one for everybody, or a general one, before or behind them.
 fn one_asla_each(random: &mut Random) -> Vec<u8> {
     let sets = random.pick(&[1, 2, 3, 17, 128, 128]);
-    let second = random.percent(50).then(|| random.pick(&KINDS));
+    let second = random.percent(50).then(|| random.pick(&KINDS)).filter(|kind| *kind != 18);
     let longer = random.percent(20);
     let mut parts = Vec::new();
     for (at, one) in many_applications(random).into_iter().enumerate() {
@@ -134,7 +133,8 @@ fn one_asla_each(random: &mut Random) -> Vec<u8> {
     as_many_as_fit(parts)
 }
 
-/// 60 to 81 ASLAs that name everybody, or all but a few, with a value of some kind in each.
+/// 60 to 81 ASLAs that name everybody, or all but a few, retired bits too, with a value of some kind in
+/// each.
 fn aslas_for_everybody(random: &mut Random) -> Vec<u8> {
     let missing = random.pick(&[0, 0, 2, 50]);
     let kinds = random.pick(&[1, 4, KINDS.len()]);

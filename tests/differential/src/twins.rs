@@ -1,7 +1,8 @@
 //! Links whose applications have sets that are equal, or nearly so.
 
 use crate::generator::{
-    attribute, element, masks_of, run_c, some_application, srlg_tlv_with, Scene, SentMasks,
+    attribute, element, kind_in_list, masks_of, once, run_c, some_application, srlg_tlv_with,
+    Scene, SentMasks,
 };
 use crate::random::Random;
 use crate::reference::application::Application;
@@ -14,6 +15,7 @@ pub fn twins(scene: &Scene, random: &mut Random) -> Link {
     for _ in 0..random.between(1, 4) {
         list.push(attribute(scene, random));
     }
+    once(&mut list, kind_in_list);
     let mut srlgs = Vec::new();
     for _ in 0..random.between(0, 4) {
         srlgs.push(scene.srlg(random).to_vec());
@@ -70,7 +72,8 @@ fn changed(parts: &[Vec<u8>], header: usize, random: &mut Random) -> Vec<Vec<u8>
             parts.remove(at);
         }
         4 => random.shuffle(&mut parts),
-        5 => parts.push(parts[at].clone()),
+        // Of a list this is refused.
+        5 if header == 0 || random.percent(20) => parts.push(parts[at].clone()),
         _ => {}
     }
     parts

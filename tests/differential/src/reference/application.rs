@@ -11,13 +11,17 @@ pub enum Application {
 /// Standard application 0.
 pub const RSVP_TE: Application = Application::Standard(0);
 
+/// The last standard application, and the last user one: user bits 32 to 63 are retired (E12).
+pub const LAST_STANDARD: u8 = 63;
+pub const LAST_USER: u8 = 31;
+
 /// All applications but RSVP-TE in the order of groups: standard ones first.
 pub fn all_but_rsvp_te() -> Vec<Application> {
     let mut all = Vec::new();
-    for n in 1..64 {
+    for n in 1..=LAST_STANDARD {
         all.push(Application::Standard(n));
     }
-    for n in 0..64 {
+    for n in 0..=LAST_USER {
         all.push(Application::User(n));
     }
     all
@@ -38,21 +42,25 @@ pub enum Whose {
     Application(Application),
 }
 
-/// An application's number above 63 is refused by 6; the general set has no number.
+/// A standard application's number above 63, or a user one's above 31, is refused by 6; the general
+/// set has no number.
 pub fn whose(asker: Asker) -> Result<Whose, Refusal> {
-    match asker {
-        Asker::General => Ok(Whose::General),
-        Asker::Standard(n) if n <= 63 => Ok(Whose::Application(Application::Standard(n as u8))),
-        Asker::User(n) if n <= 63 => Ok(Whose::Application(Application::User(n as u8))),
-        _ => Err(Refusal::of_request(Fault::ApplicationAbove63)),
-    }
+    let application = match asker {
+        Asker::General => return Ok(Whose::General),
+        Asker::Standard(n) if n <= LAST_STANDARD.into() => Application::Standard(n as u8),
+        Asker::User(n) if n <= LAST_USER.into() => Application::User(n as u8),
+        _ => return Err(Refusal::of_request(Fault::NoApplication)),
+    };
+    Ok(Whose::Application(application))
 }
 
-/// Two masks, each as long as it was sent.
+/// Two masks, each as long as it was sent, without the retired bits.
 #[derive(Clone, PartialEq, Eq, Debug)]
 pub struct Masks {
     pub standard: Vec<u8>,
     pub user: Vec<u8>,
+    /// Whether a retired bit was set, which changes nothing.
+    pub retired: bool,
 }
 
 /// Bit 0 is the top bit of the first byte. Bits not sent are 0.
@@ -64,6 +72,16 @@ pub fn bit(mask: &[u8], n: u8) -> bool {
 }
 
 impl Masks {
+    /// Masks as they were sent. A user bit above 31 counts as 0; the mask keeps its length.
+    pub fn sent(standard: &[u8], user: &[u8]) -> Masks {
+        let mut masks = Masks { standard: standard.to_vec(), user: user.to_vec(), retired: false };
+        for byte in masks.user.iter_mut().skip(usize::from(LAST_USER / 8) + 1) {
+            masks.retired |= *byte != 0;
+            *byte = 0;
+        }
+        masks
+    }
+
     /// Both lengths are 0.
     pub fn both_empty(&self) -> bool {
         self.standard.is_empty() && self.user.is_empty()
@@ -77,7 +95,7 @@ impl Masks {
         }
     }
 
-    /// How many bits are set in both masks.
+    /// How many bits are set in both masks, retired ones not counted.
     pub fn bits_set(&self) -> u32 {
         self.standard.iter().chain(&self.user).map(|byte| byte.count_ones()).sum()
     }
@@ -129,6 +147,12 @@ pub fn rule<T>(live: &[Advertisement<T>], application: Application) -> Rule {
     } else {
         Rule::General
     }
+}
+
+/// Does RSVP-TE take the general set of a side? It does if no live advertisement of that side names it,
+/// with L or without, and the side's legacy holds none of the application kinds (E2).
+pub fn general_for_rsvp_te<T>(live: &[Advertisement<T>], legacy_has_a_kind: bool) -> bool {
+    rule(live, RSVP_TE) == Rule::General && !legacy_has_a_kind
 }
 
 /// The advertisements that name an application, in byte order.

@@ -5,8 +5,8 @@ use super::application::{
     Whose, RSVP_TE,
 };
 use super::kinds::{
-    ascending_and_different, bgp_ls_length_is_right, big_endian, numbers_of_four, reading,
-    Attribute, ASLA, CODES, LINK_CODES, SRLG,
+    add_to_list, ascending_and_different, bgp_ls_length_is_right, big_endian, numbers_of_four,
+    reading, Attribute, ASLA, CODES, LINK_CODES, SRLG,
 };
 use super::link::{check_question, srlg_answer};
 use super::reply::{Answer, Fault, Refusal, Run};
@@ -93,21 +93,20 @@ fn read_asla(run: &[u8], tlv: &Tlv) -> Result<Verdict<Vec<Attribute>>, Refusal> 
     if list_at > tlv.end {
         return Err(Refusal::at(Fault::MasksCut, Run::BgpLs, tlv.start));
     }
-    // Then its inner elements. The link's bandwidths and 1122 are unknown here.
+    // Then its inner elements, each kind once. The link's bandwidths and 1122 are unknown here.
     let mut attributes = Vec::new();
     let mut at = list_at;
     while at < tlv.end {
         let inner = frame(run, at, tlv.end)?;
         if !LINK_CODES.contains(&inner.code) {
             if let Some(attribute) = read_attribute(&inner)? {
-                attributes.push(attribute);
+                add_to_list(&mut attributes, attribute, Run::BgpLs, inner.start)?;
             }
         }
         at = inner.end;
     }
     // Standard bit 0 is ignored, but a mask with no other bit is still a mask.
-    let mut masks =
-        Masks { standard: run[masks_at..user_at].to_vec(), user: run[user_at..list_at].to_vec() };
+    let mut masks = Masks::sent(&run[masks_at..user_at], &run[user_at..list_at]);
     if let Some(first) = masks.standard.first_mut() {
         *first &= 127;
     }

@@ -57,9 +57,6 @@ impl MaskHeader {
     /// The masks, which begin at `at`.
     pub fn masks(&self, bytes: &[u8], at: usize) -> Masks {
         let middle = at + self.standard_length;
-        Masks {
-            standard: bytes[at..middle].to_vec(),
-            user: bytes[middle..middle + self.user_length].to_vec(),
-        }
+        Masks::sent(&bytes[at..middle], &bytes[middle..middle + self.user_length])
     }
 }

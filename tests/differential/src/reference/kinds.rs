@@ -1,6 +1,6 @@
 //! The fourteen kinds.
 
-use super::reply::Reading;
+use super::reply::{Fault, Reading, Refusal, Run};
 
 pub const MAXIMUM_LINK_BANDWIDTH: u16 = 1089;
 pub const MAXIMUM_RESERVABLE_BANDWIDTH: u16 = 1090;
@@ -47,6 +47,21 @@ pub fn code_of_isis_type(kind: u8) -> Option<u16> {
         14 => Some(1173),
         _ => None,
     }
+}
+
+/// Adds the kind of the element that begins at `start` to a list that is read. Its own checks are
+/// behind it; if the kind stands in the list already, it is refused by 8 (E5).
+pub fn add_to_list(
+    list: &mut Vec<Attribute>,
+    one: Attribute,
+    run: Run,
+    start: usize,
+) -> Result<(), Refusal> {
+    if list.iter().any(|other| other.code == one.code) {
+        return Err(Refusal::at(Fault::KindTwice, run, start));
+    }
+    list.push(one);
+    Ok(())
 }
 
 /// May a value of this kind have this length in A?

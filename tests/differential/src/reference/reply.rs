@@ -34,10 +34,12 @@ pub enum Fault {
     IdentifierLength,
     /// What follows the identifier list is no multiple of four bytes.
     SrlgsUneven,
+    /// A known kind stands in one list for the second time.
+    KindTwice,
     /// The whole result is longer than the lent buffer.
     RoomTooSmall,
-    /// The application's number is above 63.
-    ApplicationAbove63,
+    /// There is no application of this number: above 63, of user ones above 31.
+    NoApplication,
     /// The code point is none of the fourteen.
     UnknownCode,
 }
@@ -56,8 +58,9 @@ impl Fault {
             | Fault::ListCut => 3,
             Fault::KindLength | Fault::IdentifierLength | Fault::SrlgsUneven => 4,
             Fault::RoomTooSmall => 5,
-            Fault::ApplicationAbove63 => 6,
+            Fault::NoApplication => 6,
             Fault::UnknownCode => 7,
+            Fault::KindTwice => 8,
         }
     }
 }
@@ -71,7 +74,7 @@ pub struct Refusal {
 }
 
 impl Refusal {
-    /// A refusal by 3 or 4, of the element that begins at `offset`.
+    /// A refusal by 3, 4 or 8, of the element that begins at `offset`.
     pub fn at(fault: Fault, run: Run, offset: usize) -> Refusal {
         Refusal { fault, run, offset }
     }

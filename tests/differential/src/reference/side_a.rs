@@ -1,12 +1,13 @@
 //! Run A: legacy attributes and ASLA sub-TLVs, and who gets what of them.
 
 use super::application::{
-    general, naming, rule, Advertisement, Application, Ignored, Rule, Verdict, Whose, RSVP_TE,
+    general, general_for_rsvp_te, naming, rule, Advertisement, Application, Ignored, Rule, Verdict,
+    Whose, RSVP_TE,
 };
 use super::isis::{frame, mask_header, Element};
 use super::kinds::{
-    code_of_isis_type, isis_length_is_right, Attribute, MAXIMUM_LINK_BANDWIDTH,
-    MAXIMUM_RESERVABLE_BANDWIDTH, UNRESERVED_BANDWIDTH,
+    add_to_list, code_of_isis_type, isis_length_is_right, Attribute, APPLICATION_CODES,
+    MAXIMUM_LINK_BANDWIDTH, MAXIMUM_RESERVABLE_BANDWIDTH, UNRESERVED_BANDWIDTH,
 };
 use super::reply::{Fault, Refusal, Run};
 
@@ -79,13 +80,13 @@ fn read_asla(a: &[u8], element: &Element) -> Result<Verdict<Vec<Attribute>>, Ref
     // L set: the list is not read.
     let mut attributes = Vec::new();
     if !header.legacy_flag {
-        // Otherwise each list element in turn is framed and, if known, its length checked. An ASLA
-        // in the list is unknown, since 16 is the type of no kind.
+        // Otherwise each list element in turn is framed and, if known, its length checked, and that it
+        // is the first of its kind. An ASLA in the list is unknown, since 16 is the type of no kind.
         let mut at = list_at;
         while at < element.end {
             let inner = frame(a, at, element.end, Run::A)?;
             if let Some(attribute) = read_attribute(&inner)? {
-                attributes.push(attribute);
+                add_to_list(&mut attributes, attribute, Run::A, inner.start)?;
             }
             at = inner.end;
         }
@@ -140,9 +141,19 @@ fn reservations(side: &SideA, code: u16) -> Option<Attribute> {
     first_in(&rsvp_te_alone, code).or(legacy)
 }
 
+impl SideA {
+    /// Does legacy hold one of the application kinds? The link's bandwidths are none.
+    pub fn legacy_has_a_kind(&self) -> bool {
+        self.legacy.iter().any(|one| APPLICATION_CODES.contains(&one.code))
+    }
+}
+
 /// RSVP-TE: with L, legacy. Else for each kind the value from those that name it, otherwise legacy.
-/// Nothing from general ones.
+/// Where nothing names it and legacy has no kind at all, the general ones.
 fn for_rsvp_te(side: &SideA, code: u16) -> Option<Attribute> {
+    if general_for_rsvp_te(&side.live, side.legacy_has_a_kind()) {
+        return first_in(&general(&side.live), code);
+    }
     let legacy = first(&side.legacy, code);
     if rule(&side.live, RSVP_TE) == Rule::Legacy {
         return legacy;

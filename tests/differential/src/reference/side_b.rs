@@ -1,7 +1,8 @@
 //! Runs B and C: the TLVs of type 238 and the legacy SRLGs, and who gets what of them.
 
 use super::application::{
-    general, naming, rule, Advertisement, Application, Ignored, Rule, Verdict, Whose, RSVP_TE,
+    general, general_for_rsvp_te, naming, rule, Advertisement, Application, Ignored, Rule, Verdict,
+    Whose, RSVP_TE,
 };
 use super::isis::{frame, mask_header, Element};
 use super::kinds::{ascending_and_different, numbers_of_four};
@@ -155,9 +156,19 @@ pub fn srlgs_in_b(side: &SideB, whose: Whose) -> Vec<u32> {
     }
 }
 
-/// RSVP-TE: with L, C. Else those that name it, if they carry any value; otherwise C. Nothing from
-/// general ones.
+impl SideB {
+    /// Does legacy hold an SRLG? Without a value there is none.
+    pub fn legacy_has_a_kind(&self) -> bool {
+        !self.legacy.is_empty()
+    }
+}
+
+/// RSVP-TE: with L, C. Else those that name it, if they carry any value; otherwise C. Where nothing
+/// names it and C is empty, the general ones.
 fn for_rsvp_te(side: &SideB) -> Vec<u32> {
+    if general_for_rsvp_te(&side.live, side.legacy_has_a_kind()) {
+        return together(&general(&side.live));
+    }
     if rule(&side.live, RSVP_TE) == Rule::Legacy {
         return legacy(side);
     }

@@ -5,12 +5,14 @@
 //! | 0 | a live one with L names the application, on the side of the kind | the first such |
 //! | 1 | some name it (RSVP-TE: and have the kind) | the one with the value; of SRLGs, or if none has the kind, the first that names it |
 //! | 2 | the general set was asked for | the one with the value; of SRLGs the first general one if they have a number; none without a value |
-//! | 3 | nothing names the application | as 2 |
+//! | 3 | nothing names the application (RSVP-TE: and legacy has none of the kinds) | as 2 |
 //! | 4 | legacy without L: RSVP-TE's kinds that none naming it has, a bandwidth that no ASLA gives | none; the run of the legacy values |
 //! | 5 | an ASLA gives a bandwidth | that ASLA |
 //! | 6 | a bandwidth or RSVP-TE's kind of a BGP-LS run | none |
 
-use super::application::{general, naming, Advertisement, Application, Asker, Whose, RSVP_TE};
+use super::application::{
+    general, general_for_rsvp_te, naming, Advertisement, Application, Asker, Whose, RSVP_TE,
+};
 use super::bgp_ls::read_run;
 use super::kinds::{Attribute, LINK_CODES, MAXIMUM_LINK_BANDWIDTH, SRLG};
 use super::link::{check_question, read_link, Link};
@@ -25,13 +27,14 @@ pub struct Why {
 }
 
 /// One side, or the 1122s of a run: its advertisements, whether one has a value of the kind, whether
-/// values of several count together, and the runs of both sorts of values.
+/// values of several count together, the runs of both sorts of values, and whether legacy has some.
 struct Side<'a, T> {
     live: &'a [Advertisement<T>],
     has: &'a dyn Fn(&T) -> bool,
     joined: bool,
     run: Run,
     legacy: Run,
+    legacy_has_a_kind: bool,
 }
 
 impl<T> Side<'_, T> {
@@ -61,6 +64,9 @@ impl<T> Side<'_, T> {
         if let Some(flagged) = names.iter().find(|one| one.legacy_flag) {
             return self.by(0, Some(flagged));
         }
+        if application == RSVP_TE && general_for_rsvp_te(self.live, self.legacy_has_a_kind) {
+            return self.for_general(3);
+        }
         if application == RSVP_TE && !self.any_has(&names) {
             return Why { rule: 4, advertisement: None, legacy: Some(self.legacy) };
         }
@@ -87,13 +93,25 @@ pub fn of_link(link: &Link, asker: Asker, code: u16) -> Result<Why, Refusal> {
     }
     if code == SRLG {
         let has = |srlgs: &Vec<u32>| !srlgs.is_empty();
-        let live = &sides.b.live;
-        let side = Side { live, has: &has, joined: true, run: Run::B, legacy: Run::C };
+        let side = Side {
+            live: &sides.b.live,
+            has: &has,
+            joined: true,
+            run: Run::B,
+            legacy: Run::C,
+            legacy_has_a_kind: sides.b.legacy_has_a_kind(),
+        };
         return Ok(side.why(whose));
     }
     let has = |values: &Vec<Attribute>| values.iter().any(|one| one.code == code);
-    let live = &sides.a.live;
-    let side = Side { live, has: &has, joined: false, run: Run::A, legacy: Run::A };
+    let side = Side {
+        live: &sides.a.live,
+        has: &has,
+        joined: false,
+        run: Run::A,
+        legacy: Run::A,
+        legacy_has_a_kind: sides.a.legacy_has_a_kind(),
+    };
     Ok(side.why(whose))
 }
 
@@ -126,8 +144,14 @@ pub fn of_run(run: &[u8], asker: Asker, code: u16) -> Result<Why, Refusal> {
     // An SRLG TLV without a number has no value.
     let value = |one: &Attribute| one.code == code && (code != SRLG || one.length > 0);
     let has = |values: &Vec<Attribute>| values.iter().any(value);
-    let live = &reader.aslas;
-    let joined = code == SRLG;
-    let side = Side { live, has: &has, joined, run: Run::BgpLs, legacy: Run::BgpLs };
+    // RSVP-TE has been answered: nobody else asks for legacy values.
+    let side = Side {
+        live: &reader.aslas,
+        has: &has,
+        joined: code == SRLG,
+        run: Run::BgpLs,
+        legacy: Run::BgpLs,
+        legacy_has_a_kind: false,
+    };
     Ok(side.why(whose))
 }

@@ -9,7 +9,7 @@ use crate::reference::link::named;
 fn empty_a() {
     let link = Link::default();
     for code in CODES {
-        for asker in [Asker::General, RSVP_TE, SR_POLICY, Asker::User(63)] {
+        for asker in [Asker::General, RSVP_TE, SR_POLICY, Asker::User(31)] {
             assert_eq!(ask(&link, asker, code, 0), Ok(Answer::Absent));
         }
     }
@@ -52,14 +52,19 @@ fn named_with_nothing() {
     let link = link_a(&["10 03 01 00 40 ", G]);
     assert_eq!(metric(&link, SR_POLICY), None);
     assert_eq!(metric(&link, LFA), Some(30));
-    assert_eq!(export(&link, usize::MAX).unwrap().len(), 28);
-    assert_eq!(length(&link), Ok(28));
+    // Changed by E2: RSVP-TE has 30, and the export 8 bytes more.
+    assert_eq!(metric(&link, RSVP_TE), Some(30));
+    assert_eq!(export(&link, usize::MAX).unwrap().len(), 36);
+    assert_eq!(length(&link), Ok(36));
 }
 
 #[test]
 fn a_mask_without_bits() {
     let link = link_a(&["10 08 01 00 00 12 03 00 00 14 ", G]);
     assert_eq!(metric(&link, SR_POLICY), Some(30));
+    // Changed by E2.
+    assert_eq!(metric(&link, RSVP_TE), Some(30));
+    assert_eq!(length(&link), Ok(24));
 }
 
 #[test]
@@ -80,7 +85,9 @@ fn the_first_of_two() {
 fn the_second_mask() {
     let link = link_a(&["10 08 00 01 80 12 03 00 00 14 ", G]);
     assert_eq!(metric(&link, Asker::User(0)), Some(20));
-    assert_eq!(metric(&link, RSVP_TE), None);
+    // Changed by E2.
+    assert_eq!(metric(&link, RSVP_TE), Some(30));
+    assert_eq!(length(&link), Ok(44));
     assert_eq!(metric(&link, SR_POLICY), Some(30));
 }
 
@@ -100,4 +107,8 @@ fn two_sides() {
     assert_eq!(metric(&link, SR_POLICY), Some(30));
     assert_eq!(srlgs(&link, SR_POLICY), [7]);
     assert_eq!(srlgs(&link, LFA), [0u32; 0]);
+    // Changed by E2.
+    assert_eq!(metric(&link, RSVP_TE), Some(30));
+    assert_eq!(srlgs(&link, RSVP_TE), [0u32; 0]);
+    assert_eq!(length(&link), Ok(52));
 }

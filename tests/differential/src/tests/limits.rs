@@ -38,24 +38,25 @@ fn lengths_of_bgp_ls_runs() {
 fn numbers_of_applications() {
     let link = link_a(&[G]);
     assert_eq!(metric(&link, Asker::Standard(63)), Some(30));
-    assert_eq!(metric(&link, Asker::User(63)), Some(30));
+    assert_eq!(metric(&link, Asker::User(31)), Some(30));
+    let refused = |asker| assert_eq!(told(ask(&link, asker, 1092, 0).unwrap_err()), (6, Run::A, 0));
     for number in [64, 256, 1 << 32, u64::MAX] {
-        for asker in [Asker::Standard(number), Asker::User(number)] {
-            assert_eq!(told(ask(&link, asker, 1092, 0).unwrap_err()), (6, Run::A, 0));
-        }
+        refused(Asker::Standard(number));
+        refused(Asker::User(number));
     }
+    (32..64).for_each(|number| refused(Asker::User(number)));
 }
 
 #[test]
 fn the_order_of_refusals() {
     let bad = Link { a: vec![16; 2049], b: vec![238], c: vec![0; 1025] };
     let number = |asker, code, link: &Link| told(ask(link, asker, code, 0).unwrap_err()).0;
-    assert_eq!(number(Asker::User(64), 1087, &bad), 6);
-    assert_eq!(number(Asker::User(63), 1087, &bad), 7);
+    assert_eq!(number(Asker::User(32), 1087, &bad), 6);
+    assert_eq!(number(Asker::User(31), 1087, &bad), 7);
     assert_eq!(number(Asker::General, 1122, &bad), 7);
-    assert_eq!(number(Asker::User(63), 1088, &bad), 1);
+    assert_eq!(number(Asker::Standard(63), 1088, &bad), 1);
     let bad = Link { a: bytes("12 02 00 00"), b: vec![238], c: vec![0; 1023] };
-    assert_eq!(number(Asker::User(63), 1096, &bad), 2);
+    assert_eq!(number(Asker::User(31), 1096, &bad), 2);
     let bad = Link { a: bytes("12 02 00 00"), b: vec![238], c: vec![0; 1020] };
     assert_eq!(told(ask(&bad, Asker::General, 1096, 0).unwrap_err()), (4, Run::A, 0));
     let bad = Link { a: vec![], b: vec![238], c: vec![0; 1020] };

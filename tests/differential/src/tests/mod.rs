@@ -3,10 +3,13 @@
 
 mod bench;
 mod comparison;
+mod general_for_rsvp_te;
 mod limits;
 mod places;
 mod reader;
+mod retired;
 mod settled;
+mod twice;
 mod why;
 
 use crate::reference::application::Asker;

@@ -73,8 +73,8 @@ fn refusals() {
         fine(&format!("04 62 00 09 00 00 00 00 04 {code} 00 01 00"));
     }
     assert_eq!(refused("04 41 00 01 00"), (4, Run::BgpLs, 0));
-    assert_eq!(told(ask_run(&[0], Asker::User(64), 0, 0).unwrap_err()), (6, Run::A, 0));
-    assert_eq!(told(ask_run(&[0], Asker::User(63), 0, 0).unwrap_err()), (7, Run::A, 0));
+    assert_eq!(told(ask_run(&[0], Asker::User(32), 0, 0).unwrap_err()), (6, Run::A, 0));
+    assert_eq!(told(ask_run(&[0], Asker::User(31), 0, 0).unwrap_err()), (7, Run::A, 0));
 }
 
 #[test]
@@ -94,7 +94,7 @@ fn an_export_means_what_its_link_means() {
             continue;
         };
         accepted += 1;
-        let run = export(&link, 310_644).unwrap();
+        let run = export(&link, 233_588).unwrap();
         assert_eq!(length(&link), Ok(run.len()), "case {case}");
         assert_eq!(of_run(&run), Ok(meaning), "case {case}");
     }

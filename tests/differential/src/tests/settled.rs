@@ -42,13 +42,12 @@ fn maximum_reservable_bandwidth() {
 
 #[test]
 fn rsvp_te() {
-    // A mix by kind with legacy, nothing from general ones.
+    // A mix by kind with legacy, nothing from general ones where something names it.
     let named = "10 08 01 00 80 12 03 00 00 01 ";
     let link_1 = link_a(&[G, named, M, "03 04 00 00 00 05"]);
     assert_eq!(metric(&link_1, RSVP_TE), Some(1));
     let group = ask(&link_1, RSVP_TE, 1088, 0);
     assert_eq!(group, Ok(Answer::Found(Reading::Number(5))));
-    assert_eq!(metric(&link_a(&[G]), RSVP_TE), None);
     // L on A leaves B as it is, and the other way round.
     let flag_a = "10 03 81 00 80 ";
     let b = srlg_tlv("01 00 80", "00 00 00 07");
@@ -71,19 +70,19 @@ fn rsvp_te() {
 
 #[test]
 fn groups() {
-    // User 40 and standard 2 share a set, SR Policy and user 0 have empty ones.
-    let a = "10 0E 01 06 20 00 00 00 00 00 80 12 03 00 00 07 10 04 01 01 40 80 ";
+    // Standard 40 and user 2 share a set, SR Policy and user 0 have empty ones.
+    let a = "10 0E 06 01 00 00 00 00 00 80 20 12 03 00 00 07 10 04 01 01 40 80 ";
     let link = link(a, "", "");
     let names = [
         Application::Standard(1),
-        Application::Standard(2),
+        Application::Standard(40),
         Application::User(0),
-        Application::User(40),
+        Application::User(2),
     ];
     assert_eq!(named(&link).unwrap(), names);
     let written = bytes(
         "04 62 00 0C 04 04 00 00 40 00 00 00 80 00 00 00 \
-         04 62 00 18 04 08 00 00 20 00 00 00 00 00 00 00 00 80 00 00 04 44 00 04 00 00 00 07",
+         04 62 00 18 08 04 00 00 00 00 00 00 00 80 00 00 20 00 00 00 04 44 00 04 00 00 00 07",
     );
     assert_eq!(export(&link, usize::MAX), Ok(written));
 }
@@ -105,7 +104,7 @@ fn an_export_of_all_kinds() {
 }
 
 /// The illustration of RFC 9294, section 4.1: an ASLA for S, F and X, a general set of SRLGs, and one
-/// for X. X is user application 7 here.
+/// for X. X is user application 7 here. By E2 the general SRLGs are RSVP-TE's too.
 #[test]
 fn the_illustration_of_rfc_9294() {
     let a = "10 09 01 01 60 01 12 03 00 00 64 ";
@@ -113,7 +112,7 @@ fn the_illustration_of_rfc_9294() {
     let for_x = srlg_tlv("00 01 01", "00 00 00 06");
     let link = link(a, &[general, for_x].concat(), "");
     let written = bytes(
-        "04 62 00 0C 00 00 00 00 04 48 00 04 00 00 00 05 \
+        "04 48 00 04 00 00 00 05 04 62 00 0C 00 00 00 00 04 48 00 04 00 00 00 05 \
          04 62 00 18 04 00 00 00 60 00 00 00 04 44 00 04 00 00 00 64 04 48 00 04 00 00 00 05 \
          04 62 00 18 00 04 00 00 01 00 00 00 04 44 00 04 00 00 00 64 04 48 00 04 00 00 00 06",
     );

@@ -43,7 +43,13 @@ fn rsvp_te() {
     let named = "10 08 01 00 80 12 03 00 00 14 ";
     assert_eq!(metric_of(&link_a(&[M, named]), RSVP_TE), told(1, Run::A, 5));
     assert_eq!(of_link(&link_a(&[named]), RSVP_TE, 1114), Ok(legacy(Run::A)));
-    assert_eq!(metric_of(&link_a(&[G]), RSVP_TE), legacy(Run::A));
+    assert_eq!(metric_of(&link_a(&[G]), RSVP_TE), told(3, Run::A, 0));
+    assert_eq!(of_link(&link_a(&[G]), RSVP_TE, 1114), Ok(untold(3)));
+    assert_eq!(metric_of(&link_a(&[G, "03 04 00 00 00 05"]), RSVP_TE), legacy(Run::A));
+    assert_eq!(metric_of(&link_a(&[G, "10 03 01 00 80"]), RSVP_TE), legacy(Run::A));
+    // Nothing at all is there, nothing legacy either: the general set, which is empty.
+    assert_eq!(metric_of(&link_a(&[]), RSVP_TE), untold(3));
+    assert_eq!(of_link(&link_a(&[]), RSVP_TE, 1096), Ok(untold(3)));
     assert_eq!(metric_of(&link_a(&["10 03 81 00 80"]), RSVP_TE), told(0, Run::A, 0));
 }
 
