@@ -29,7 +29,7 @@
 //! ```
 //!
 //! [`BgpLs::ask`] takes up to 776 KiB of stack where a run has more than 512 SRLGs for the subject, [`Link::export`]
-//! 48 KiB, every other call less than 16 KiB.
+//! 44 KiB, every other call less than 16 KiB.
 #![warn(missing_docs)]
 
 mod answers;
