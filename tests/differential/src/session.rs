@@ -131,7 +131,9 @@ impl Session<'_> {
     ) -> Result<(), Difference> {
         let subject = Subject::Run(run);
         let codes = codes_in(&subject);
-        let mut requests = vec![Request::Named];
+        // Why is asked once at least, since long runs are few.
+        let general = Request::Why { who: 0, number: 0, code: SRLG };
+        let mut requests = vec![Request::Named, general];
         for _ in 0..questions {
             requests.push(question(scene, &subject, &codes, random));
         }
