@@ -11,7 +11,7 @@ that word is a lemma, LEMMAS gives it another name."""
 import glob, os, re, subprocess, sys
 
 os.chdir(os.path.join(os.path.dirname(os.path.abspath(__file__)), ".."))
-WORD = re.compile(r"[A-Za-z_][A-Za-z0-9_'′₀-₉-]*")
+WORD = re.compile(r"(?<![A-Za-z0-9_'])[A-Za-z_][A-Za-z0-9_'′₀-₉-]*")
 # Lemmas that would have the name of the definition that they are about, and the files that have them.
 LEMMAS = [
     ("isis/proofs/TypeLaws", "known_alone"), ("isis_check_a/proofs/Naming", "value_in"), ("isis_index/proofs/Values", "cell_row"),

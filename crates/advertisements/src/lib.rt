@@ -1,4 +1,7 @@
 // The advertisements of a run, whatever its bytes: the first that passes a test and, where a kind is asked for, has it.
+
+#![tactic(auto)]
+
 ghost use Rattle.std.specs.Prelude.{◌≡◌, ◌&&◌, false, List, ℕ, ◌+◌, ◌<◌, ◌≤◌, leb, length};
 ghost use Rattle.linkstate.specs.Lists.{any};
 ghost use Rattle.linkstate.specs.Elements.{element, elements};

@@ -1,4 +1,7 @@
 // The steps that every question shares, whatever it is put to: the question's own refusals, the reply of a value by its place, and that of SRLGs.
+
+#![tactic(auto)]
+
 ghost use Rattle.std.specs.Prelude.{◌≡◌, ◌+◌, ◌≤◌, length, take, not};
 ghost use Rattle.linkstate.specs.Bytes.{number, bytes_at};
 ghost use Rattle.linkstate.specs.Attributes.{reading_as};

@@ -1,4 +1,7 @@
 // The checks of a BGP-LS run that anybody may have written.
+
+#![tactic(auto)]
+
 ghost use Rattle.std.specs.Prelude.{◌≡◌, ◌&&◌, List, [], ℕ, ◌+◌, ◌≤◌, ◌<◌, length};
 ghost use Rattle.linkstate.specs.Replies.{fault, run_bgp_ls};
 ghost use Rattle.linkstate.specs.Lists.{member};

@@ -1,4 +1,7 @@
 // Look-ups in a BGP-LS run that passed its checks.
+
+#![tactic(auto)]
+
 ghost use Rattle.std.specs.Prelude.{◌≡◌, ℕ, ◌+◌, ◌*◌, ◌≤◌, ◌<◌, length, false, ◌&&◌, eqb};
 ghost use Rattle.linkstate.specs.Lists.{put, each};
 ghost use Rattle.linkstate.specs.Replies.{accepted};

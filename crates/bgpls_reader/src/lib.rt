@@ -1,4 +1,7 @@
 // Questions to a BGP-LS run that anybody may have written: ask, value and named.
+
+#![tactic(auto)]
+
 ghost use Rattle.std.specs.Prelude.{◌≡◌, true, false, ◌||◌, ℕ, ◌*◌, ◌≤◌, ◌<◌, length, eqb};
 ghost use Rattle.linkstate.specs.Masks.{user, in_masks, as_number};
 ghost use Rattle.linkstate.specs.Replies.{accepted, run_bgp_ls, place};

@@ -129,14 +129,14 @@ differing-in-list x y (other_value at t v w known len) = inr known
 
 -- An ASLA for SR Policy alone with a maximum bandwidth: a kind of the link's.
 unfoldable pub with_bandwidth : ℕ → List ℕ
-with_bandwidth n = 0x10 ∷ 0x09 ∷ 0x01 ∷ 0x00 ∷ 0x40 ∷ 0x09 ∷ 0x04 ∷ 0x4_c ∷ 0x00 ∷ 0x00 ∷ n ∷ []
+with_bandwidth n = 0x10 ∷ 0x09 ∷ 0x01 ∷ 0x00 ∷ 0x40 ∷ 0x09 ∷ 0x04 ∷ 0x4C ∷ 0x00 ∷ 0x00 ∷ n ∷ []
 
 -- Its value, and its list.
 unfoldable asla : ℕ → List ℕ
-asla n = 0x01 ∷ 0x00 ∷ 0x40 ∷ 0x09 ∷ 0x04 ∷ 0x4_c ∷ 0x00 ∷ 0x00 ∷ n ∷ []
+asla n = 0x01 ∷ 0x00 ∷ 0x40 ∷ 0x09 ∷ 0x04 ∷ 0x4C ∷ 0x00 ∷ 0x00 ∷ n ∷ []
 
 unfoldable attribute : ℕ → Element
-attribute n = element 5 9 (0x4_c ∷ 0x00 ∷ 0x00 ∷ n ∷ [])
+attribute n = element 5 9 (0x4C ∷ 0x00 ∷ 0x00 ∷ n ∷ [])
 
 elements-of : (n : ℕ) → elements 1 0 (with_bandwidth n) ≡ element 0 16 (asla n) ∷ []
 unfolding computing with_bandwidth asla
@@ -177,6 +177,6 @@ bandwidth-not-covered b p = outer (differing b _ _ (front (ChangedFor b) (rw (el
 pub bandwidths : ℕ → List Reply
 bandwidths n = map (λ whom. (ask (link_source (with_bandwidth n) [] []) whom 1089 []).reply) (generally ∷ standard_no 0 ∷ standard_no 1 ∷ standard_no 2 ∷ user_no 5 ∷ [])
 
-pub everybodys : (bandwidths 1 ≡ replicate 5 (found (bandwidth (of_bits binary32 0x4_c000001)))) × (bandwidths 2 ≡ replicate 5 (found (bandwidth (of_bits binary32 0x4_c000002))))
+pub everybodys : (bandwidths 1 ≡ replicate 5 (found (bandwidth (of_bits binary32 0x4C000001)))) × (bandwidths 2 ≡ replicate 5 (found (bandwidth (of_bits binary32 0x4C000002))))
 unfolding computing with_bandwidth bandwidths
 everybodys = (refl, refl)

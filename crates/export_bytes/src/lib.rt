@@ -1,4 +1,7 @@
 // An export, from the tables of a link's sets, SRLGs and groups: measured first, and written only where it fits (document 01, "BGP-LS bytes").
+
+#![tactic(auto)]
+
 ghost use Rattle.std.specs.Prelude.{◌≡◌, [], ◌-◌, ◌≤◌, ◌<◌, ℕ, ◌+◌, length, get_or};
 ghost use Rattle.linkstate.specs.Limits.{most_numbers};
 ghost use Rattle.set_bytes.specs.Standing.{count_in, numbers_in, Written as Wrote};

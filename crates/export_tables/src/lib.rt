@@ -1,4 +1,7 @@
 // The export of a link from the tables of its sets and of its SRLGs: classes, groups, size and bytes (document 01, "BGP-LS bytes"). No protocol is known here.
+
+#![tactic(auto)]
+
 ghost use Rattle.std.specs.Prelude.{◌≡◌, true, List, [], ◌∷◌, ℕ, ◌+◌, ◌*◌, ◌≤◌, ◌<◌, length, set, take};
 ghost use Rattle.linkstate.specs.Masks.{in_number};
 ghost use Rattle.replies.specs.Told.{told_exported};

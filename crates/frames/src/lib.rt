@@ -1,4 +1,7 @@
 // What begins at a position of a list of elements. Each element has its type, the length of its value, and the value.
+
+#![tactic(auto)]
+
 ghost use Rattle.std.specs.Prelude.{◌≡◌, ◌≤◌, ◌<◌, length};
 ghost use Rattle.frames.specs.Frames.{frame_in};
 

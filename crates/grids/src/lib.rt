@@ -1,4 +1,7 @@
 // Grids over a run, of place and length by kind: read from the table of a link's sets, and compared by the value bytes that they point at.
+
+#![tactic(auto)]
+
 ghost use Rattle.std.specs.Prelude.{◌≡◌, true, [], map, ℕ, ◌<◌, length, get_or};
 ghost use Rattle.linkstate.specs.Lists.{same_bytes, same_rows};
 ghost use Rattle.kinds.specs.Rules.{grid_codes};

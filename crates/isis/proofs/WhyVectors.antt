@@ -56,14 +56,14 @@ one-that-has-it = (refl, refl)
 
 -- RSVP-TE named without and with a metric; of 1088 legacy.
 rsvp-te-named :
-    map (link_why (M ++ (0x10 ∷ 0x03 ∷ 0x01 ∷ 0x00 ∷ 0x80 ∷ []) ++ (0x10 ∷ 0x08 ∷ 0x01 ∷ 0x00 ∷ 0x_c0 ∷ 0x12 ∷ 0x03 ∷ 0x00 ∷ 0x00 ∷ 0x14 ∷ [])) [] [] (standard_no 0)) (1092 ∷ 1088 ∷ [])
+    map (link_why (M ++ (0x10 ∷ 0x03 ∷ 0x01 ∷ 0x00 ∷ 0x80 ∷ []) ++ (0x10 ∷ 0x08 ∷ 0x01 ∷ 0x00 ∷ 0xC0 ∷ 0x12 ∷ 0x03 ∷ 0x00 ∷ 0x00 ∷ 0x14 ∷ [])) [] [] (standard_no 0)) (1092 ∷ 1088 ∷ [])
     ≡ in_a by_name 10 ∷ legacy_a ∷ []
 unfolding computing
 rsvp-te-named = refl
 
 -- RSVP-TE that nothing names, beside a legacy bandwidth: of G, at 6; none of a kind that G has not. Beside a legacy group: legacy, of every kind.
 rsvp-te-unnamed :
-    (map (link_why ((0x09 ∷ 0x04 ∷ 0x4_c ∷ 0x00 ∷ 0x00 ∷ 0x01 ∷ []) ++ G) [] [] (standard_no 0)) (1092 ∷ 1114 ∷ 1089 ∷ []) ≡ in_a unnamed 6 ∷ because unnamed nowhere ∷ legacy_a ∷ [])
+    (map (link_why ((0x09 ∷ 0x04 ∷ 0x4C ∷ 0x00 ∷ 0x00 ∷ 0x01 ∷ []) ++ G) [] [] (standard_no 0)) (1092 ∷ 1114 ∷ 1089 ∷ []) ≡ in_a unnamed 6 ∷ because unnamed nowhere ∷ legacy_a ∷ [])
     × (map (link_why ((0x03 ∷ 0x04 ∷ 0x00 ∷ 0x00 ∷ 0x00 ∷ 0x05 ∷ []) ++ G) [] [] (standard_no 0)) (1088 ∷ 1092 ∷ []) ≡ legacy_a ∷ legacy_a ∷ [])
 unfolding computing
 rsvp-te-unnamed = (refl, refl)
@@ -81,9 +81,9 @@ mask_with m t = 0x10 ∷ 9 ∷ 1 ∷ 0 ∷ m ∷ bandwidth_in t
 -- Whoever asks. 1089: legacy, else the first ASLA that has it. 1090: of those for RSVP-TE alone, unless it is named with L; else legacy, there or not.
 bandwidths :
     (map (λ whom. link_why (M ++ general_with 9) [] [] whom 1089) (generally ∷ standard_no 0 ∷ standard_no 1 ∷ user_no 5 ∷ []) ≡ replicate 4 (in_a carried 5))
-    × (map (λ a. link_why a [] [] (standard_no 1) 1089) ((general_with 9 ++ bandwidth_in 9) ∷ Z ∷ (Z ++ mask_with 0x_c0 9) ∷ []) ≡ legacy_a ∷ legacy_a ∷ in_a carried 5 ∷ [])
+    × (map (λ a. link_why a [] [] (standard_no 1) 1089) ((general_with 9 ++ bandwidth_in 9) ∷ Z ∷ (Z ++ mask_with 0xC0 9) ∷ []) ≡ legacy_a ∷ legacy_a ∷ in_a carried 5 ∷ [])
     × (map (λ a. link_why (bandwidth_in 10 ++ a) [] [] generally 1090)
-    ((mask_with 0x_c0 10 ++ mask_with 0x80 10) ∷ mask_with 0x_c0 10 ∷ general_with 10 ∷ (mask_with 0x80 10 ++ (0x10 ∷ 3 ∷ 0x81 ∷ 0 ∷ 0x_c0 ∷ [])) ∷ mask_with 0x80 9 ∷ [])
+    ((mask_with 0xC0 10 ++ mask_with 0x80 10) ∷ mask_with 0xC0 10 ∷ general_with 10 ∷ (mask_with 0x80 10 ++ (0x10 ∷ 3 ∷ 0x81 ∷ 0 ∷ 0xC0 ∷ [])) ∷ mask_with 0x80 9 ∷ [])
     ≡ in_a carried 17 ∷ legacy_a ∷ legacy_a ∷ legacy_a ∷ legacy_a ∷ [])
 unfolding computing bandwidth_in general_with mask_with
 bandwidths = (refl, refl, refl)
@@ -123,7 +123,7 @@ srlgs-of-others = (refl, refl, refl)
 -- RSVP-TE's: of those that name it the first, if they have a number; else C's, by an L-flag or without, there or not; the general ones where nothing names it
 -- and C has no number.
 srlgs-of-rsvp-te :
-    (map (λ b. srlg_why b (standard_no 0)) ((mask238 1 0x80 ++ numbered238 0x_c0) ∷ mask238 1 0x80 ∷ (numbered238 0x80 ++ mask238 0x81 0x80) ∷ numbered_general238 ∷ [])
+    (map (λ b. srlg_why b (standard_no 0)) ((mask238 1 0x80 ++ numbered238 0xC0) ∷ mask238 1 0x80 ∷ (numbered238 0x80 ++ mask238 0x81 0x80) ∷ numbered_general238 ∷ [])
     ≡ in_b by_name 0 ∷ legacy_c ∷ in_b by_l 27 ∷ in_b unnamed 0 ∷ [])
     × (link_why G numbered_general238 (0 ∷ 0 ∷ 0 ∷ 1 ∷ []) (standard_no 0) 1096 ≡ legacy_c)
 unfolding computing tlv238 mask238 numbered238 numbered_general238

@@ -8,13 +8,13 @@ use Rattle.linkstate.specs.Questions.{Subject, generally, standard_no, user_no, 
 use Rattle.isis.specs.Link.{link_source, export_link}
 
 unfoldable pub M : List ℕ
-M = 0x12 ∷ 0x03 ∷ 0x00 ∷ 0x00 ∷ 0x0_a ∷ []
+M = 0x12 ∷ 0x03 ∷ 0x00 ∷ 0x00 ∷ 0x0A ∷ []
 
 unfoldable pub S : List ℕ
 S = 0x10 ∷ 0x08 ∷ 0x01 ∷ 0x00 ∷ 0x40 ∷ 0x12 ∷ 0x03 ∷ 0x00 ∷ 0x00 ∷ 0x14 ∷ []
 
 unfoldable pub G : List ℕ
-G = 0x10 ∷ 0x07 ∷ 0x00 ∷ 0x00 ∷ 0x12 ∷ 0x03 ∷ 0x00 ∷ 0x00 ∷ 0x1_e ∷ []
+G = 0x10 ∷ 0x07 ∷ 0x00 ∷ 0x00 ∷ 0x12 ∷ 0x03 ∷ 0x00 ∷ 0x00 ∷ 0x1E ∷ []
 
 unfoldable pub Z : List ℕ
 Z = 0x10 ∷ 0x03 ∷ 0x81 ∷ 0x00 ∷ 0x40 ∷ []
@@ -28,7 +28,7 @@ unfoldable pub metrics_of : List ℕ → List Reply
 metrics_of a = map (λ whom. (ask (link_source a [] []) whom 1092 []).reply) subjects
 
 unfoldable pub export_of : List ℕ → Length
-export_of a = (export_link a [] [] (replicate 64 0x_aa)).reply
+export_of a = (export_link a [] [] (replicate 64 0xAA)).reply
 
 -- A metric as the table has it: 0 is absent, any other number is found.
 unfoldable pub metric : ℕ → Reply
@@ -51,13 +51,13 @@ empty_replies = each (λ whom. map (λ k. (ask (link_source [] [] []) whom k [])
 -- The export of M S G, whole.
 unfoldable pub msg_bytes : List ℕ
 msg_bytes =
-    0x04 ∷ 0x44 ∷ 0x00 ∷ 0x04 ∷ 0x00 ∷ 0x00 ∷ 0x00 ∷ 0x0_a
-    ∷ 0x04 ∷ 0x62 ∷ 0x00 ∷ 0x0_c ∷ 0x00 ∷ 0x00 ∷ 0x00 ∷ 0x00 ∷ 0x04 ∷ 0x44 ∷ 0x00 ∷ 0x04 ∷ 0x00 ∷ 0x00 ∷ 0x00 ∷ 0x1_e
+    0x04 ∷ 0x44 ∷ 0x00 ∷ 0x04 ∷ 0x00 ∷ 0x00 ∷ 0x00 ∷ 0x0A
+    ∷ 0x04 ∷ 0x62 ∷ 0x00 ∷ 0x0C ∷ 0x00 ∷ 0x00 ∷ 0x00 ∷ 0x00 ∷ 0x04 ∷ 0x44 ∷ 0x00 ∷ 0x04 ∷ 0x00 ∷ 0x00 ∷ 0x00 ∷ 0x1E
     ∷ 0x04 ∷ 0x62 ∷ 0x00 ∷ 0x10 ∷ 0x04 ∷ 0x00 ∷ 0x00 ∷ 0x00 ∷ 0x40 ∷ 0x00 ∷ 0x00 ∷ 0x00 ∷ 0x04 ∷ 0x44 ∷ 0x00 ∷ 0x04 ∷ 0x00 ∷ 0x00 ∷ 0x00 ∷ 0x14
     ∷ []
 
 unfoldable pub msg_in_room : ℕ → Exported
-msg_in_room n = export_link (M ++ S ++ G) [] [] (replicate n 0x_aa)
+msg_in_room n = export_link (M ++ S ++ G) [] [] (replicate n 0xAA)
 
 -- The statement: the table, one row a case. Nothing is found in the empty run; room 44 serves M S G and holds its bytes; room 43 is refused by 5 and stays.
 pub record Starred : Type 0 where
@@ -65,7 +65,7 @@ pub record Starred : Type 0 where
   pub nothing : empty_replies ≡ replicate 98 absent
   pub msg : Served (M ++ S ++ G) (10 ∷ 20 ∷ 30 ∷ 30 ∷ 30 ∷ 30 ∷ []) 44
   pub room44 : msg_in_room 44 ≡ record { reply = bytes 44; buffer = msg_bytes }
-  pub room43 : msg_in_room 43 ≡ record { reply = export_refused (refusal_at 5 run_a 0); buffer = replicate 43 0x_aa }
+  pub room43 : msg_in_room 43 ≡ record { reply = export_refused (refusal_at 5 run_a 0); buffer = replicate 43 0xAA }
   pub mzg : Served (M ++ Z ++ G) (10 ∷ 10 ∷ 30 ∷ 30 ∷ 30 ∷ 30 ∷ []) 44
   pub msz : Served (M ++ S ++ Z) (10 ∷ 10 ∷ 0 ∷ 0 ∷ 0 ∷ 0 ∷ []) 28
   pub named_empty : Served ((0x10 ∷ 0x03 ∷ 0x01 ∷ 0x00 ∷ 0x40 ∷ []) ++ G) (30 ∷ 0 ∷ 30 ∷ 30 ∷ 30 ∷ 30 ∷ []) 36
@@ -73,7 +73,7 @@ pub record Starred : Type 0 where
   pub standard6 : Served (0x10 ∷ 0x08 ∷ 0x01 ∷ 0x00 ∷ 0x02 ∷ 0x12 ∷ 0x03 ∷ 0x00 ∷ 0x00 ∷ 0x14 ∷ []) (0 ∷ 0 ∷ 0 ∷ 20 ∷ 0 ∷ 0 ∷ []) 20
   pub first_counts : Served (S ++ (0x10 ∷ 0x08 ∷ 0x01 ∷ 0x00 ∷ 0x60 ∷ 0x12 ∷ 0x03 ∷ 0x00 ∷ 0x00 ∷ 0x15 ∷ [])) (0 ∷ 20 ∷ 21 ∷ 0 ∷ 0 ∷ 0 ∷ []) 40
   pub user0 : Served ((0x10 ∷ 0x08 ∷ 0x00 ∷ 0x01 ∷ 0x80 ∷ 0x12 ∷ 0x03 ∷ 0x00 ∷ 0x00 ∷ 0x14 ∷ []) ++ G) (30 ∷ 30 ∷ 30 ∷ 30 ∷ 20 ∷ 30 ∷ []) 44
-  pub long_mask : Served (0x10 ∷ 0x0_b ∷ 0x09 ∷ 0x00 ∷ replicate 9 0x_ff) (0 ∷ 0 ∷ 0 ∷ 0 ∷ 0 ∷ 0 ∷ []) 0
+  pub long_mask : Served (0x10 ∷ 0x0B ∷ 0x09 ∷ 0x00 ∷ replicate 9 0xFF) (0 ∷ 0 ∷ 0 ∷ 0 ∷ 0 ∷ 0 ∷ []) 0
   pub short_asla : RefusedBy (0x10 ∷ 0x01 ∷ 0x00 ∷ []) 3
-  pub wrong_length : RefusedBy (0x12 ∷ 0x02 ∷ 0x00 ∷ 0x0_a ∷ []) 4
+  pub wrong_length : RefusedBy (0x12 ∷ 0x02 ∷ 0x00 ∷ 0x0A ∷ []) 4
   pub cut_short : RefusedBy (0x12 ∷ 0x03 ∷ 0x00 ∷ 0x00 ∷ []) 3

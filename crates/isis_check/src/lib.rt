@@ -1,4 +1,7 @@
 // The checks of an IS-IS link: all that can refuse it, in document 01's order.
+
+#![tactic(auto)]
+
 ghost use Rattle.std.specs.Prelude.{◌≡◌, List, [], ◌∷◌, ◌⊎◌, ℕ, ◌+◌, ◌≤◌, ◌<◌, length, ◌||◌, ltb};
 ghost use Rattle.linkstate.specs.Replies.{run_b};
 ghost use Rattle.linkstate.specs.Elements.{element, elements, faults};

@@ -1,4 +1,7 @@
 // The checks of run A: framing, the mask header of an ASLA sub-TLV, and the lengths of attributes (document 01, "Advertisements in A").
+
+#![tactic(auto)]
+
 ghost use Rattle.std.specs.Prelude.{◌≡◌, ◌&&◌, List, [], ◌∷◌, ℕ, ◌+◌, ◌≤◌, ◌<◌, length, drop};
 ghost use Rattle.linkstate.specs.Replies.{run_a, fault};
 ghost use Rattle.linkstate.specs.Lists.{member};
@@ -207,7 +210,7 @@ fn for_applications(t: u8) -> bool
     if 40 <= t {
         return false;
     }
-    masks::has(0x_fe00044008, t as u32)
+    masks::has(0xFE00044008, t as u32)
 }
 
 // Run A whole: its refusal, or the applications that it names, those that it names with L, and whether a kind of applications stands outside its ASLA sub-TLVs.

@@ -1,4 +1,7 @@
 // The export of an IS-IS link as BGP-LS TLVs, or its length alone (document 01, "BGP-LS bytes"): checks, indexes, and then the tables that no protocol is known of.
+
+#![tactic(auto)]
+
 ghost use Rattle.std.specs.Prelude.{◌≡◌, [], ℕ, ◌+◌, ◌≤◌, length, take};
 ghost use Rattle.linkstate.specs.Replies.{bytes};
 ghost use Rattle.replies.specs.Told.{told_written, told_exported};

@@ -1,5 +1,8 @@
 // Rows of sets on side A, place and length of a kind's first value in run A: of its legacy attributes, and of the ASLA sub-TLVs that pass a test (document 01,
 // "Who gets what").
+
+#![tactic(auto)]
+
 ghost use Rattle.std.specs.Prelude.{◌≡◌, true, false, ◌&&◌, not, [], ◌+◌, ◌<◌, eqb, length, get_or};
 ghost use Rattle.linkstate.specs.Replies.{accepted, run_a};
 ghost use Rattle.linkstate.specs.Lists.{each};

@@ -1,4 +1,7 @@
 // The walk of an accepted run A: each value goes to the slots of those that get it, in the table of the link's sets (document 01, "Who gets what").
+
+#![tactic(auto)]
+
 ghost use Rattle.std.specs.Prelude.{◌≡◌, true, List, [], ◌∷◌, ℕ, ◌≤◌, ◌<◌, length, get_or, set};
 ghost use Rattle.linkstate.specs.Lists.{each};
 ghost use Rattle.linkstate.specs.Replies.{accepted, run_a};

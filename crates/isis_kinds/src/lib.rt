@@ -1,4 +1,7 @@
 // What an IS-IS type says of an element of run A.
+
+#![tactic(auto)]
+
 ghost use Rattle.std.specs.Prelude.{◌≡◌};
 ghost use Rattle.isis_kinds.specs.Rules.{rule_of_type};
 

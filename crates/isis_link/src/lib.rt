@@ -1,4 +1,7 @@
 // Questions to an IS-IS link: ask, value and named. A link is three lent runs: A, the sub-TLVs of its neighbour entry; B, its TLVs 238, whole; C, its legacy SRLG values.
+
+#![tactic(auto)]
+
 ghost use Rattle.std.specs.Prelude.{◌≡◌, true, false, List, ◌++◌, ℕ, eqb};
 ghost use Rattle.linkstate.specs.Replies.{accepted, run_a, place};
 ghost use Rattle.linkstate.specs.Elements.{elements, faults};

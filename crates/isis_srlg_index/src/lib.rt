@@ -1,4 +1,7 @@
 // The sources of SRLGs of an IS-IS link: the numbers of run B's TLVs 238 and of run C as keys, each with the source that has it (document 01, "Who gets what").
+
+#![tactic(auto)]
+
 ghost use Rattle.std.specs.Prelude.{◌≡◌, true, false, ℕ, ◌+◌, ◌*◌, ◌/◌, ◌≤◌, ◌<◌, length, take};
 ghost use Rattle.linkstate.specs.Replies.{accepted, run_b};
 ghost use Rattle.linkstate.specs.Elements.{element, elements, faults};

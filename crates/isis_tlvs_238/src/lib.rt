@@ -1,4 +1,7 @@
 // The live TLVs 238, Application-Specific SRLG, of a run B that passed its checks: the numbers of the SRLG values of those that pass a test (document 01, "Who
+
+#![tactic(auto)]
+
 ghost use Rattle.std.specs.Prelude.{◌≡◌, false, ◌&&◌, ◌/◌, ◌≤◌, ℕ, ◌+◌, ◌<◌, length, take, drop, List, []};
 ghost use Rattle.linkstate.specs.Bytes.{distinct, words};
 ghost use Rattle.linkstate.specs.Attributes.{srlgs};

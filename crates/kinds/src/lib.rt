@@ -1,4 +1,7 @@
 // What a type or a code says of an element: its kind, the lengths that its value may have, and its BGP-LS code.
+
+#![tactic(auto)]
+
 ghost use Rattle.std.specs.Prelude.{◌≡◌, cond};
 ghost use Rattle.linkstate.specs.Kinds.{form_of};
 ghost use Rattle.kinds.specs.Rules.{rule, rule_of_code, fits_in, told_form};

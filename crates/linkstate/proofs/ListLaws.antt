@@ -66,6 +66,7 @@ module _ {A : Type 0} where
       go : (b : Bool) → any p xs ≡ true → b || any p xs ≡ true
       go true e = refl
       go false e = e
+  mem-any p [] x3 h = elim x3 [ ]
 
   pub any-no : (p : A → Bool) (xs : List A) → ((x : A) → Memᴰ x xs → p x ≡ false) → any p xs ≡ false
   unfolding any
@@ -85,6 +86,7 @@ module _ {A : Type 0} where
   unfolding all
   all-mem p (y ∷ xs) h (Memᴰ.head e) = ap p e ∙ and_l (p y) (all p xs) h
   all-mem p (y ∷ xs) h (Memᴰ.tail k) = all-mem p xs (and_r (p y) (all p xs) h) k
+  all-mem p [] h x3 = elim x3 [ ]
 
   -- ---- keep
 
@@ -96,6 +98,7 @@ module _ {A : Type 0} where
       go : (b : Bool) → Memᴰ x (keep p xs) → Memᴰ x (cond b (y ∷ keep p xs) (keep p xs))
       go true e = Memᴰ.tail e
       go false e = e
+  mem-keep p {x = x} [] x3 h = elim x3 [ ]
 
   pub keep-mem : (p : A → Bool) {x : A} (xs : List A) → Memᴰ x (keep p xs) → (p x ≡ true) × Memᴰ x xs
   unfolding keep
@@ -200,6 +203,7 @@ module _ {A B : Type 0} where
   pub map_at : (f g : A → B) {x : A} (xs : List A) → map f xs ≡ map g xs → Memᴰ x xs → f x ≡ g x
   map_at f g (y ∷ xs) h (Memᴰ.head e) = let z : f y ≡ g y = cc in ap f e ∙ z ∙ sym (ap g e)
   map_at f g (y ∷ xs) h (Memᴰ.tail k) = map_at f g xs (cc) k
+  map_at f g [] h x3 = elim x3 [ ]
 
   pub map-mem : (f : A → B) {y : B} (xs : List A) → Memᴰ y (map f xs) → (x : A) × Memᴰ x xs × (y ≡ f x)
   map-mem f [] h = elim h [ ]
@@ -212,6 +216,7 @@ module _ {A B : Type 0} where
   pub mem-map : (f : A → B) {x : A} (xs : List A) → Memᴰ x xs → Memᴰ (f x) (map f xs)
   mem-map f (y ∷ xs) (Memᴰ.head e) = Memᴰ.head (ap f e)
   mem-map f (y ∷ xs) (Memᴰ.tail k) = Memᴰ.tail (mem-map f xs k)
+  mem-map f [] x'' = elim x'' [ ]
 
   pub each_append : (f : A → List B) (xs ys : List A) → each f (xs ++ ys) ≡ each f xs ++ each f ys
   unfolding each
@@ -250,11 +255,13 @@ mem-member {n} (m ∷ ns) (Memᴰ.tail k) = go (eqb n m) (mem-member ns k)
     go : (b : Bool) → member n ns ≡ true → b || member n ns ≡ true
     go true e = refl
     go false e = e
+mem-member {n = n} [] x' = elim x' [ ]
 
 pub numbers-mem : (from n : ℕ) {b : ℕ} → Memᴰ b (numbers from n) → (from ≤ b) × (b < from + n)
 unfolding numbers
 numbers-mem from (suc n) (Memᴰ.head e) = omega arith
 numbers-mem from (suc n) (Memᴰ.tail k) = omega (arith, numbers-mem (suc from) n k)
+numbers-mem from zero {b = b} x' = elim x' [ ]
 
 pub mem-numbers : (n from i : ℕ) → i < n → Memᴰ (from + i) (numbers from n)
 unfolding numbers

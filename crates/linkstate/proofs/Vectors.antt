@@ -2,20 +2,20 @@
 use mathlib.Core.Path.{◌≡◌, refl}
 use mathlib.Core.Bool.{Bool, true, false, cond, ◌||◌}
 use mathlib.Core.List.{List, [], ◌∷◌, ◌++◌, map}
-use Prim.Native.Nat.{ℕ, ◌+◌, ◌*◌, ◌^◌}
-use lib.Dec.{eqb, ltb}
+use Prim.Native.Nat.{ℕ, ◌+◌, ◌^◌}
+use lib.Dec.{eqb}
 use lib.Ieee.{of_bits, binary32}
-use lib.ListN.{length, replicate}
-use Rattle.linkstate.specs.Lists.{numbers, keep, each}
+use lib.ListN.{length}
+use Rattle.linkstate.specs.Lists.{numbers, each}
 use Rattle.linkstate.specs.Bytes.{number, two, four, words, distinct}
-use Rattle.linkstate.specs.Replies.{Verdict, accepted, refused, fault, fault_of_call, run_a, run_bgp_ls, place, refusal_at, whole, pair, bandwidth, part, count, absent, found, ask_refused, Reply, listed}
+use Rattle.linkstate.specs.Replies.{accepted, fault, run_a, run_bgp_ls, place, refusal_at, whole, pair, bandwidth, part, count, absent, found, ask_refused, Reply, listed}
 use Rattle.linkstate.specs.Elements.{element, cut, elements}
 use Rattle.linkstate.specs.Kinds.{codes, link_codes, application_codes, wrong_at_top, wrong_inside}
-use Rattle.linkstate.specs.Masks.{bit, in_masks, user, others, as_number, Last, none, last, last_below, mask_size, mask}
+use Rattle.linkstate.specs.Masks.{bit, in_masks, user, as_number, none, last, last_below, mask_size, mask}
 use Rattle.linkstate.specs.Attributes.{Attribute, value_of}
-use Rattle.linkstate.specs.Sides.{Advertisement, Side, general, names, application_set, rsvp_te_kind, bandwidth_kind, general_set}
-use Rattle.linkstate.specs.Questions.{Source, Subject, generally, standard_no, user_no, ask, value, list_named}
-use Rattle.linkstate.specs.Meaning.{Meaning, meaning}
+use Rattle.linkstate.specs.Sides.{Advertisement, Side, general, application_set, rsvp_te_kind, bandwidth_kind}
+use Rattle.linkstate.specs.Questions.{generally, standard_no, user_no, ask, value, list_named}
+use Rattle.linkstate.specs.Meaning.{Meaning}
 use Rattle.linkstate.specs.Export.{export}
 use Rattle.linkstate.specs.BgpLs.{run_verdict, run_source}
 use Rattle.linkstate.specs.Why.{Rule, by_l, by_name, general_asked, unnamed, by_legacy, carried, at_top, rule_number, Why, because, why_refused, held_at, nowhere}
@@ -179,7 +179,7 @@ bandwidths-get :
     (bandwidths [] (advertisement false (0 ∷ []) [] (attribute 1089 1 ∷ attribute 1090 2 ∷ []) ∷ []) ≡ four 1 ∷ [] ∷ [])
     × (bandwidths (attribute 1089 5 ∷ attribute 1090 6 ∷ []) (advertisement false (0x80 ∷ []) (0 ∷ []) (attribute 1089 1 ∷ attribute 1090 2 ∷ []) ∷ []) ≡ four 5 ∷ four 2 ∷ [])
     × (bandwidths (attribute 1090 6 ∷ []) (advertisement false (0x80 ∷ []) (0x80 ∷ []) (attribute 1090 2 ∷ []) ∷ []) ≡ [] ∷ four 6 ∷ [])
-    × (bandwidths (attribute 1090 6 ∷ []) (advertisement true (0x_c0 ∷ []) [] [] ∷ advertisement false (0x80 ∷ []) [] (attribute 1090 2 ∷ []) ∷ []) ≡ [] ∷ four 6 ∷ [])
+    × (bandwidths (attribute 1090 6 ∷ []) (advertisement true (0xC0 ∷ []) [] [] ∷ advertisement false (0x80 ∷ []) [] (attribute 1090 2 ∷ []) ∷ []) ≡ [] ∷ four 6 ∷ [])
 unfolding computing
 bandwidths-get = (refl, refl, refl, refl)
 
@@ -264,7 +264,7 @@ reader-gives = refl
 -- A run with a delay pair, two bandwidths, an extended group, and SRLGs 9, 7, 9 in two TLVs.
 readings-run : List ℕ
 readings-run =
-    (0x04 ∷ 0x5_b ∷ 0 ∷ 8 ∷ 0x80 ∷ 0 ∷ 0 ∷ 1 ∷ 0 ∷ 0 ∷ 0 ∷ 2 ∷ []) ++ (0x04 ∷ 0x41 ∷ 0 ∷ 4 ∷ 0x3_f ∷ 0x80 ∷ 0 ∷ 0 ∷ []) ++ (0x04 ∷ 0x42 ∷ 0 ∷ 4 ∷ 0x_ff ∷ 0x_c0 ∷ 0 ∷ 1 ∷ [])
+    (0x04 ∷ 0x5B ∷ 0 ∷ 8 ∷ 0x80 ∷ 0 ∷ 0 ∷ 1 ∷ 0 ∷ 0 ∷ 0 ∷ 2 ∷ []) ++ (0x04 ∷ 0x41 ∷ 0 ∷ 4 ∷ 0x3F ∷ 0x80 ∷ 0 ∷ 0 ∷ []) ++ (0x04 ∷ 0x42 ∷ 0 ∷ 4 ∷ 0xFF ∷ 0xC0 ∷ 0 ∷ 1 ∷ [])
     ++ (0x04 ∷ 0x95 ∷ 0 ∷ 4 ∷ 1 ∷ 2 ∷ 3 ∷ 4 ∷ []) ++ (0x04 ∷ 0x48 ∷ 0 ∷ 8 ∷ 0 ∷ 0 ∷ 0 ∷ 9 ∷ 0 ∷ 0 ∷ 0 ∷ 7 ∷ []) ++ (0x04 ∷ 0x48 ∷ 0 ∷ 4 ∷ 0 ∷ 0 ∷ 0 ∷ 9 ∷ [])
 
 abbrev rsvp_te_asked : ℕ → List ℕ → Reply
@@ -299,7 +299,7 @@ parts : (value (run_source readings-run) (standard_no 0) 1173 ≡ 1 ∷ 2 ∷ 3 
 unfolding computing readings-run
 parts = (refl, refl, refl)
 
-named-as-powers : list_named (run_source (asla 12 (4 ∷ 4 ∷ 0 ∷ 0 ∷ 0x_e0 ∷ 0 ∷ 0 ∷ 0 ∷ 0x80 ∷ 0 ∷ 0 ∷ 0 ∷ []))) ≡ listed 6 1
+named-as-powers : list_named (run_source (asla 12 (4 ∷ 4 ∷ 0 ∷ 0 ∷ 0xE0 ∷ 0 ∷ 0 ∷ 0 ∷ 0x80 ∷ 0 ∷ 0 ∷ 0 ∷ []))) ≡ listed 6 1
 unfolding computing asla
 named-as-powers = refl
 
@@ -313,7 +313,7 @@ rule-numbers = refl
 why-run : List ℕ
 why-run =
     (0x04 ∷ 0x44 ∷ 0 ∷ 4 ∷ 0 ∷ 0 ∷ 0 ∷ 10 ∷ []) ++ asla 16 (4 ∷ 0 ∷ 0 ∷ 0 ∷ 0x40 ∷ 0 ∷ 0 ∷ 0 ∷ 0x04 ∷ 0x48 ∷ 0 ∷ 4 ∷ 0 ∷ 0 ∷ 0 ∷ 7 ∷ [])
-    ++ asla 16 (4 ∷ 0 ∷ 0 ∷ 0 ∷ 0x_c0 ∷ 0 ∷ 0 ∷ 0 ∷ 0x04 ∷ 0x44 ∷ 0 ∷ 4 ∷ 0 ∷ 0 ∷ 0 ∷ 20 ∷ [])
+    ++ asla 16 (4 ∷ 0 ∷ 0 ∷ 0 ∷ 0xC0 ∷ 0 ∷ 0 ∷ 0 ∷ 0x04 ∷ 0x44 ∷ 0 ∷ 4 ∷ 0 ∷ 0 ∷ 0 ∷ 20 ∷ [])
     ++ asla 8 (0 ∷ 0 ∷ 0 ∷ 0 ∷ 0x04 ∷ 0x48 ∷ 0 ∷ 0 ∷ []) ++ asla 12 (0 ∷ 0 ∷ 0 ∷ 0 ∷ 0x04 ∷ 0x44 ∷ 0 ∷ 4 ∷ 0 ∷ 0 ∷ 0 ∷ 30 ∷ [])
 
 abbrev in_run : Rule → ℕ → Why

@@ -1,10 +1,9 @@
 -- Attributes that are read together (rules W5, W6, L11), and the reading of one (rule K4).
-use Rattle.std.specs.Prelude.{Bool, true, false, cond, List, [], ◌∷◌, map, ℕ, ◌+◌, eqb, length, take, drop}
+use Rattle.std.specs.Prelude.{cond, List, [], ◌∷◌, ℕ, ◌+◌, eqb, length, take, drop}
 use Rattle.std.specs.Float.Ieee.{of_bits}
 use Rattle.std.specs.Float.{binary32}
-use Rattle.linkstate.specs.Lists.{keep, each, empty}
+use Rattle.linkstate.specs.Lists.{keep, each}
 use Rattle.linkstate.specs.Bytes.{number, words, distinct, bytes_of_words}
-use Rattle.linkstate.specs.Elements.{Element, element, cut}
 use Rattle.linkstate.specs.Kinds.{Form, whole_number, two_numbers, float, place_and_length, srlg_count, form_of}
 use Rattle.linkstate.specs.Replies.{Place, Reading, whole, pair, bandwidth, part, count}
 

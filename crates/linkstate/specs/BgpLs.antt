@@ -1,5 +1,5 @@
 -- Document 01, "BGP-LS bytes": the reader, and what a BGP-LS run is refused for (rules L9 to L14; RFC 9294 sections 2 and 3).
-use Rattle.std.specs.Prelude.{Bool, true, false, cond, ◌&&◌, ◌||◌, not, List, [], ◌∷◌, ℕ, ◌+◌, eqb, ltb, length, take, drop, get_or}
+use Rattle.std.specs.Prelude.{Bool, false, cond, ◌&&◌, ◌||◌, not, List, [], ◌∷◌, ℕ, ◌+◌, eqb, ltb, length, take, drop, get_or}
 use Rattle.linkstate.specs.Lists.{each, member}
 use Rattle.linkstate.specs.Limits.{most_in_bgp_ls}
 use Rattle.linkstate.specs.Kinds.{application_codes, wrong_at_top, wrong_inside}

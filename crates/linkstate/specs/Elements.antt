@@ -1,6 +1,6 @@
 -- The elements of a run: a type, a length and a value, one after the other.
 -- One definition over w, the number of bytes of a type and of a length: 1 in IS-IS runs (rules A1, B1), 2 in BGP-LS runs (rule L1).
-use Rattle.std.specs.Prelude.{Bool, cond, ◌&&◌, List, [], ◌∷◌, ◌++◌, ℕ, zero, suc, pred, ◌+◌, leb, eqb, length, take, drop}
+use Rattle.std.specs.Prelude.{Bool, cond, ◌&&◌, List, [], ◌∷◌, ℕ, zero, suc, pred, ◌+◌, leb, length, take, drop}
 use Rattle.linkstate.specs.Lists.{member}
 use Rattle.linkstate.specs.Bytes.{number}
 use Rattle.linkstate.specs.Replies.{Run, Verdict, accepted, fault, ◌then◌}

@@ -1,5 +1,5 @@
 -- Document 01, "BGP-LS bytes": the TLVs that a meaning is written as (rules L1 to L8; RFC 9294 sections 2 and 3).
-use Rattle.std.specs.Prelude.{Bool, true, false, cond, ◌&&◌, List, [], ◌∷◌, ◌++◌, map, ℕ, eqb, ltb, length}
+use Rattle.std.specs.Prelude.{Bool, false, cond, ◌&&◌, List, [], ◌∷◌, ◌++◌, map, ℕ, eqb, ltb, length}
 use Rattle.linkstate.specs.Lists.{keep, all, each, lookup, empty, same_rows}
 use Rattle.linkstate.specs.Bytes.{two}
 use Rattle.linkstate.specs.Kinds.{codes, application_codes, is_link_code}

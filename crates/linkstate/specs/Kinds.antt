@@ -1,6 +1,6 @@
 -- Document 01, "The fourteen kinds" (rules K1, K2, K4; K5 and K6 stand in Questions): one table, and what it says of a BGP-LS code.
 -- By which types and in which lengths a protocol carries a kind is told by a table of that protocol.
-use Rattle.std.specs.Prelude.{Bool, true, false, cond, ◌&&◌, not, List, [], ◌∷◌, map, ℕ, ◌%◌, eqb, leb}
+use Rattle.std.specs.Prelude.{Bool, true, false, ◌&&◌, not, List, [], ◌∷◌, map, ℕ, ◌%◌, eqb, leb}
 use Rattle.linkstate.specs.Lists.{keep, any, lookup}
 
 -- K1. The lengths that a value may have.

@@ -1,5 +1,5 @@
 -- Applications and the masks that name them (rules I7 to I11, L4; RFC 8919 section 4.1, RFC 9294 section 2).
-use Rattle.std.specs.Prelude.{Bool, true, false, cond, ◌&&◌, List, [], ◌∷◌, map, ℕ, zero, suc, ◌+◌, ◌-◌, ◌*◌, ◌/◌, ◌%◌, ◌^◌, eqb, ltb, get_or}
+use Rattle.std.specs.Prelude.{Bool, true, false, cond, ◌&&◌, List, map, ℕ, zero, suc, ◌+◌, ◌-◌, ◌*◌, ◌/◌, ◌%◌, ◌^◌, eqb, ltb, get_or}
 use Rattle.linkstate.specs.Lists.{numbers}
 use Rattle.linkstate.specs.Limits.{standard_numbers, applications, other_applications}
 

@@ -4,7 +4,7 @@ use Rattle.linkstate.specs.Lists.{member}
 use Rattle.linkstate.specs.Kinds.{link_codes, application_codes}
 use Rattle.linkstate.specs.Masks.{others}
 use Rattle.linkstate.specs.Attributes.{value_of}
-use Rattle.linkstate.specs.Replies.{Verdict, accepted}
+use Rattle.linkstate.specs.Replies.{accepted}
 use Rattle.linkstate.specs.Questions.{Source}
 
 -- L15. A value is its BGP-LS value bytes, none where the kind is absent; an SRLG value is ascending, without repeats.

@@ -1,5 +1,5 @@
 -- The services (rule I5): what is asked of a link or of a BGP-LS run, and what comes of it (rules R1 to R12, K4 to K6).
-use Rattle.std.specs.Prelude.{Bool, true, false, cond, ◌&&◌, not, List, [], ◌∷◌, ℕ, ◌+◌, eqb, ltb, length}
+use Rattle.std.specs.Prelude.{Bool, false, cond, not, List, [], ◌∷◌, ℕ, eqb, ltb, length}
 use Rattle.linkstate.specs.Lists.{empty, put}
 use Rattle.linkstate.specs.Limits.{last_standard, last_user}
 use Rattle.linkstate.specs.Bytes.{bytes_at}

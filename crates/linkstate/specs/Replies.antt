@@ -1,5 +1,5 @@
 -- Document 01, "Numbers of the replies" (rules R1 to R12): what a refusal tells, and what a question is answered by (rule K4).
-use Rattle.std.specs.Prelude.{Bool, true, false, cond, List, [], ◌∷◌, ℕ, Float}
+use Rattle.std.specs.Prelude.{Bool, cond, List, ℕ, Float}
 
 -- R8. The lent runs that a place can lie in. No value and no refusal has its place in C: it is there to be named as the run of legacy SRLGs.
 pub data Run : Type 0 where

@@ -1,5 +1,5 @@
 -- Document 01, "Who gets what" (rules W1 to W13; RFC 8919 sections 4.2 and 4.3, with its revision), and document 02's rule E2a, over one side.
-use Rattle.std.specs.Prelude.{Bool, true, false, cond, ◌&&◌, ◌||◌, not, List, [], ◌∷◌, ◌++◌, ℕ, eqb, length}
+use Rattle.std.specs.Prelude.{Bool, cond, ◌&&◌, ◌||◌, not, List, ◌++◌, ℕ, eqb, length}
 use Rattle.linkstate.specs.Lists.{keep, any, each, empty}
 use Rattle.linkstate.specs.Kinds.{application_codes}
 use Rattle.linkstate.specs.Masks.{in_masks, others}

@@ -1,4 +1,7 @@
 // Masks of applications: read from their bytes, kept as 64-bit numbers (application n is 2 to the n; or as sent, the first byte the lowest), and written.
+
+#![tactic(auto)]
+
 ghost use Rattle.std.specs.Prelude.{◌≡◌, false, ◌||◌, ◌&&◌, not, ℕ, ◌+◌, ◌≤◌, ◌<◌, length, take, drop};
 ghost use Rattle.linkstate.specs.Lists.{any, put};
 ghost use Rattle.linkstate.specs.Masks.{bit, in_masks, others, as_number, in_number, last_below, mask_size, mask};
@@ -26,7 +29,7 @@ pub fn turned(m: u64) -> u64
 {
     let a = exchange(0x5555555555555555, m, 1);
     let b = exchange(0x3333333333333333, a, 2);
-    exchange(0x0_f0_f0_f0_f0_f0_f0_f0_f, b, 4)
+    exchange(0x0F0F0F0F0F0F0F0F, b, 4)
 }
 
 // Where the bit of application n stands in a mask as sent.

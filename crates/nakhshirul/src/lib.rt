@@ -1,6 +1,9 @@
 // The C interface (include/nakhshirul.h): ten functions over the entries. A run is a pointer and a length, the reply four 64-bit numbers, the result a status.
 // What each status and reply says is `ask_words`, `value_words`, `why_words`, `named_words` and `length_words` of the crate statuses. Every call is answered: no
 // function has a `requires`.
+
+#![tactic(auto)]
+
 ghost use Rattle.std.specs.Prelude.{◌≡◌, ◌∷◌};
 ghost use Rattle.linkstate.specs.Questions.{ask, list_named};
 ghost use Rattle.linkstate.specs.BgpLs.{run_source};

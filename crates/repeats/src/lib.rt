@@ -1,4 +1,7 @@
 // Whether the type of an element stood before in its list (request E5): by a bit for each type, and where the bit is set, by a look at the elements before.
+
+#![tactic(auto)]
+
 ghost use Rattle.std.specs.Prelude.{◌≡◌, List, ◌∷◌, ℕ, ◌%◌, ◌≤◌, ◌<◌};
 ghost use Rattle.linkstate.specs.Lists.{member};
 ghost use Rattle.linkstate.specs.Masks.{in_number};

@@ -1,4 +1,7 @@
 // The answers of every entry. What each case says in document 01's terms is `specs/Told.antt`.
+
+#![tactic(auto)]
+
 ghost use Rattle.std.specs.Prelude.{◌≡◌};
 ghost use Rattle.replies.specs.Told.{told_run, told_refusal, subject_of};
 ghost use Rattle.linkstate.specs.Replies.{refusal_at, run_a};

@@ -1,4 +1,7 @@
 // Demand 2 on the code: a link is exported into a lent buffer, and what was written is asked. It answers as the link does.
+
+#![tactic(auto)]
+
 ghost use Rattle.replies.specs.Told.{subject_of, told_asked, told_named};
 ghost use Rattle.round_trip.specs.ReadBack.{AskedBack, NamedBack};
 

@@ -1,5 +1,8 @@
 // By which rule a subject gets a kind, from whom a side names, whom it names with L (document 01, "Who gets what"), and whether its legacy attributes have a
 // value for RSVP-TE (document 02, E2). No byte of any format is read here.
+
+#![tactic(auto)]
+
 ghost use Rattle.std.specs.Prelude.{◌≡◌, List, [], ◌∷◌, ◌+◌, ◌≤◌, ◌<◌, length, false};
 ghost use Rattle.linkstate.specs.Replies.{fault};
 ghost use Rattle.linkstate.specs.Sides.{Advertisement, Side, has_legacy};

@@ -1,4 +1,7 @@
 // The TLVs of one set, written kind by kind: of an application's set, and of what stands at the top of a BGP-LS run. The classifier tells the row and the code of a kind.
+
+#![tactic(auto)]
+
 ghost use Rattle.std.specs.Prelude.{◌≡◌, false, ℕ, ◌+◌, ◌*◌, ◌/◌, ◌≤◌, ◌<◌, length, get_or, take, drop, [], ◌∷◌};
 ghost use Rattle.linkstate.specs.Limits.{most_numbers};
 ghost use Rattle.linkstate.specs.Bytes.{bytes_of_words};

@@ -1,4 +1,7 @@
 // The groups of applications with equal sets, in a table that applications join one by one (document 01, "BGP-LS bytes"). Entries of one bucket are chained, and only they are compared.
+
+#![tactic(auto)]
+
 ghost use Rattle.std.specs.Prelude.{◌≡◌, ◌||◌, ◌+◌, ◌≤◌, ◌<◌, eqb, length, replicate};
 ghost use Rattle.linkstate.specs.Masks.{user, as_number, in_number};
 ghost use Rattle.masks.specs.Sets.{IsNext, turned_place};

@@ -1,4 +1,7 @@
 // The table of a link's sets, filled: a value goes to a slot, or to the slots of the applications that two masks name, unless one of its kind is there (document 01, "Who gets what").
+
+#![tactic(auto)]
+
 ghost use Rattle.std.specs.Prelude.{◌≡◌, Bool, List, [], ℕ, ◌+◌, ◌%◌, ◌≤◌, ◌<◌, length, get_or};
 ghost use Rattle.linkstate.specs.Bytes.{words, bytes_at};
 ghost use Rattle.linkstate.specs.Masks.{in_number};

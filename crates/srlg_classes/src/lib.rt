@@ -1,5 +1,8 @@
 // The classes of what a side's subjects get of SRLGs: of each application, of the general set and of RSVP-TE, from the sources of the side's advertisements
 // (document 01, "Who gets what"). No byte of any format is read here.
+
+#![tactic(auto)]
+
 ghost use Rattle.std.specs.Prelude.{◌≡◌, true, false, List, [], ◌∷◌, ℕ, ◌+◌, ◌*◌, ◌≤◌, ◌<◌, length, get_or};
 ghost use Rattle.linkstate.specs.Sides.{Side, has_legacy};
 ghost use Rattle.rules.specs.Names.{Tells};

@@ -1,4 +1,7 @@
 // Sets of SRLGs as bits over one ascending list of numbers: counted and compared, word by word; what bits stand for, and its laws.
+
+#![tactic(auto)]
+
 ghost use Rattle.std.specs.Prelude.{◌≡◌, List, ℕ, ◌≤◌, ◌<◌, length, take};
 ghost use Rattle.linkstate.specs.Masks.{in_number};
 ghost use Rattle.srlg_ranks.specs.Ranks.{keep_from, Inside};

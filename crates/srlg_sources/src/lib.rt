@@ -1,4 +1,7 @@
 // The SRLGs of a link as sources: a row of bits over one ascending list of numbers for each, made from keys that are sorted; and the bits of several joined.
+
+#![tactic(auto)]
+
 ghost use Rattle.std.specs.Prelude.{◌≡◌, true, ◌||◌, List, [], ◌∷◌, map, ℕ, ◌+◌, ◌*◌, ◌/◌, ◌≤◌, ◌<◌, eqb, length, take, set};
 ghost use Rattle.linkstate.specs.Lists.{put, all};
 ghost use Rattle.linkstate.specs.Bytes.{words};

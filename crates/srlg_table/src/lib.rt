@@ -1,4 +1,7 @@
 // A table of the different sets of SRLGs that sources have together: the class of some sources is one that is there, or a new one.
+
+#![tactic(auto)]
+
 ghost use Rattle.std.specs.Prelude.{◌≡◌, true, false, [], ◌∷◌, ℕ, suc, ◌+◌, ◌≤◌, ◌<◌, ◌*◌, length, get_or};
 ghost use Rattle.srlg_ranks.specs.Ranks.{in_words};
 ghost use Rattle.srlg_table.specs.Blocks.{size_of, Alike, Part, Rest, Split, Blocks};

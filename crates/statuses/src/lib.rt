@@ -1,4 +1,7 @@
 // Answers as a C program reads them: a status and four numbers. What each status says is `specs/Words.antt`.
+
+#![tactic(auto)]
+
 ghost use Rattle.std.specs.Prelude.{◌≡◌, false, List, ◌∷◌, ℕ, ◌+◌, ◌≤◌, eqb, length};
 ghost use Rattle.linkstate.specs.Bytes.{number, bytes_at};
 ghost use Rattle.linkstate.specs.Kinds.{form_of};

@@ -1,4 +1,7 @@
 // TLVs written: their heads, and values that stand in a run (document 01, "BGP-LS bytes").
+
+#![tactic(auto)]
+
 ghost use Rattle.std.specs.Prelude.{◌≡◌, ◌∷◌, [], ◌++◌, ◌+◌, ◌≤◌, ◌<◌, length};
 ghost use Rattle.linkstate.specs.Lists.{put};
 ghost use Rattle.linkstate.specs.Bytes.{two, four};

@@ -1,5 +1,8 @@
 // Why a subject gets what it gets of a kind: the rule of document 01's "Who gets what" that gave it, and the advertisement that decides or holds the value.
 // Any bytes, any subject and any code are taken; every refusal is a question's own.
+
+#![tactic(auto)]
+
 ghost use Rattle.std.specs.Prelude.{◌≡◌, true, false, List, [], ℕ};
 ghost use Rattle.linkstate.specs.Replies.{accepted, run_b};
 ghost use Rattle.linkstate.specs.Elements.{elements, faults};

@@ -1,4 +1,7 @@
 // Document 01's worked links and RFC 9294's illustration, asked and exported through the proved entries; what they answer is held to the file stdout.
+
+#![tactic(auto)]
+
 use libc::STDOUT_FILENO;
 use replies::{Answer, Named, Reading, Refusal, Run, Subject, Written};
 
@@ -119,7 +122,7 @@ fn export_link(label: &[u8], a: &[u8], b: &[u8], c: &[u8], out: &mut [u8]) {
 }
 
 fn export_whole(label: &[u8], a: &[u8], b: &[u8], c: &[u8]) {
-    let mut out = [0x_aau8; 256];
+    let mut out = [0xAAu8; 256];
     export_link(label, a, b, c, &mut out);
 }
 
@@ -210,18 +213,18 @@ fn starred_table() {
 }
 
 fn in_just(a: &[u8]) {
-    let mut room = [0x_aau8; 44];
+    let mut room = [0xAAu8; 44];
     export_link(b"M S G in 44", a, b"", b"", &mut room);
 }
 
 fn in_more(a: &[u8]) {
-    let mut room = [0x_aau8; 45];
+    let mut room = [0xAAu8; 45];
     export_link(b"M S G in 45", a, b"", b"", &mut room);
     say_room(&room);
 }
 
 fn in_less(a: &[u8]) {
-    let mut room = [0x_aau8; 43];
+    let mut room = [0xAAu8; 43];
     export_link(b"M S G in 43", a, b"", b"", &mut room);
     say_room(&room);
 }
