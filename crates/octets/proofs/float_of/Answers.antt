@@ -7,9 +7,7 @@ use mathlib.Core.Bool.{true}
 use lib.Ieee.{Float, nan, inf, fin, is_nan, of_bits, binary32, div}
 use lib.Ieee.Bits.{nan_bits_is, nan_bits_above}
 use borrow.Author.Tests.{lt-ltb, le-ltb}
-use borrow.Author.Rules.{rules}
-use Rattle.octets.proofs.float_of.Statement.{statement}
-use Rattle.octets.proofs.float_of.Tie as tie
+use Rattle.octets.proofs.float_of.Goals as goal
 
 -- A float that is a NaN is the NaN.
 only : (x : Float) → is_nan x ≡ true → x ≡ nan
@@ -22,18 +20,10 @@ zeros : div binary32 (of_bits binary32 0) (of_bits binary32 0) ≡ nan
 unfolding of_bits div
 zeros = refl
 
-returns : tie.Need-returns
-returns c =
-    let bits = c.before.args.bits in
+pub returns-then-bits-gt2139095040 : goal.returns-then-bits-gt2139095040
+returns-then-bits-gt2139095040 c = let bits = c.args.bits in
     zeros ∙ sym (only _ (sym (nan_bits_is binary32 bits) ∙ nan_bits_above binary32 bits ∙ lt-ltb 2139095040 (bits % 2147483648) (omega arith)))
 
-float-from-bits-result : tie.Need-float-from-bits-result
-float-from-bits-result c =
-    let bits = c.before.args.bits in
+pub float_from_bits-result : goal.float_from_bits-result
+float_from_bits-result c = let bits = c.args.bits in
     rw (nan_bits_above binary32 bits, le-ltb 2139095040 (bits % 2147483648) (omega arith)) tt
-
-returns-2 : tie.Need-returns-2
-returns-2 c = search rules
-
-pub float-of-spec : {M : Type 1} → statement M
-float-of-spec = tie.close (tie.spec returns float-from-bits-result returns-2)
