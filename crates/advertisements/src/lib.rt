@@ -131,7 +131,7 @@ fn srlg_carries(v: &[u8], kind: usize) -> bool
 // ---- tests
 
 // What an advertisement is looked for by: that it names an application, names it with L, is general, has no L, or names RSVP-TE alone.
-#[derive(Drop)]
+#[derive(Clone, Copy)]
 pub enum Test {
     Names(u32),
     WithL(u32),

@@ -108,7 +108,7 @@ pub fn check_inner(s: &[u8], base: usize) -> Checked
 }
 
 // The lengths of the two masks of a 1122, as sent.
-#[derive(Drop)]
+#[derive(Clone, Copy)]
 pub struct AslaHeader {
     pub standard: usize,
     pub user: usize,

@@ -18,7 +18,7 @@ use masks::names;
 use octets::read16;
 
 // A set of attributes: the TLVs at the top of the run, or those inside its 1122s: all that are not ignored, the general ones, or those that name an application.
-#[derive(Drop)]
+#[derive(Clone, Copy)]
 pub enum Set {
     Top,
     Every,
@@ -27,14 +27,14 @@ pub enum Set {
 }
 
 // Where a value stands, and its length.
-#[derive(Drop)]
+#[derive(Clone, Copy)]
 pub enum Found {
     At { place: usize, len: usize },
     Absent,
 }
 
 // A list of elements: its first byte, and the byte after it.
-#[derive(Drop)]
+#[derive(Clone, Copy)]
 pub enum Part {
     At { first: usize, next: usize },
     Absent,
@@ -126,7 +126,7 @@ fn first_element(s: &[u8], base: usize, code: usize) -> Found
 }
 
 // A set, and the first list of elements that it has attributes in.
-#[derive(Drop)]
+#[derive(Clone, Copy)]
 pub struct Start {
     pub set: Set,
     pub first: usize,

@@ -21,7 +21,7 @@ use masks::Applications;
 use replies::Written;
 
 // An ASLA TLV: its members, and the slot and the class of its set.
-#[derive(Drop)]
+#[derive(Clone, Copy)]
 pub struct Asla {
     pub members: Applications,
     pub slot: usize,
@@ -127,7 +127,7 @@ pub fn measure(
 }
 
 // The slot and the class of RSVP-TE's set.
-#[derive(Drop)]
+#[derive(Clone, Copy)]
 pub struct Top {
     pub slot: usize,
     pub class: usize,

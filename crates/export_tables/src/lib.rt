@@ -20,7 +20,7 @@ use srlg_table::Used;
 // What an export goes by: the applications that are named; whom the side of the SRLGs names, and whether its legacy attributes have a value of
 // the kinds of applications; how much of the sources of SRLGs is used; how many slots there are, and which is that of RSVP-TE's set; and whether the length
 // alone is asked for.
-#[derive(Drop)]
+#[derive(Clone, Copy)]
 pub struct Plan {
     pub who: Applications,
     pub names: Names,
@@ -32,7 +32,7 @@ pub struct Plan {
 }
 
 // How many classes and groups there are, the slot and the class of RSVP-TE's set, and whether the length alone is asked for.
-#[derive(Drop)]
+#[derive(Clone, Copy)]
 struct Parts {
     classes: usize,
     groups: usize,

@@ -6,7 +6,7 @@ ghost use Rattle.std.specs.Prelude.{◌≡◌, ◌≤◌, ◌<◌, length};
 ghost use Rattle.frames.specs.Frames.{frame_in};
 
 // Nothing more; an element that is cut off; or a whole one, with its type and how many bytes its value has.
-#[derive(Drop)]
+#[derive(Clone, Copy)]
 pub enum Frame {
     End,
     Cut,

@@ -9,7 +9,7 @@ ghost use Rattle.grids.specs.Grids.{row_value, grid_value, RowFits, Fits, Alike,
 ghost use Rattle.grids.specs.Slots.{cell, cell_row, slot_grid};
 
 // The value of a kind, by its row of a grid.
-#[derive(Drop)]
+#[derive(Clone, Copy)]
 pub enum Row {
     Present { place: usize, len: usize },
     Absent,

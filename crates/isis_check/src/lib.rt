@@ -18,7 +18,7 @@ use replies::{Refusal, Run};
 use rules::{Checking, Names, SideChecked};
 
 // A type of link identifier: the length of its value, and its weight in a tally of types, 0 where the type is none of the five known ones.
-#[derive(Drop)]
+#[derive(Clone, Copy)]
 pub struct Known {
     pub length: usize,
     pub weight: u64,
@@ -56,7 +56,7 @@ fn known_identifier(t: u8) -> Known
 }
 
 // An identifier list: its first refusal, or how often each known type stands in it, a byte of the tally for each.
-#[derive(Drop)]
+#[derive(Clone, Copy)]
 pub enum Listed {
     Refused(Refusal),
     Tally(u64),
@@ -160,7 +160,7 @@ pub fn identifies_link(s: &[u8]) -> bool
 }
 
 // What the checks of a TLV 238 find: a fault, that it is ignored, or that it is live unless it has L for nobody.
-#[derive(Drop)]
+#[derive(Clone, Copy)]
 pub enum Judged {
     Refused(Refusal),
     Ignored,
@@ -307,7 +307,7 @@ fn too_long(a: usize, b: usize, c: usize) -> bool
 }
 
 // Whom the two sides of a link name, and whether their legacy attributes have a value of the kinds of applications.
-#[derive(Drop)]
+#[derive(Clone, Copy)]
 pub struct Sides {
     pub a: Names,
     pub b: Names,
@@ -316,7 +316,7 @@ pub struct Sides {
 }
 
 // What the checks of a link found: the first refusal, or what the rule asks of its sides.
-#[derive(Drop)]
+#[derive(Clone, Copy)]
 pub enum LinkChecked {
     Refused(Refusal),
     Accepted(Sides),

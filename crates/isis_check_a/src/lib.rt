@@ -20,7 +20,7 @@ use replies::{Checked, Run};
 use rules::{Checking, Names, SideChecked};
 
 // The first bytes of an ASLA, and of what follows the neighbour in a TLV 238: the L-flag, and how many bytes each mask has.
-#[derive(Drop)]
+#[derive(Clone, Copy)]
 pub struct Header {
     pub l: bool,
     pub standard: usize,
@@ -63,7 +63,7 @@ pub fn header_length(h: Header) -> usize
 }
 
 // Where the masks end in a value: nowhere, since the advertisement is ignored; past the value's end; or at this offset.
-#[derive(Drop)]
+#[derive(Clone, Copy)]
 pub enum Masks {
     Ignored,
     Past,

@@ -24,7 +24,7 @@ use srlg_table::Used;
 
 // Whom the sides of a link name, and whom either does; whether their legacy attributes have a value of the kinds of applications; how
 // much of the sources of its SRLGs is used; and whether the length alone is asked for.
-#[derive(Drop)]
+#[derive(Clone, Copy)]
 struct Link {
     a: Names,
     b: Names,
@@ -36,7 +36,7 @@ struct Link {
 }
 
 // How many slots the table of sets has, and which is that of RSVP-TE's set.
-#[derive(Drop)]
+#[derive(Clone, Copy)]
 struct Slots {
     count: usize,
     rsvp: usize,

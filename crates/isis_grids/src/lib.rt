@@ -35,7 +35,7 @@ pub fn type_of(code: usize) -> u8
 }
 
 // Which live ASLA sub-TLVs are read: those that name an application, the general ones, those whose only set bit is RSVP-TE's, or all without L.
-#[derive(Drop)]
+#[derive(Clone, Copy)]
 pub enum Which {
     Naming(u32),
     General,

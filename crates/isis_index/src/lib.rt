@@ -124,7 +124,7 @@ fn named_list(
 }
 
 // What is read of an ASLA: nothing, or its list from a place on, for all or for those that it names.
-#[derive(Drop)]
+#[derive(Clone, Copy)]
 enum Asla {
     Unread,
     ForAll(usize),

@@ -17,7 +17,7 @@ use rules::Names;
 use srlg_sources::Keys;
 
 // What a TLV of run B says of SRLGs: whether its numbers are general ones, or for whom they are, and where in its value they begin.
-#[derive(Drop)]
+#[derive(Clone, Copy)]
 struct Tlv {
     general: bool,
     who: Applications,
@@ -188,7 +188,7 @@ pub fn gather(b: &[u8], c: &[u8], named: Names, keys: &mut [u64], rows: &mut [[u
 }
 
 // How many different numbers a link has, and how many sources.
-#[derive(Drop)]
+#[derive(Clone, Copy)]
 pub struct Indexed {
     pub count: usize,
     pub sources: usize,

@@ -102,7 +102,7 @@ pub fn srlgs_of(b: &[u8], c: &[u8], whom: Subject, m: Names, legacy: bool, out: 
 // gets what").
 
 // Which live TLVs 238 are read: those that name an application, or the general ones.
-#[derive(Drop)]
+#[derive(Clone, Copy)]
 pub enum Which {
     Naming(u32),
     General,

@@ -9,7 +9,7 @@ ghost use Rattle.kinds.specs.declared.Kind.TheVariants.{Application};
 ghost use Rattle.kinds.specs.declared.Size.TheVariants.{Exactly};
 
 // A kind by its row: one of the link's three bandwidths, or one of the ten kinds of an application other than SRLG, both ascending by code.
-#[derive(Drop)]
+#[derive(Clone, Copy)]
 pub enum Kind {
     Link(usize),
     Application(usize),
@@ -19,7 +19,7 @@ pub enum Kind {
 }
 
 // The lengths that a value may have.
-#[derive(Drop)]
+#[derive(Clone, Copy)]
 pub enum Size {
     Exactly(usize),
     FoursFrom(usize),
@@ -28,7 +28,7 @@ pub enum Size {
 }
 
 // What a value reads as: a whole number, two numbers, a float, its place and length, or a count of SRLGs.
-#[derive(Drop)]
+#[derive(Clone, Copy)]
 pub enum Form {
     WholeNumber,
     TwoNumbers,
@@ -37,7 +37,7 @@ pub enum Form {
     SrlgCount,
 }
 
-#[derive(Drop)]
+#[derive(Clone, Copy)]
 pub struct Rule {
     pub kind: Kind,
     pub size: Size,

@@ -9,7 +9,7 @@ ghost use Rattle.masks.specs.Sets.{last_of, IsNext, little_endian, in_sent, turn
 ghost use Rattle.masks.specs.Applications.{in_set, at_place, user_bytes};
 
 // A set of applications, standard and user, as masks have them: the number of a mask's bytes, the first the lowest.
-#[derive(Drop)]
+#[derive(Clone, Copy)]
 pub struct Applications {
     pub standard: u64,
     pub user: u64,
@@ -257,7 +257,7 @@ pub fn with_masks(
 }
 
 // The last application of a set, if any.
-#[derive(Drop)]
+#[derive(Clone, Copy)]
 pub enum LastBit {
     None,
     At(u32),

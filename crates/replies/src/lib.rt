@@ -8,7 +8,7 @@ ghost use Rattle.linkstate.specs.Replies.{refusal_at, run_a};
 ghost use Rattle.linkstate.specs.Questions.{number_too_high};
 
 // The lent runs that a place can lie in. C is there to be told as the run of legacy SRLGs; no value and no refusal has its place in it.
-#[derive(Drop)]
+#[derive(Clone, Copy)]
 pub enum Run {
     A,
     B,
@@ -17,14 +17,14 @@ pub enum Run {
 }
 
 // An offset in a run.
-#[derive(Drop)]
+#[derive(Clone, Copy)]
 pub struct Place {
     pub run: Run,
     pub offset: usize,
 }
 
 // Why a call was refused: document 01's number, and where.
-#[derive(Drop)]
+#[derive(Clone, Copy)]
 pub struct Refusal {
     pub number: u8,
     pub place: Place,
@@ -32,7 +32,7 @@ pub struct Refusal {
 
 // What a value reads as: a whole number, two numbers, a bandwidth, where the value stands and its length, or how many different SRLGs there are.
 // Left free: which NaN a Bandwidth is, where the four bytes are a pattern of one; the value entries hand back the bytes themselves.
-#[derive(Drop)]
+#[derive(Clone, Copy)]
 pub enum Reading {
     Number(u32),
     Pair(u32, u32),
@@ -42,7 +42,7 @@ pub enum Reading {
 }
 
 // The answer to a question.
-#[derive(Drop)]
+#[derive(Clone, Copy)]
 pub enum Answer {
     Absent,
     Found(Reading),
@@ -50,14 +50,14 @@ pub enum Answer {
 }
 
 // The named applications other than RSVP-TE, application n as 2 to the n.
-#[derive(Drop)]
+#[derive(Clone, Copy)]
 pub enum Named {
     Listed { standard: u64, user: u64 },
     Refused(Refusal),
 }
 
 // The answer to an export: the length written.
-#[derive(Drop)]
+#[derive(Clone, Copy)]
 pub enum Written {
     Bytes(usize),
     Refused(Refusal),
@@ -65,7 +65,7 @@ pub enum Written {
 
 // The rule that gave a subject its kind: an advertisement with L names the application; some name it; the general set was asked for; none names it,
 // so that the general set counts; legacy without an L-flag; an ASLA gives a bandwidth; the top level of a BGP-LS run.
-#[derive(Drop)]
+#[derive(Clone, Copy)]
 pub enum Rule {
     ByL,
     Named,
@@ -77,7 +77,7 @@ pub enum Rule {
 }
 
 // What decides or holds the value: an advertisement, told by the first byte of its element; legacy values, told by their run; or nothing that is told.
-#[derive(Drop)]
+#[derive(Clone, Copy)]
 pub enum Holder {
     At(Place),
     Legacy(Run),
@@ -85,21 +85,21 @@ pub enum Holder {
 }
 
 // Why a subject gets what it gets of a kind.
-#[derive(Drop)]
+#[derive(Clone, Copy)]
 pub enum Why {
     Because { rule: Rule, holder: Holder },
     Refused(Refusal),
 }
 
 // What the checks of a run found: nothing, or the first refusal.
-#[derive(Drop)]
+#[derive(Clone, Copy)]
 pub enum Checked {
     Accepted,
     Refused(Refusal),
 }
 
 // Whom a question is about: the general set, or an application by its number.
-#[derive(Drop)]
+#[derive(Clone, Copy)]
 pub enum Subject {
     General,
     Standard(u32),

@@ -17,21 +17,21 @@ use masks::Applications;
 use replies::{Refusal, Run, Subject};
 
 // The applications that are named, and those that are named with L.
-#[derive(Drop)]
+#[derive(Clone, Copy)]
 pub struct Names {
     pub named: Applications,
     pub flagged: Applications,
 }
 
 // What the checks of a run found: the first refusal, or whom the run names.
-#[derive(Drop)]
+#[derive(Clone, Copy)]
 pub enum Checking {
     Refused(Refusal),
     Accepted(Names),
 }
 
 // What the checks of a side found: the first refusal, or whom the side names, and whether its legacy attributes have a value of the kinds of applications.
-#[derive(Drop)]
+#[derive(Clone, Copy)]
 pub enum SideChecked {
     Refused(Refusal),
     Accepted { names: Names, legacy: bool },
@@ -95,7 +95,7 @@ pub fn refuse(number: u8, run: Run, at: usize) -> Checking
 }
 
 // Where a value is looked for.
-#[derive(Drop)]
+#[derive(Clone, Copy)]
 pub enum Rule {
     // legacy, since an advertisement names the application with L
     ByL,

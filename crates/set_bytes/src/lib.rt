@@ -19,7 +19,7 @@ use grids::Row;
 use kinds::Kind;
 
 // The SRLGs of a class, by how many there are.
-#[derive(Drop)]
+#[derive(Clone, Copy)]
 pub enum Numbers {
     Present(usize),
     Absent,

@@ -18,7 +18,7 @@ use rules::{Names, Rule};
 use srlg_table::Used;
 
 // The classes of the general set and of RSVP-TE, and how many classes there are.
-#[derive(Drop)]
+#[derive(Clone, Copy)]
 pub struct Classes {
     pub general: usize,
     pub rsvp: usize,
@@ -50,7 +50,7 @@ fn give_both(standard: u64, user: u64, c: u8, own: &mut [[u8; 2]; 128])
 }
 
 // The classes of legacy and of general values, and how many classes there are then.
-#[derive(Drop)]
+#[derive(Clone, Copy)]
 struct First {
     legacy: usize,
     general: usize,

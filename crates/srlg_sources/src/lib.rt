@@ -11,7 +11,7 @@ ghost use Rattle.srlg_sources.specs.Classes.{in_class, has_source};
 ghost use Rattle.srlg_sources.specs.Sources.{Small, key_of, in_rows, source_row, Marked, Ranked, Ordered, InRows, in_some};
 
 // How many keys there are, and how many sources.
-#[derive(Drop)]
+#[derive(Clone, Copy)]
 pub struct Keys {
     pub count: usize,
     pub sources: usize,

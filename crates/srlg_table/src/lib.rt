@@ -120,7 +120,7 @@ pub fn blocks_of(
 }
 
 // How many words of bits are used, and how many sources there are.
-#[derive(Drop)]
+#[derive(Clone, Copy)]
 pub struct Used {
     pub words: usize,
     pub sources: usize,

@@ -155,7 +155,7 @@ pub fn value_run(r: &[u8], whom: Subject, code: usize) -> Words
 }
 
 // A status with the four numbers of its reply.
-#[derive(Drop)]
+#[derive(Clone, Copy)]
 pub struct Words {
     pub status: u64,
     pub reply: [u64; 4],
