@@ -1,5 +1,5 @@
 -- The reply of a value by its place and length in the run: "row" is the pair of them, place 0 where the kind is absent.
-use Rattle.std.specs.Prelude.{◌≡◌, Bool, cond, List, ℕ, ◌+◌, ◌≤◌, eqb, length}
+use Rattle.std.specs.Prelude.{◌≡◌, cond, List, ℕ, ◌+◌, ◌≤◌, eqb}
 use Rattle.linkstate.specs.Kinds.{Form, form_of}
 use Rattle.linkstate.specs.Replies.{Place, Reply, absent, found}
 use Rattle.linkstate.specs.Attributes.{reading_as}

@@ -17,7 +17,7 @@ use Rattle.masks.specs.Sets.{in_sent}
 use Rattle.masks.specs.declared.Applications.{Applications}
 use Rattle.masks.proofs.Laws.{size_same, mask-same}
 use Rattle.tlv_bytes.specs.Tlvs.{in_tlvs, Wrote}
-use Rattle.tlv_bytes.proofs.Laws.{tlvs-same, same_write, behind-room, behind-write}
+use Rattle.tlv_bytes.proofs.Laws.{tlvs-same, same_write, behind-write}
 use Rattle.tlv_bytes.specs.Fronts.{front_size, asla_front}
 
 -- ---- pieces

@@ -1,5 +1,5 @@
 -- What stands before the set of an ASLA TLV (rules L4, L5).
-use Rattle.std.specs.Prelude.{List, [], ◌∷◌, ◌++◌, ℕ, ◌+◌, length}
+use Rattle.std.specs.Prelude.{List, [], ◌∷◌, ◌++◌, ℕ, ◌+◌}
 use Rattle.linkstate.specs.Bytes.{two}
 use Rattle.linkstate.specs.Masks.{mask_size, mask}
 use Rattle.masks.specs.Sets.{in_sent}
