@@ -4,19 +4,18 @@ use mathlib.Core.Path.{◌≡◌, refl, sym, ◌∙◌, ap}
 use mathlib.Core.Bool.{Bool, true, false, cond, ◌&&◌}
 use mathlib.Core.List.{List, [], ◌∷◌, ◌++◌, map}
 use lib.Dec.{eqb}
-use lib.ListN.{length, get_or, set, drop, length-set, drop_of_length-le}
+use lib.ListN.{length, get_or, set, drop, drop_of_length-le}
 use lib.Seq.{drop-cons, get_or-set_same, get_or-set_other, ext_get_or}
 use native.Mathlib.Omega.{arith}
 use native.Mathlib.Numerals.{add-one}
-use borrow.Author.Tests.{eq-eqb, ne_eqb, eqb-true, eqb-false}
+use borrow.Author.Tests.{eq-eqb, eqb-true, eqb-false}
 use Rattle.linkstate.specs.Lists.{numbers, same_bytes, same_rows}
-use Rattle.linkstate.specs.Bytes.{bytes_at, words, bytes_of_words}
-use Rattle.linkstate.specs.Meaning.{row}
+use Rattle.linkstate.specs.Bytes.{bytes_at}
 use Rattle.linkstate.proofs.ListLaws.{and_l, and_r}
 use Rattle.kinds.specs.Rules.{grid_codes, row_in}
 use Rattle.kinds.proofs.Computing.{computing}
 use Rattle.masks.proofs.Laws.{below_suc}
-use Rattle.octets.proofs.Laws.{same-complete, same-lengths, length-bytes_at}
+use Rattle.octets.proofs.Laws.{same-lengths}
 use Rattle.tlv_bytes.specs.Tlvs.{front, value_at}
 use Rattle.tlv_bytes.proofs.Laws.{length-value, value_none, front-three, front-none}
 use Rattle.grids.specs.Grids.{row_value, grid_value, RowFits, Alike, row_read}

@@ -1,21 +1,16 @@
 -- Elements that stood before: what a look at them finds, and one turn of a loop that checks a list in which no known type stands twice. Assumes nothing.
 use mathlib.Core.Path.{◌≡◌, refl, sym, ap, ◌∙◌}
-use mathlib.Core.Bool.{Bool, true, false, cond, ◌&&◌, ◌||◌, or-true, false≢true}
-use mathlib.Core.List.{List, [], ◌∷◌, ◌++◌}
+use mathlib.Core.Bool.{Bool, true, false, ◌||◌, or-true, false≢true}
+use mathlib.Core.List.{List, [], ◌∷◌}
 use Prim.Native.Nat.{ℕ, ◌+◌, ◌%◌, ◌≤◌, ◌<◌}
 use native.Mathlib.Omega.{arith}
 use borrow.Author.Tests.{eq-eqb, ne_eqb, eqb-true}
 use lib.Dec.{eqb}
-use lib.ListN.{length, drop, get_or}
+use lib.ListN.{length, get_or}
 use Rattle.linkstate.specs.Lists.{member}
 use Rattle.linkstate.specs.Masks.{in_number}
 use Rattle.linkstate.specs.Bytes.{number, bytes_at}
-use Rattle.linkstate.specs.Replies.{Run, Verdict, accepted, refused, Refusal, fault, ◌then◌}
-use Rattle.linkstate.specs.Elements.{Element, element, cut, elements, faults_once}
-use Rattle.linkstate.proofs.WalkLaws.{left, type_at, length_at, length-one, length_two, then-passed, then-refused}
-use Rattle.frames.specs.declared.Frame.TheVariants.{End, Cut}
-use Rattle.frames.specs.Frames.{frame_in}
-use Rattle.frames.proofs.Laws.{IsWhole, end-left, cut_left, whole-left}
+use Rattle.linkstate.proofs.WalkLaws.{type_at, length_at, length-one, length_two}
 use Rattle.repeats.specs.Walked.{Walked, Remembers}
 
 -- ---- a look at the elements before

@@ -1,22 +1,20 @@
 -- One turn of a loop that checks a list in which no known type stands twice, over w, the number of bytes of a type and of a length. Assumes nothing.
-use mathlib.Core.Path.{◌≡◌, refl, sym, ap, ap₂, ◌∙◌}
+use mathlib.Core.Path.{◌≡◌, refl, sym, ap, ◌∙◌}
 use mathlib.Core.Bool.{Bool, true, false, cond, ◌&&◌, ◌||◌, and-false, false≢true}
 use mathlib.Core.List.{List, [], ◌∷◌, ◌++◌}
-use Prim.Native.Nat.{ℕ, ◌+◌, ◌%◌, ◌≤◌, ◌<◌}
-use native.Mathlib.Omega.{arith}
+use Prim.Native.Nat.{ℕ, ◌+◌, ◌%◌, ◌<◌}
 use lib.Dec.{eqb}
-use lib.ListN.{length}
 use Rattle.linkstate.specs.Lists.{member}
 use Rattle.linkstate.specs.Masks.{in_number}
 use Rattle.linkstate.specs.Bytes.{bytes_at}
 use Rattle.linkstate.specs.Replies.{Run, Verdict, accepted, refused, Refusal, refusal_at, fault, ◌then◌}
-use Rattle.linkstate.specs.Elements.{Element, element, cut, faults_once}
-use Rattle.linkstate.proofs.WalkLaws.{left, type_at, length_at, then-passed, then-refused}
+use Rattle.linkstate.specs.Elements.{faults_once}
+use Rattle.linkstate.proofs.WalkLaws.{left, length_at, then-passed, then-refused}
 use Rattle.frames.specs.declared.Frame.TheVariants.{End, Cut}
 use Rattle.frames.specs.Frames.{frame_in}
 use Rattle.frames.proofs.Laws.{IsWhole, end-left, cut_left, whole-left}
 use Rattle.repeats.specs.Walked.{Walked, Remembers}
-use Rattle.repeats.proofs.Laws.{member-head, member-tail, member-none}
+use Rattle.repeats.proofs.Laws.{member-none}
 
 -- One element more has stood.
 walked_more : (w : ℕ) (s : List ℕ) (at t n : ℕ) → IsWhole w s at t n → (from : ℕ) (ts : List ℕ) → Walked w s at from ts → Walked w s (at + (w + w) + n) from (ts ++ (t ∷ []))

@@ -10,8 +10,7 @@ use Rattle.linkstate.proofs.ListLaws.{any_append}
 use Rattle.rules.specs.declared.Names.{Names}
 use Rattle.linkstate.specs.Replies.{Verdict}
 use Rattle.rules.specs.declared.Checking.{Checking}
-use Rattle.rules.specs.declared.Checking.TheVariants.{Refused, Accepted}
-use Rattle.rules.specs.Names.{advertised, Tells, Adds, Joins, told_checking, Checks, ChecksBehind}
+use Rattle.rules.specs.Names.{advertised, Tells, Adds, Joins, Checks, ChecksBehind}
 use Rattle.masks.specs.declared.Applications.{Applications}
 use Rattle.masks.specs.Applications.{in_set, at_place}
 use Rattle.masks.proofs.Sets.{set-by, set-none, masks-alone}
