@@ -1,7 +1,7 @@
 -- Why a rival names each application in exactly one ASLA TLV: without that, the export would not be the shortest. Here SR Policy and LFA share a long extended
 -- group and differ in their metric; a run that names both once for the group, and each once more for its metric, has the link's meaning in fewer bytes.
-use mathlib.Core.Path.{◌≡◌, refl, ap}
-use mathlib.Core.Bool.{Bool, true, false, cond, ◌||◌}
+use mathlib.Core.Path.{◌≡◌, refl}
+use mathlib.Core.Bool.{Bool, true, false, ◌||◌}
 use mathlib.Core.List.{List, [], ◌∷◌, ◌++◌, map}
 use Prim.Native.Nat.{ℕ, ◌<◌}
 use native.Mathlib.Omega.{arith}

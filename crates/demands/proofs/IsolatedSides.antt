@@ -4,7 +4,7 @@ use mathlib.Core.Path.{◌≡◌, refl, sym, ap, ap₂, ◌∙◌, subst}
 use mathlib.Core.Bool.{Bool, true, false, cond, ◌&&◌, ◌||◌, not}
 use mathlib.Core.List.{List, [], ◌∷◌, ◌++◌, Memᴰ}
 use Prim.Native.Nat.{ℕ}
-use borrow.Author.Tests.{eqb-true, not-true, eqb-false}
+use borrow.Author.Tests.{eqb-true, not-true}
 use lib.Dec.{eqb}
 use Rattle.linkstate.specs.Lists.{keep, any, all, each, empty, member}
 use Rattle.linkstate.specs.Bytes.{words, distinct, bytes_of_words}
@@ -86,6 +86,8 @@ module _ (b : ℕ) (p : Advertisement → Bool) (f : OfMasks p) where
   any_same : (ds es : List Advertisement) → Pairwise (Altered b) ds es → any p ds ≡ any p es
   unfolding any
   any_same [] [] none = refl
+  any_same [] (e ∷ es) q = elim q [ ]
+  any_same (d ∷ ds) [] q = elim q [ ]
   any_same (d ∷ ds) (e ∷ es) (more h r) = ap₂ ◌||◌ (one d e h) (any_same ds es r)
     where
       one : (d e : Advertisement) → Altered b d e → p d ≡ p e
@@ -97,6 +99,8 @@ module _ (b : ℕ) (p : Advertisement → Bool) (f : OfMasks p) where
       → (ds es : List Advertisement) → Pairwise (Altered b) ds es → chosen p ds ≡ chosen p es
   unfolding chosen each keep
   chosen-same g [] [] none = refl
+  chosen-same g [] (e ∷ es) q = elim q [ ]
+  chosen-same g (d ∷ ds) [] q = elim q [ ]
   chosen-same g (d ∷ ds) (e ∷ es) (more h r) = chosen_more p d ds ∙ go d e h (chosen-same g ds es r) ∙ sym (chosen_more p e es)
     where
       go : (d e : Advertisement) → Altered b d e → chosen p ds ≡ chosen p es
@@ -108,6 +112,8 @@ module _ (b : ℕ) (p : Advertisement → Bool) (f : OfMasks p) where
   others_same : (k : ℕ) → member k application_codes ≡ false → (ds es : List Advertisement) → Pairwise (Altered b) ds es → of_kind k (chosen p ds) ≡ of_kind k (chosen p es)
   unfolding chosen each keep
   others_same k m [] [] none = refl
+  others_same k m [] (e ∷ es) q = elim q [ ]
+  others_same k m (d ∷ ds) [] q = elim q [ ]
   others_same k m (d ∷ ds) (e ∷ es) (more h r) = ap (of_kind k) (chosen_more p d ds) ∙ go d e h (others_same k m ds es r) ∙ ap (of_kind k) (sym (chosen_more p e es))
     where
       by : (c : Bool) (ts us : List Attribute) → of_kind k ts ≡ of_kind k us → of_kind k (chosen p ds) ≡ of_kind k (chosen p es)

@@ -1,26 +1,26 @@
 -- E9, of links: what is signed in specs/Isolation.antt, from the laws over two sides. Assumes nothing.
 use mathlib.Core.Path.{◌≡◌, refl, sym, ap, ap₂, ◌∙◌, subst}
-use mathlib.Core.Bool.{Bool, true, false, cond, ◌&&◌, ◌||◌, not, false≢true}
+use mathlib.Core.Bool.{Bool, true, false, cond, ◌&&◌, not, false≢true}
 use mathlib.Core.List.{List, [], ◌∷◌, ◌++◌, Memᴰ}
 use Prim.Native.Nat.{ℕ, zero, suc, ◌+◌, ◌%◌, ◌≤◌, ◌<◌}
 use native.Mathlib.Omega.{arith}
-use borrow.Author.Tests.{eqb-true, ne_eqb, not-true}
+use borrow.Author.Tests.{eqb-true, not-true}
 use lib.Dec.{eqb, leb}
-use lib.ListN.{length, take, drop, get_or}
-use lib.Seq.{get_or-take, take-take, take-nil, drop-nil}
+use lib.ListN.{take, drop, get_or}
+use lib.Seq.{get_or-take, take-take, take-nil}
 use Rattle.linkstate.specs.Lists.{keep, all, each, member}
 use Rattle.linkstate.specs.Bytes.{words, distinct}
-use Rattle.linkstate.specs.Kinds.{codes, link_codes, application_codes, is_code, is_link_code}
+use Rattle.linkstate.specs.Kinds.{link_codes, application_codes, is_code}
 use Rattle.linkstate.specs.Masks.{user}
 use Rattle.linkstate.specs.Replies.{Place, Verdict, Asked, ask_refused, fault, fault_of_call, refused_if, ◌then◌, unless}
-use Rattle.linkstate.specs.Elements.{Element, element, cut, elements}
+use Rattle.linkstate.specs.Elements.{Element, elements}
 use Rattle.linkstate.specs.Attributes.{Attribute, attribute, of_kind, srlgs, value_of}
 use Rattle.linkstate.specs.Sides.{names, application_set, rsvp_te_kind}
 use Rattle.linkstate.specs.Questions.{Source, Subject, generally, standard_no, user_no, number_too_high, set_of, given, before_answer, first_of, unwritten, srlg_answer, answer, ask, value}
 use Rattle.linkstate.specs.Meaning.{meaning, row, Accepted}
-use Rattle.linkstate.proofs.ListLaws.{and_l, and_r, or_l, or_r, all-mem, map-ext, member-mem, mem-member}
+use Rattle.linkstate.proofs.ListLaws.{and_l, and_r, all-mem, map-ext, member-mem}
 use Rattle.linkstate.proofs.Computing.{computing}
-use Rattle.isis.specs.Types.{type_in_a, types, has_type, code_of_type}
+use Rattle.isis.specs.Types.{code_of_type}
 use Rattle.isis.specs.MaskHeader.{l_flag, sabm_length, udabm_length, header_length, mask_too_long, l_for_nobody, advertisement}
 use Rattle.isis.specs.RunA.{list_elements, attributes_of, live_asla, asla_advertisements, side_a}
 use Rattle.isis.specs.RunB.{side_b}
@@ -30,7 +30,7 @@ use Rattle.rivals.specs.Reads.{meant}
 use Rattle.rivals.proofs.KindLaws.{application-code, link-code}
 use Rattle.rivals.proofs.SourceReads.{meant-given}
 use Rattle.demands.specs.Demands.{in_a}
-use Rattle.demands.specs.Isolation.{Pairwise, none, more, SameButValue, same, other_value, NamesAlone, ChangedFor, unchanged, changed, IsAbout, Isolated, Isolation}
+use Rattle.demands.specs.Isolation.{Pairwise, none, more, SameButValue, same, other_value, ChangedFor, unchanged, changed, IsAbout, Isolated, Isolation}
 use Rattle.demands.proofs.LinkReads.{unnamed, link-answers}
 use Rattle.demands.proofs.IsolatedSides.{not-zero, kind-joined, value_same, with, SameOthers, Altered, unaltered, altered, AlikeBut, general-same, application-same, rsvp_te-same, bandwidth-same}
 
@@ -79,6 +79,8 @@ module _ (v w : List ℕ) (e : take (header_length v) v ≡ take (header_length 
 kinds-same : (es fs : List Element) → Pairwise SameButValue es fs → SameOthers (each attributes_of es) (each attributes_of fs)
 unfolding keep each of_kind attributes_of attribute
 kinds-same [] [] none k m = refl
+kinds-same [] (f ∷ fs) p k m = elim p [ ]
+kinds-same (e ∷ es) [] p k m = elim p [ ]
 kinds-same (e ∷ es) (f ∷ fs) (more h r) k m = kind-joined k (attributes_of e) (attributes_of f) _ _ (one e f h) (kinds-same es fs r k m)
   where
     one : (e f : Element) → SameButValue e f → of_kind k (attributes_of e) ≡ of_kind k (attributes_of f)
@@ -97,6 +99,8 @@ asla-code = refl
 legacy-same : (b : ℕ) (es fs : List Element) → Pairwise (ChangedFor b) es fs → (k : ℕ) → eqb k 0 ≡ false → of_kind k (each attributes_of es) ≡ of_kind k (each attributes_of fs)
 unfolding keep each of_kind attributes_of attribute
 legacy-same b [] [] none k z = refl
+legacy-same b [] (f ∷ fs) p k z = elim p [ ]
+legacy-same b (e ∷ es) [] p k z = elim p [ ]
 legacy-same b (e ∷ es) (f ∷ fs) (more h r) k z = kind-joined k (attributes_of e) (attributes_of f) _ _ (one e f h) (legacy-same b es fs r k z)
   where
     one : (e f : Element) → ChangedFor b e f → of_kind k (attributes_of e) ≡ of_kind k (attributes_of f)
@@ -110,6 +114,8 @@ beside R i (x ∷ xs) ys zs p = more (i x) (beside R i xs ys zs p)
 live_alike : (b : ℕ) (es fs : List Element) → Pairwise (ChangedFor b) es fs → Pairwise (Altered b) (each asla_advertisements es) (each asla_advertisements fs)
 unfolding each asla_advertisements names
 live_alike b [] [] none = none
+live_alike b [] (f ∷ fs) p = elim p [ ]
+live_alike b (e ∷ es) [] p = elim p [ ]
 live_alike b (e ∷ es) (f ∷ fs) (more h r) = one e f h (live_alike b es fs r)
   where
     one : (e f : Element) → ChangedFor b e f → Pairwise (Altered b) (each asla_advertisements es) (each asla_advertisements fs)

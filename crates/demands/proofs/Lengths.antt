@@ -1,9 +1,9 @@
 -- A length that is right in run A is right in BGP-LS: one test over the rows of the table, computed, gives it for every type.
 -- `limit` is the most bytes that a kind's TLV has in the export of an IS-IS link. Assumes nothing.
-use mathlib.Core.Path.{◌≡◌, refl, sym, ap, ◌∙◌, subst}
+use mathlib.Core.Path.{◌≡◌, refl, sym, ap, ◌∙◌}
 use mathlib.Core.Logic.{◌⊎◌, inl, inr}
 use mathlib.Core.Bool.{Bool, true, false, cond, ◌&&◌, not, false≢true}
-use mathlib.Core.List.{List, ◌∷◌, map, Memᴰ}
+use mathlib.Core.List.{List, [], ◌∷◌, map, Memᴰ}
 use Prim.Native.Nat.{ℕ, suc, ◌+◌, ◌*◌, ◌%◌, ◌≤◌, zero-le}
 use native.Mathlib.Omega.{arith}
 use borrow.Author.Tests.{leb-true, le-leb, eqb-true, eq-eqb, not-true, not-false}
@@ -69,6 +69,7 @@ elsewhere x qs h q i e =
 
 one-row : (qs : List Kind) → different (map (λ q. q.code) qs) ≡ true → (q r : Kind) → Memᴰ q qs → Memᴰ r qs → q.code ≡ r.code → r ≡ q
 unfolding different
+one-row [] h q r m n c = elim m [ ]
 one-row (x ∷ qs) h q r (Memᴰ.head d) (Memᴰ.head e) c = e ∙ sym d
 one-row (x ∷ qs) h q r (Memᴰ.head d) (Memᴰ.tail j) c = absurd (elsewhere x qs h r j (sym (ap (λ (y : Kind). y.code) d) ∙ c))
 one-row (x ∷ qs) h q r (Memᴰ.tail i) (Memᴰ.head e) c = absurd (elsewhere x qs h q i (sym (ap (λ (y : Kind). y.code) e) ∙ sym c))

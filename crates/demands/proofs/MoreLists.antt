@@ -23,6 +23,7 @@ module _ {A : Type 0} where
 
   pub any_false : (p : A → Bool) {x : A} (xs : List A) → any p xs ≡ false → Memᴰ x xs → p x ≡ false
   unfolding any
+  any_false p [] h m = elim m [ ]
   any_false p (y ∷ xs) h (Memᴰ.head e) = ap p e ∙ or_l (p y) (any p xs) h
   any_false p (y ∷ xs) h (Memᴰ.tail k) = any_false p xs (or_r (p y) (any p xs) h) k
 

@@ -2,12 +2,12 @@
 use mathlib.Core.Path.{◌≡◌, refl, sym, ap, ◌∙◌, subst}
 use mathlib.Core.Bool.{Bool, true, false, cond, ◌&&◌, ◌||◌, not, false≢true}
 use mathlib.Core.List.{List, [], ◌∷◌}
-use Prim.Native.Nat.{ℕ, ◌+◌, ◌-◌, ◌≤◌, ◌<◌}
+use Prim.Native.Nat.{ℕ}
 use native.Mathlib.Omega.{arith}
 use borrow.Author.Tests.{eqb-true, ne_eqb}
 use lib.Dec.{eqb}
 use Rattle.linkstate.specs.Lists.{any, all, lookup}
-use Rattle.linkstate.specs.Kinds.{Kind, kinds, fits, has_code, is_code}
+use Rattle.linkstate.specs.Kinds.{kinds, fits, has_code, is_code}
 use Rattle.linkstate.proofs.ListLaws.{and_l, and_r, any-mem, all-mem}
 use Rattle.isis.specs.Types.{TypeInA, types, has_type, code_of_type, wrong_in_a}
 use Rattle.isis.proofs.Computing.{computing}

@@ -7,7 +7,7 @@ use lib.Dec.{eqb}
 use lib.ListN.{length, replicate}
 use Rattle.linkstate.specs.Lists.{keep}
 use Rattle.linkstate.specs.Kinds.{codes}
-use Rattle.linkstate.specs.Replies.{Verdict, accepted, fault, fault_of_call, run_a, run_b, Reply, absent, found, whole, count, ask_refused, refusal_at, listed}
+use Rattle.linkstate.specs.Replies.{accepted, fault, fault_of_call, run_a, run_b, Reply, absent, found, whole, count, ask_refused, refusal_at, listed}
 use Rattle.linkstate.specs.Questions.{Subject, generally, standard_no, user_no, ask, value, list_named}
 use Rattle.linkstate.specs.Meaning.{meaning}
 use Rattle.linkstate.specs.Export.{export}

@@ -1,5 +1,5 @@
 -- One IS-IS link, the runs A, B and C (rules I1 to I5): what it is refused for, what questions to it find, and its export.
-use Rattle.std.specs.Prelude.{Bool, cond, ◌&&◌, ◌||◌, not, List, ℕ, ◌%◌, ltb, eqb, length}
+use Rattle.std.specs.Prelude.{cond, ◌&&◌, ◌||◌, not, List, ℕ, ◌%◌, ltb, eqb, length}
 use Rattle.linkstate.specs.Lists.{member}
 use Rattle.linkstate.specs.Limits.{most_in_ab, most_in_c}
 use Rattle.linkstate.specs.Masks.{others}
@@ -7,7 +7,7 @@ use Rattle.linkstate.specs.Replies.{place, Verdict, refused_if, ◌then◌, run_
 use Rattle.linkstate.specs.Elements.{elements, faults}
 use Rattle.linkstate.specs.Sides.{Side, named, general_set, application_set, rsvp_te_kind, bandwidth_kind}
 use Rattle.linkstate.specs.Questions.{Source, write}
-use Rattle.linkstate.specs.Meaning.{Meaning, meaning}
+use Rattle.linkstate.specs.Meaning.{meaning}
 use Rattle.linkstate.specs.Export.{export}
 use Rattle.isis.specs.RunA.{check_a, side_a}
 use Rattle.isis.specs.RunB.{check_b, side_b}

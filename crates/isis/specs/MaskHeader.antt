@@ -1,6 +1,6 @@
 -- The L-flag, the two mask lengths and the two masks, as an ASLA sub-TLV and a TLV 238 both have them (rules A2, B2; RFC 8919 section 4.1).
 -- In every definition v begins at the byte with the L-flag.
-use Rattle.std.specs.Prelude.{Bool, cond, ◌&&◌, ◌||◌, List, [], ◌∷◌, ℕ, ◌+◌, ◌%◌, leb, ltb, eqb, take, drop, get_or}
+use Rattle.std.specs.Prelude.{Bool, cond, ◌&&◌, ◌||◌, List, [], ℕ, ◌+◌, ◌%◌, leb, ltb, eqb, take, drop, get_or}
 use Rattle.linkstate.specs.Limits.{most_mask}
 use Rattle.linkstate.specs.Attributes.{Attribute}
 use Rattle.linkstate.specs.Sides.{Advertisement}

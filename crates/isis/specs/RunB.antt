@@ -1,6 +1,6 @@
 -- Document 01, "Advertisements in B" (rules B1 to B4): whole TLVs 238, Application-Specific SRLG (RFC 8919 section 4.3), and the legacy values of run C.
-use Rattle.std.specs.Prelude.{Bool, true, false, cond, ◌&&◌, ◌||◌, not, List, [], ◌∷◌, ℕ, ◌+◌, ◌%◌, ltb, eqb, length, take, drop, get_or}
-use Rattle.linkstate.specs.Lists.{each, any, count, lookup}
+use Rattle.std.specs.Prelude.{Bool, false, cond, ◌&&◌, ◌||◌, not, List, [], ◌∷◌, ℕ, ◌+◌, ◌%◌, ltb, eqb, length, take, drop, get_or}
+use Rattle.linkstate.specs.Lists.{each, any, count}
 use Rattle.linkstate.specs.Replies.{Verdict, accepted, fault, ◌then◌, run_b}
 use Rattle.linkstate.specs.Elements.{Element, element, cut, elements, faults}
 use Rattle.linkstate.specs.Attributes.{Attribute}

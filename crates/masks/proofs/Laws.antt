@@ -3,7 +3,7 @@
 use mathlib.Core.Path.{◌≡◌, refl, sym, ap, ◌∙◌}
 use mathlib.Core.Logic.{◌⊎◌, inl, inr, ⊎_elim}
 use mathlib.Core.Bool.{Bool, true, false, cond, false≢true}
-use mathlib.Core.List.{List, ◌∷◌, map}
+use mathlib.Core.List.{List, ◌∷◌}
 use Prim.Native.Nat.{ℕ, zero, suc, ◌+◌, ◌-◌, ◌*◌, ◌/◌, ◌%◌, ◌^◌, ◌≤◌, ◌<◌, zero-le}
 use native.Mathlib.Nat.{pow-suc, add-zero, mul_assoc, add_comm, add-mul-div_right, zero-div, mod-eq_of_lt}
 use native.Mathlib.Numerals.{add-one}
@@ -12,12 +12,12 @@ use borrow.Author.Tests.{ltb-true, ltb-false}
 use lib.Dec.{eqb, ltb}
 use lib.Pow.{pow-add, pow_pos, high, mod-pow-add}
 use lib.Bits.{shifted_even}
-use lib.ListN.{length, take, drop, get_or, length-drop, length-map, get_or-eq_default}
+use lib.ListN.{length, take, drop, get_or, length-drop, get_or-eq_default}
 use lib.Seq.{ext_get_or, get_or-drop, get_or-take, length-take-le}
 use Rattle.linkstate.specs.Lists.{keep, numbers}
 use Rattle.linkstate.specs.Masks.{bit, one, powers_below, as_number, in_number, Last, none, last, last_below, bytes_to_hold, mask_size, mask_byte, mask}
 use Rattle.linkstate.proofs.ListLaws.{get_d-numbers}
-use Rattle.linkstate.proofs.MaskLaws.{one-le, ones, bit_byte, length-mask, bit_mask, powers-same, number_same}
+use Rattle.linkstate.proofs.MaskLaws.{ones, bit_byte, length-mask, bit_mask, powers-same, number_same}
 use Rattle.masks.specs.Sets.{IsNext}
 
 -- what holds of each number below k, and of k, holds of each below suc k

@@ -4,7 +4,6 @@ use mathlib.Core.Bool.{Bool, true, false, cond, ◌||◌, ◌&&◌, not, false�
 use mathlib.Core.List.{List, [], ◌∷◌, ◌++◌}
 use Prim.Native.Nat.{ℕ, zero, suc, ◌+◌, ◌-◌, ◌*◌, ◌/◌, ◌%◌, ◌^◌, ◌≤◌, ◌<◌, zero-le}
 use native.Mathlib.Nat.{pow-suc, mul_assoc, add_comm, zero-add, zero-div, div-eq_of_lt, div-eq_of_lt-le, le_trans, lt_of_lt_of_le, lt_irrefl, lt_of_not-le}
-use native.Mathlib.Numerals.{add-one}
 use native.Mathlib.Omega.{arith}
 use borrow.Author.Tests.{ltb-true, ltb-false, leb-true, leb-false, lt-ltb, le-ltb}
 use lib.Dec.{T, eqb, ltb, leb, eqb→eq, ltb→lt}
@@ -13,7 +12,7 @@ use lib.Pow.{pow_mono, pow-add, split, low, field, shr-shr, shr_lt, shl-shr}
 use lib.Bits.{bit_or, bit_and, bit_xor, or_shr, or_mod, and_shr, and_mod, xor_shr, xor_mod}
 use lib.Count.{count_leading_zeros, leading_top, count_trailing_zeros, under}
 use lib.ListN.{length, get_or, set, take, drop, length-drop, length-set}
-use lib.Seq.{drop-cons, drop-drop, drop-length, get_or-drop, length-take-le, paste, paste-suc, take-add, take_all, take-length}
+use lib.Seq.{drop-cons, drop-drop, drop-length, get_or-drop, length-take-le, take-add, take_all}
 use Rattle.linkstate.specs.Lists.{numbers, put}
 use Rattle.linkstate.specs.Masks.{bit, one, as_number, in_number, last, last_below, bytes_to_hold, mask_size, mask_byte, mask}
 use Rattle.masks.specs.Sets.{last_of, IsNext, little_endian, turned_place, in_sent, four_bytes, exchanged}

@@ -10,7 +10,7 @@ use lib.Dec.{eqb}
 use Rattle.linkstate.specs.Lists.{member}
 use Rattle.linkstate.specs.Kinds.{application_codes, link_codes, is_code, is_link_code}
 use Rattle.linkstate.specs.Masks.{user, others}
-use Rattle.linkstate.specs.Replies.{accepted, unless, listed}
+use Rattle.linkstate.specs.Replies.{unless, listed}
 use Rattle.linkstate.specs.Questions.{Subject, generally, standard_no, user_no, number_too_high, list_named}
 use Rattle.linkstate.specs.Meaning.{Meaning, meaning, row, Same}
 use Rattle.linkstate.specs.BgpLs.{run_source}

@@ -17,7 +17,7 @@ use Rattle.linkstate.specs.Replies.{run_bgp_ls, accepted, fault}
 use Rattle.linkstate.specs.Elements.{elements}
 use Rattle.linkstate.specs.Attributes.{Attribute, attribute, of_kind}
 use Rattle.linkstate.specs.Sides.{Advertisement, general, names, named, of_live, general_set, application_set}
-use Rattle.linkstate.specs.Questions.{Subject, generally, standard_no, user_no, number_too_high, set_of, given, value}
+use Rattle.linkstate.specs.Questions.{Subject, generally, standard_no, user_no, number_too_high, set_of, given}
 use Rattle.linkstate.specs.Meaning.{meaning, Accepted}
 use Rattle.linkstate.specs.BgpLs.{asla_header, inner_elements, check_inner, check_top, advertisement, attributes_of, aslas, top_level, run_side, run_source}
 use Rattle.linkstate.proofs.ElementLaws.{at-place, rest-place}

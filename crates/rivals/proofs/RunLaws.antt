@@ -5,7 +5,7 @@ use mathlib.Core.Logic.{◌⊎◌, inl, inr}
 use mathlib.Core.Bool.{Bool, true, false, cond, ◌&&◌, not}
 use mathlib.Core.List.Memᴰ
 use mathlib.Core.List.{List, [], ◌∷◌, ◌++◌, Memᴰ}
-use Prim.Native.Nat.{ℕ, ◌+◌, ◌-◌, ◌≤◌, zero-le}
+use Prim.Native.Nat.{ℕ, ◌+◌, ◌≤◌, zero-le}
 use native.Mathlib.Omega.{arith}
 use borrow.Author.Tests.{eqb-true, ltb-false}
 use lib.Dec.{eqb, ltb}
@@ -13,7 +13,7 @@ use lib.ListN.{length, drop, length-drop}
 use lib.Seq.{length-take-le}
 use Rattle.linkstate.specs.Lists.{each}
 use Rattle.linkstate.specs.Limits.{most_in_bgp_ls}
-use Rattle.linkstate.specs.Replies.{Run, run_bgp_ls, Verdict, accepted, fault, refused_if, ◌then◌}
+use Rattle.linkstate.specs.Replies.{Run, run_bgp_ls, Verdict, accepted, fault, refused_if}
 use Rattle.linkstate.specs.Elements.{Element, element, cut, elements, faults, faults_once}
 use Rattle.linkstate.specs.Attributes.{Attribute, attribute}
 use Rattle.linkstate.specs.Sides.{Advertisement, names, named, named_with_l, of_live, application_set}

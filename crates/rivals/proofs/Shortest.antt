@@ -13,7 +13,6 @@ use lib.ListN.{length}
 use Rattle.linkstate.specs.Lists.{keep, all, each, lookup, empty, member}
 use Rattle.linkstate.specs.Kinds.{codes, application_codes}
 use Rattle.linkstate.specs.Masks.{bit, user, in_masks, others, mask_size}
-use Rattle.linkstate.specs.Replies.{accepted}
 use Rattle.linkstate.specs.Elements.{elements}
 use Rattle.linkstate.specs.Attributes.{Attribute, value_of}
 use Rattle.linkstate.specs.Sides.{Advertisement, general, names, named, of_live, general_set}

@@ -11,7 +11,7 @@ use lib.Dec.{ltb, eqb}
 use lib.ListN.{length, length-append, length-drop}
 use Rattle.linkstate.specs.Lists.{keep, each, empty}
 use Rattle.linkstate.specs.Bytes.{words, insert, distinct, four, bytes_of_words, two}
-use Rattle.linkstate.specs.Replies.{Run, Verdict, accepted, refused, Refusal, fault, ◌then◌}
+use Rattle.linkstate.specs.Replies.{Run, Verdict, accepted, refused, Refusal, fault}
 use Rattle.linkstate.specs.Elements.{Element, size_of, elements, faults}
 use Rattle.linkstate.specs.Attributes.{Attribute, attribute, of_kind, srlgs, first_value, value_of}
 use Rattle.linkstate.specs.BgpLs.{attributes_of}

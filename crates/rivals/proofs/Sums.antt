@@ -3,7 +3,7 @@
 use mathlib.Core.Path.{◌≡◌, refl, sym, ap}
 use mathlib.Core.Bool.{Bool, true, false, cond, not}
 use mathlib.Core.List.{List, [], ◌∷◌, ◌++◌, map, Memᴰ}
-use Prim.Native.Nat.{ℕ, zero, suc, ◌+◌, ◌*◌, ◌≤◌, zero-le}
+use Prim.Native.Nat.{ℕ, ◌+◌, ◌*◌, ◌≤◌, zero-le}
 use native.Mathlib.Nat.{le_refl, mul-suc}
 use native.Mathlib.Omega.{arith}
 use borrow.Author.Tests.{eqb-true, not-true}
@@ -76,11 +76,13 @@ module _ {A : Type 0} where
   unfolding sum_of
   sum_of-one w (y ∷ xs) (Memᴰ.head e) = rw (sym e) (omega arith)
   sum_of-one w (y ∷ xs) (Memᴰ.tail k) = omega (arith, sum_of-one w xs k)
+  sum_of-one w [] m = elim m [ ]
 
   pub sum_if-one : (p : A → Bool) (w : A → ℕ) {x : A} (xs : List A) → Memᴰ x xs → p x ≡ true → w x ≤ sum_if p w xs
   unfolding sum_if
   sum_if-one p w (y ∷ xs) (Memᴰ.head e) h = rw (sym e, h) (omega arith)
   sum_if-one p w (y ∷ xs) (Memᴰ.tail k) h = omega (arith, sum_if-one p w xs k h)
+  sum_if-one p w [] m h = elim m [ ]
 
   pub sum_if-mono : (p q : A → Bool) (w : A → ℕ) (xs : List A) → ((x : A) → p x ≡ true → q x ≡ true) → sum_if p w xs ≤ sum_if q w xs
   unfolding sum_if

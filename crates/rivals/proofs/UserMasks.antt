@@ -1,5 +1,5 @@
 -- No user mask of an export has 8 bytes (E12). Assumes nothing.
-use mathlib.Core.Path.{◌≡◌, refl, sym, ap, ◌∙◌}
+use mathlib.Core.Path.{◌≡◌, refl}
 use mathlib.Core.Logic.{◌⊎◌, inl, inr}
 use mathlib.Core.Bool.{Bool, true, false, cond, false≢true}
 use mathlib.Core.List.Memᴰ
@@ -8,7 +8,6 @@ use Prim.Native.Nat.{ℕ, zero, suc, ◌+◌, ◌≤◌, ◌<◌, zero-le}
 use native.Mathlib.Omega.{arith}
 use borrow.Author.Tests.{ltb-true, lt-ltb}
 use lib.Dec.{eqb, ltb}
-use lib.ListN.{get_or}
 use Rattle.linkstate.specs.Lists.{keep, all, empty}
 use Rattle.linkstate.specs.Kinds.{codes}
 use Rattle.linkstate.specs.Masks.{user, others, last_below, bytes_to_hold, mask_size}
