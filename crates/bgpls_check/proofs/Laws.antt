@@ -1,18 +1,15 @@
 -- One law for each way in which a check of a BGP-LS run can go.
 use mathlib.Core.Path.{◌≡◌, refl, sym, ap, ap₂, ◌∙◌}
 use mathlib.Core.Bool.{Bool, true, false, ◌&&◌, ◌||◌, not, and-true, and-false, or-false}
-use mathlib.Core.List.{List, [], ◌∷◌}
+use mathlib.Core.List.{List, []}
 use Prim.Native.Nat.{ℕ, zero, suc, ◌+◌, ◌-◌, ◌%◌, ◌≤◌, ◌<◌}
 use native.Mathlib.Omega.{arith}
-use mathlib.Core.Logic.{⊎_elim}
-use types.Run.{OneOf}
-use denote.Enum.Declared.{tag_of}
 use borrow.Author.Tests.{lt-ltb, le-ltb, le-leb, lt-leb, eq-eqb, ne_eqb}
 use lib.Dec.{leb, eqb}
 use lib.ListN.{length, take, drop, length-drop}
 use lib.Seq.{take-length}
 use Rattle.linkstate.specs.Bytes.{bytes_at}
-use Rattle.linkstate.specs.Replies.{accepted, refusal_at, fault, fault_of_call, refused_if, ◌then◌, run_bgp_ls}
+use Rattle.linkstate.specs.Replies.{accepted, fault, fault_of_call, refused_if, ◌then◌, run_bgp_ls}
 use Rattle.linkstate.specs.Elements.{elements, faults, faults_once}
 use Rattle.linkstate.specs.Lists.{keep}
 use Rattle.linkstate.specs.Kinds.{kinds, fits, has_code, is_applications, wrong_inside, wrong_at_top}
@@ -24,7 +21,6 @@ use Rattle.kinds.specs.declared.Kind.{Kind}
 use Rattle.kinds.specs.declared.Kind.TheVariants.{Link, Application, Srlg, Asla, Unknown}
 use Rattle.kinds.specs.declared.Size.{Size}
 use Rattle.kinds.specs.declared.Rule.{Rule}
-use Rattle.kinds.specs.contracts.Kind.{the_type}
 use Rattle.kinds.specs.Rules.{rule_of_code, fits_in, wrong_inside_by, is_of_sets}
 use Rattle.kinds.proofs.Laws.{any-kept, wrong-inside, wrong-at-top, code-of-sets}
 
@@ -58,9 +54,9 @@ inside-by r c n k e f =
     wrong-inside c n ∙ ap (λ (q : Rule). wrong_inside_by q.kind q.size n) (sym e) ∙ ap (λ (q : Kind). wrong_inside_by q r.size n) f
 
 -- Of the five kinds only the first, one of the link's, is unknown there.
-pub inside-other : (k : Kind) (z : Size) (n : ℕ) → OneOf (1 ∷ 2 ∷ 3 ∷ 4 ∷ []) (tag_of the_type k) → not (fits_in z n) ≡ wrong_inside_by k z n
+pub inside-other : (k : Kind) (z : Size) (n : ℕ) → ((i : ℕ) → k ≡ Link i → ⊥) → not (fits_in z n) ≡ wrong_inside_by k z n
 unfolding wrong_inside_by
-inside-other (Link i) z n h = absurd (⊎_elim (λ e. omega arith) (λ g. ⊎_elim (λ e. omega arith) (λ f. ⊎_elim (λ e. omega arith) (λ e. omega arith) f) g) h)
+inside-other (Link i) z n h = absurd (h i refl)
 inside-other (Application i) z n h = refl
 inside-other Srlg z n h = refl
 inside-other Asla z n h = refl
@@ -91,13 +87,13 @@ pub known_by : (r : Rule) (c : ℕ) (k : Kind) → r ≡ rule_of_code c → r.ki
 unfolding known_inside
 known_by r c k e f = sym (code-of-sets c ∙ ap (λ (q : Rule). is_of_sets q.kind) (sym e) ∙ ap is_of_sets f)
 
-pub not-of-sets : (k : Kind) → OneOf (0 ∷ 3 ∷ 4 ∷ []) (tag_of the_type k) → false ≡ is_of_sets k
+pub not-of-sets : (k : Kind) → ((i : ℕ) → k ≡ Application i → ⊥) → (k ≡ Srlg → ⊥) → false ≡ is_of_sets k
 unfolding is_of_sets
-not-of-sets (Link i) h = refl
-not-of-sets (Application i) h = absurd (⊎_elim (λ e. omega arith) (λ g. ⊎_elim (λ e. omega arith) (λ e. omega arith) g) h)
-not-of-sets Srlg h = absurd (⊎_elim (λ e. omega arith) (λ g. ⊎_elim (λ e. omega arith) (λ e. omega arith) g) h)
-not-of-sets Asla h = refl
-not-of-sets Unknown h = refl
+not-of-sets (Link i) g h = refl
+not-of-sets (Application i) g h = absurd (g i refl)
+not-of-sets Srlg g h = absurd (h refl)
+not-of-sets Asla g h = refl
+not-of-sets Unknown g h = refl
 
 pub known-and : (k m b : Bool) → k ≡ true → b ≡ m → b ≡ k && m
 known-and k m b e h = rw e h

@@ -1,22 +1,19 @@
 -- Keys by their sources: joined, sorted, and of sources that have none. Assumes nothing.
-use Prim.Native.Nat.{ℕ, zero, suc, ◌+◌, ◌-◌, ◌*◌, ◌/◌, ◌%◌, ◌≤◌, ◌<◌, min}
+use Prim.Native.Nat.{ℕ, zero, suc, ◌-◌, ◌≤◌, ◌<◌, min}
 use mathlib.Core.Path.{◌≡◌, refl, sym, ◌∙◌, ap, ap₂}
-use mathlib.Core.Bool.{Bool, true, false, cond, ◌||◌, ◌&&◌, not, or-false}
+use mathlib.Core.Bool.{Bool, true, false, cond, ◌||◌, ◌&&◌, not}
 use mathlib.Core.List.{List, [], ◌∷◌, ◌++◌, map}
 use native.Mathlib.Omega.{arith}
 use native.Mathlib.Nat.{sub-zero}
-use borrow.Author.Tests.{eq-eqb, ne_eqb, lt-ltb, ltb-true, not-false}
+use borrow.Author.Tests.{ne_eqb, lt-ltb, ltb-true}
 use lib.Dec.{eqb, ltb}
 use lib.ListN.{length, get_or, take, drop, length-take}
 use lib.Seq.{take_at}
 use Rattle.linkstate.specs.Lists.{member, keep, count, all}
-use Rattle.linkstate.specs.Bytes.{distinct}
 use Rattle.linkstate.proofs.ListLaws.{map-append, keep_append, and_l, and_r, map-mem, mem-map, member-mem, mem-member, keep-mem}
-use Rattle.srlg.proofs.Laws.{Order, less, more, same, order}
 use Rattle.srlg_ranks.specs.Ranks.{in_words}
 use Rattle.key_sort.specs.Keys.{number, group, Climbs, Same, Sorted}
 use Rattle.key_sort.proofs.Groups.{same_length}
-use Rattle.key_sort.proofs.Orders.{same_numbers}
 use Rattle.srlg_sources.specs.Sources.{Small, key_of, source_of, in_rows, numbers_of, Ranked, Ordered}
 
 -- ---- joined

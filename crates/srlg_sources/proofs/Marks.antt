@@ -8,8 +8,7 @@ use borrow.Author.Tests.{eq-eqb, ne_eqb, ltb-true, ltb-false}
 use lib.Dec.{eqb, ltb}
 use lib.Bits.{bit_or}
 use lib.ListN.{length, get_or, set, length-set, get_or-eq_default}
-use lib.Seq.{get_or-set_same, get_or-set_other, set_out}
-use Rattle.linkstate.specs.Bytes.{words}
+use lib.Seq.{get_or-set_same, get_or-set_other}
 use Rattle.srlg.proofs.Laws.{Order, less, more, same, order}
 use Rattle.srlg_ranks.specs.Ranks.{in_words}
 use Rattle.srlg_ranks.proofs.Bits.{with_in}
