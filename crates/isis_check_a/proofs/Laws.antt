@@ -1,6 +1,5 @@
 -- The checks of run A, one law for each way in which one can go: an attribute and a list of them, the mask header, and an ASLA sub-TLV.
 use mathlib.Core.Path.{◌≡◌, refl, sym, ap, ◌∙◌, subst}
-use mathlib.Core.Logic.{◌⊎◌, inl, inr}
 use mathlib.Core.Bool.{Bool, true, false, cond, ◌&&◌}
 use mathlib.Core.List.{List, [], ◌∷◌}
 use Prim.Native.Nat.{ℕ, zero, suc, ◌+◌, ◌-◌, ◌≤◌, ◌<◌}
@@ -23,7 +22,6 @@ use Rattle.isis.specs.RunA.{list_elements, check_attribute, known_type, check_as
 use Rattle.isis_check_a.specs.declared.Header.{Header}
 use Rattle.isis_check_a.specs.declared.Masks.{Masks}
 use Rattle.isis_check_a.specs.Headers.{header_of, too_long, for_nobody, bytes_before, masks_in}
-use Rattle.isis_check_a.specs.declared.Masks.TheVariants as Masks
 pub use Rattle.frames.proofs.Laws.{part_length}
 
 -- ---- an attribute's length
@@ -197,16 +195,3 @@ module _ (at t : ℕ) (v : List ℕ) where
   pub sub-tlv-other : (t ≡ 16 → ⊥) → check_attribute at t v ≡ check_a at t v
   unfolding check_a
   sub-tlv-other n = rw (ne_eqb t 16 n)
-
--- ---- `p && q && r`, where i is what `p && q` gave
-
-abbrev pub Both : Bool → Bool → Bool → Type 0
-Both p q i = ((p ≡ true) × (i ≡ q)) ⊎ ((p ≡ false) × (i ≡ false))
-
-pub and-third : (p q r i : Bool) → Both p q i → i ≡ true → r ≡ p && q && r
-and-third p q r i (inl w) h = let e : q ≡ true = cc in rw (w.0, e)
-and-third p q r i (inr w) h = let z : ◌≡◌ {A = ℕ} 0 1 = cc in absurd (omega arith)
-
-pub and-less : (p q r i : Bool) → Both p q i → i ≡ false → i ≡ p && q && r
-and-less p q r i (inl w) h = let e : q ≡ false = cc in rw (w.0, e) h
-and-less p q r i (inr w) h = rw w.0 h

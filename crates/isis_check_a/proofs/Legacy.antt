@@ -1,7 +1,7 @@
 -- Whether a kind of applications stands outside the ASLA sub-TLVs of run A: by the types that a walk meets, and as the side's legacy attributes have it.
 use mathlib.Core.Path.{◌≡◌, refl, sym, ap, ap₂, ◌∙◌, subst}
 use mathlib.Core.Bool.{Bool, true, false, cond, ◌&&◌, ◌||◌, not, false≢true}
-use mathlib.Core.List.{List, [], ◌∷◌, ◌++◌, Memᴰ}
+use mathlib.Core.List.{List, [], ◌∷◌, Memᴰ}
 use Prim.Native.Nat.{ℕ, ◌+◌, ◌≤◌, ◌<◌}
 use native.Mathlib.Omega.{arith}
 use native.Mathlib.Nat.{zero-add}
@@ -15,9 +15,9 @@ use Rattle.linkstate.specs.Masks.{in_number}
 use Rattle.linkstate.specs.Replies.{accepted, fault, run_a}
 use Rattle.linkstate.specs.Elements.{Element, element, cut, elements, faults}
 use Rattle.linkstate.specs.Attributes.{Attribute, attribute, of_kind, srlgs, first_value, value_of}
-use Rattle.linkstate.specs.Sides.{Side, has_legacy}
+use Rattle.linkstate.specs.Sides.{has_legacy}
 use Rattle.linkstate.proofs.ListLaws.{and-false, all-mem, mem-numbers}
-use Rattle.linkstate.proofs.WalkLaws.{left, type_at, type-one, left_end, left-whole, then-first, then-second, not-accepted}
+use Rattle.linkstate.proofs.WalkLaws.{left, type-one, left_end, left-whole, then-first, then-second, not-accepted}
 use Rattle.frames.specs.declared.Frame.TheVariants as Frame
 use Rattle.frames.specs.Frames.{frame_in}
 use Rattle.frames.proofs.Laws.{IsWhole, frame-says}

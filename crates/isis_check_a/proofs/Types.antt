@@ -1,12 +1,7 @@
 -- What is tested of a type byte without its rule, computed for each of the 256. Assumes nothing.
 use mathlib.Core.Path.{◌≡◌, refl, sym, ap, ap₂, ◌∙◌}
-use mathlib.Core.Logic.{⊎_elim}
-use mathlib.Core.List.{[], ◌∷◌}
 use mathlib.Core.Bool.{Bool, true, false, ◌&&◌, ◌||◌, not, false≢true}
 use Prim.Native.Nat.{ℕ, ◌%◌, ◌<◌}
-use native.Mathlib.Omega.{arith}
-use types.Run.{OneOf}
-use denote.Enum.Declared.{tag_of}
 use borrow.Author.Tests.{eqb-true}
 use lib.Dec.{T, eqb}
 use Rattle.linkstate.specs.Masks.{in_number}
@@ -18,7 +13,6 @@ use Rattle.kinds.specs.declared.Kind.{Kind}
 use Rattle.kinds.specs.declared.Kind.TheVariants.{Link, Application, Srlg, Asla, Unknown}
 use Rattle.kinds.specs.declared.Rule.{Rule}
 use Rattle.kinds.specs.Rules.{is_known}
-use Rattle.kinds.specs.contracts.Kind.{the_type}
 use Rattle.isis_kinds.specs.Rules.{rule_of_type}
 use Rattle.isis_kinds.proofs.Computing.{computing}
 
@@ -41,13 +35,13 @@ known_by r t k h e f =
     ∙ agree (is_known (rule_of_type t).kind) (known_type t)
     (every-at (λ t. is_known (rule_of_type t).kind && known_type t || not (is_known (rule_of_type t).kind) && not (known_type t)) 256 tt t h)
 
-pub other-known : (k : Kind) → OneOf (0 ∷ 1 ∷ 2 ∷ []) (tag_of the_type k) → true ≡ is_known k
+pub other-known : (k : Kind) → (k ≡ Asla → ⊥) → (k ≡ Unknown → ⊥) → true ≡ is_known k
 unfolding is_known
-other-known (Link i) h = refl
-other-known (Application i) h = refl
-other-known Srlg h = refl
-other-known Asla h = absurd (⊎_elim (λ e. omega arith) (λ g. ⊎_elim (λ e. omega arith) (λ e. omega arith) g) h)
-other-known Unknown h = absurd (⊎_elim (λ e. omega arith) (λ g. ⊎_elim (λ e. omega arith) (λ e. omega arith) g) h)
+other-known (Link i) p q = refl
+other-known (Application i) p q = refl
+other-known Srlg p q = refl
+other-known Asla p q = absurd (p refl)
+other-known Unknown p q = absurd (q refl)
 
 -- The types whose bits are not set are right in four bytes.
 pub four-fits : (bits : ℕ) → T (every (λ t. in_number bits (t % 64) || not (wrong_in_a t 4)) 256) → (t n : ℕ) → t < 256 → n ≡ 4 → in_number bits (t % 64) ≡ false → false ≡ wrong_in_a t n

@@ -2,23 +2,19 @@
 use Prim.Native.Nat.{ℕ, zero, suc, ◌+◌, ◌-◌, ◌≤◌, ◌<◌}
 use mathlib.Core.Path.{◌≡◌, refl, sym, ◌∙◌, ap, ap₂}
 use mathlib.Core.Bool.{Bool, true, false, cond}
-use mathlib.Core.Logic.{⊎_elim}
 use mathlib.Core.List.{List, [], ◌∷◌, ◌++◌, map}
-use types.Run.{OneOf}
-use denote.Enum.Declared.{tag_of}
 use native.Mathlib.Omega.{arith}
 use lib.Dec.{eqb}
 use lib.ListN.{length, get_or, take, drop, length-append, take-append-drop}
 use Rattle.linkstate.specs.Kinds.{link_codes, application_codes}
 use Rattle.linkstate.specs.Export.{tlv, bytes_of}
 use Rattle.kinds.specs.declared.Kind.{Kind}
-use Rattle.kinds.specs.declared.Kind.TheVariants.{Link, Application, Srlg, Asla, Unknown}
+use Rattle.kinds.specs.declared.Kind.TheVariants.{Link, Application}
 use Rattle.kinds.specs.declared.Rule.{Rule}
-use Rattle.kinds.specs.contracts.Kind.{the_type}
 use Rattle.kinds.specs.Rules.{grid_codes, rule_of_code, row_in}
 use Rattle.kinds.proofs.Computing.{computing}
 use Rattle.tlv_bytes.specs.Tlvs.{in_tlvs, value_at, value_size, Wrote}
-use Rattle.tlv_bytes.proofs.Laws.{tlvs-none, tlvs-append, tlv-absent, tlv-present, tlvs-same, in_three, length-value, size-value, no_write, same-room, same_write, behind-room, behind-write, Three, length_three, first-room, second-room, third-room}
+use Rattle.tlv_bytes.proofs.Laws.{tlvs-none, tlvs-append, tlv-absent, tlv-present, tlvs-same, in_three, length-value, size-value, no_write, same_write, behind-room, behind-write, Three, length_three, first-room, third-room}
 use Rattle.grids.specs.Grids.{row_value, grid_value, set_of, bandwidth_of, top_of, RowFits, Fits, row_read}
 use Rattle.grids.specs.Slots.{link_rows, cell, cell_row}
 use Rattle.grids.specs.declared.Row.TheVariants.{Present, Absent}
@@ -83,19 +79,13 @@ module _ (r : Rule) (c : ℕ) (e : r ≡ rule_of_code c) where
   pub of-link : (k : ℕ) → r.kind ≡ Link k → Among link_codes c → Ruled link_codes r c k
   of-link = ruled link_codes (λ k. Link k) (λ i k z. cc) (λ k h. link-rule k (omega (arith, three-codes))) r c e
 
-  pub not-grid : OneOf (0 ∷ 2 ∷ 3 ∷ 4 ∷ []) (tag_of the_type r.kind) → Among grid_codes c → ⊥
+  pub not-grid : ((k : ℕ) → r.kind ≡ Application k → ⊥) → Among grid_codes c → ⊥
   not-grid h a =
-      go (rw (kind-is grid_codes (λ k. Application k) (λ i k z. cc) (λ k l. grid-rule k (omega (arith, ten))) r c e a) at h)
-    where
-      go : OneOf (0 ∷ 2 ∷ 3 ∷ 4 ∷ []) 1 → ⊥
-      go h = ⊎_elim (λ e. omega arith) (λ g. ⊎_elim (λ e. omega arith) (λ f. ⊎_elim (λ e. omega arith) (λ e. omega arith) f) g) h
+      h a.0 (kind-is grid_codes (λ k. Application k) (λ i k z. cc) (λ k l. grid-rule k (omega (arith, ten))) r c e a)
 
-  pub not-link : OneOf (1 ∷ 2 ∷ 3 ∷ 4 ∷ []) (tag_of the_type r.kind) → Among link_codes c → ⊥
+  pub not-link : ((k : ℕ) → r.kind ≡ Link k → ⊥) → Among link_codes c → ⊥
   not-link h a =
-      go (rw (kind-is link_codes (λ k. Link k) (λ i k z. cc) (λ k l. link-rule k (omega (arith, three-codes))) r c e a) at h)
-    where
-      go : OneOf (1 ∷ 2 ∷ 3 ∷ 4 ∷ []) 0 → ⊥
-      go h = ⊎_elim (λ e. omega arith) (λ g. ⊎_elim (λ e. omega arith) (λ f. ⊎_elim (λ e. omega arith) (λ e. omega arith) f) g) h
+      h a.0 (kind-is link_codes (λ k. Link k) (λ i k z. cc) (λ k l. link-rule k (omega (arith, three-codes))) r c e a)
 
 -- ---- the TLV of a kind, by its row
 
