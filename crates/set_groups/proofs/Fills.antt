@@ -1,13 +1,13 @@
 -- The table filled with the groups of all named applications: the next one, the table before and after it has joined. Assumes nothing.
 use mathlib.Core.Path.{◌≡◌, refl, sym, ◌∙◌, ap, subst}
-use mathlib.Core.Bool.{Bool, true, false, cond}
-use mathlib.Core.List.{List, [], ◌∷◌}
+use mathlib.Core.Bool.{Bool, true, false}
+use mathlib.Core.List.{List, []}
 use Prim.Native.Nat.{ℕ, suc, ◌+◌, ◌-◌, ◌≤◌, ◌<◌}
 use native.Mathlib.Omega.{arith}
 use borrow.Author.Tests.{ltb-true, ltb-false}
-use lib.Dec.{eqb, ltb}
+use lib.Dec.{ltb}
 use lib.ListN.{length, get_or, replicate, get_or-replicate}
-use Rattle.linkstate.specs.Lists.{numbers, keep}
+use Rattle.linkstate.specs.Lists.{numbers}
 use Rattle.linkstate.specs.Masks.{in_number}
 use Rattle.linkstate.specs.Meaning.{Meaning, row}
 use Rattle.masks.specs.Sets.{IsNext, turned_place}
@@ -18,8 +18,8 @@ use Rattle.masks.proofs.Sets.{place-low, place-user}
 use Rattle.srlg_sources.specs.Classes.{class_of}
 use Rattle.grids.specs.Grids.{set_of}
 use Rattle.grids.specs.Slots.{slot_grid, slot_of}
-use Rattle.set_groups.specs.Groups.{Group, join, groups_below}
-use Rattle.set_groups.specs.Table.{word, slot_in, class_in, bucket_in, Latest, Chained, table_groups, Differ, Joined, left, Named, Placed, Gives, Owned, Grouped, Filled}
+use Rattle.set_groups.specs.Groups.{join, groups_below}
+use Rattle.set_groups.specs.Table.{word, slot_in, class_in, bucket_in, Latest, Chained, table_groups, Joined, left, Named, Owned, Grouped, Filled}
 use Rattle.set_groups.proofs.Joined.{joins, skips}
 use Rattle.set_groups.proofs.Tlvs.{groups-start}
 

@@ -1,5 +1,5 @@
 -- A group's entry with a member more, and the applications of two masks that were turned.
-use Rattle.std.specs.Prelude.{Bool, cond, ◌||◌, List, [], ◌∷◌, ℕ, ◌-◌, eqb, ltb, get_or}
+use Rattle.std.specs.Prelude.{◌||◌, List, [], ◌∷◌, ℕ, eqb, get_or}
 use Rattle.linkstate.specs.Masks.{user, as_number, in_number}
 use Rattle.masks.specs.Sets.{turned_place}
 

@@ -1,5 +1,5 @@
 -- The table of groups, from entry 1 on: the two masks of its members as sent, and slot + 256 * class + 65536 * the last entry before it in its bucket, 0 where there is none.
-use Rattle.std.specs.Prelude.{◌≡◌, Bool, true, false, List, [], map, ℕ, suc, ◌+◌, ◌-◌, ◌/◌, ◌%◌, ◌≤◌, ◌<◌, length, get_or}
+use Rattle.std.specs.Prelude.{◌≡◌, Bool, true, false, List, [], map, ℕ, suc, ◌-◌, ◌/◌, ◌%◌, ◌≤◌, ◌<◌, length, get_or}
 use Rattle.std.specs.Int.Bits.{bit_xor}
 use Rattle.linkstate.specs.Lists.{numbers, keep}
 use Rattle.linkstate.specs.Meaning.{Meaning, row}

@@ -1,5 +1,5 @@
 -- A value for the slots of a mask's bits, one after the other. Assumes nothing.
-use Prim.Native.Nat.{ℕ, ◌+◌, ◌-◌, ◌*◌, ◌^◌, ◌≤◌, ◌<◌}
+use Prim.Native.Nat.{ℕ, ◌+◌, ◌-◌, ◌^◌, ◌<◌}
 use mathlib.Core.Path.{◌≡◌, refl, sym, ◌∙◌, ap, subst}
 use mathlib.Core.Bool.{Bool, true, false, cond, ◌&&◌, ◌||◌, not, and-false, false≢true}
 use mathlib.Core.List.{List, []}
@@ -16,8 +16,8 @@ use Rattle.masks.proofs.Steps.{zero-none}
 use Rattle.srlg_ranks.proofs.Bits.{Lowest, lowest}
 use Rattle.srlg_sources.proofs.Joins.{any_out, any_none}
 use Rattle.grids.specs.Slots.{cell, IsSet}
-use Rattle.set_table.specs.Tables.{cell_of, first, Table, Given, only_at, Value, entered, Entry, slot_at, reached, to_reached, Free}
-use Rattle.set_table.proofs.Tables.{first-none, first-free, first_taken, given-none, given-then, given-as, entered-is, entered-room}
+use Rattle.set_table.specs.Tables.{first, Table, Given, only_at, entered, Entry, slot_at, reached, to_reached, Free}
+use Rattle.set_table.proofs.Tables.{first-none, given-none, given-then, given-as, entered-is, entered-room}
 
 and-not : (a : Bool) (j t : ℕ) → (j ≡ t → ⊥) → a && not (eqb j t) ≡ a
 and-not true j t n = rw (ne_eqb j t n)

@@ -2,11 +2,10 @@
 use Prim.Native.Nat.{ℕ, zero, suc, ◌+◌, ◌*◌, ◌/◌, ◌%◌, ◌≤◌, ◌<◌}
 use mathlib.Core.Path.{◌≡◌, refl, sym, ◌∙◌, ap, ap₂}
 use mathlib.Core.Bool.{Bool, true, false, cond}
-use mathlib.Core.List.{List, [], ◌∷◌, ◌++◌, map}
+use mathlib.Core.List.{List, [], ◌∷◌, map}
 use lib.ListN.{length, get_or, drop, drop_of_length-le, length-append}
 use lib.Seq.{drop-cons}
 use native.Mathlib.Omega.{arith}
-use native.Mathlib.Nat.{mod-eq_of_lt}
 use native.Mathlib.Numerals.{add-one}
 use Rattle.linkstate.specs.Lists.{each, empty}
 use Rattle.linkstate.specs.Bytes.{number, number_from, words, bytes_at}
@@ -15,8 +14,8 @@ use Rattle.linkstate.proofs.ElementLaws.{part-place}
 use Rattle.octets.proofs.Laws.{length-bytes_at}
 use Rattle.srlg.proofs.Laws.{length-words, word_at}
 use Rattle.tlv_bytes.specs.Tlvs.{in_tlvs, front, value_at}
-use Rattle.tlv_bytes.proofs.Laws.{length-tlv, length-value, front-three, front-none}
-use Rattle.set_table.specs.Marks.{mixed, spread, value_mark, value_size, total, set_mark, set_size}
+use Rattle.tlv_bytes.proofs.Laws.{length-tlv, front-three, front-none}
+use Rattle.set_table.specs.Marks.{mixed, spread, value_mark, value_size, total}
 
 -- ---- the numbers of a part of a run
 

@@ -1,20 +1,20 @@
 -- A value for the applications of a set: those that have one of its kind keep it, the others take it. Assumes nothing.
-use Prim.Native.Nat.{ℕ, ◌+◌, ◌-◌, ◌*◌, ◌^◌, ◌≤◌, ◌<◌}
-use mathlib.Core.Path.{◌≡◌, refl, sym, ◌∙◌, ap, ap₂, subst}
+use Prim.Native.Nat.{ℕ, ◌+◌, ◌<◌}
+use mathlib.Core.Path.{◌≡◌, refl, sym, ◌∙◌, ap, ap₂}
 use mathlib.Core.Bool.{Bool, true, false, cond, ◌&&◌, ◌||◌, not, and-false, false≢true}
 use mathlib.Core.Logic.{◌⊎◌, inl, inr}
 use mathlib.Core.List.{List, [], ◌∷◌}
-use lib.Dec.{eqb, ltb}
-use lib.ListN.{length, get_or, set, length-set}
+use lib.Dec.{eqb}
+use lib.ListN.{get_or, set, length-set}
 use lib.Seq.{get_or-set_same, get_or-set_other}
 use native.Mathlib.Omega.{arith}
-use borrow.Author.Tests.{eqb-true, eqb-false, eq-eqb, ne_eqb, ltb-true, ltb-false, lt-ltb, le-ltb}
+use borrow.Author.Tests.{eqb-true, eqb-false, eq-eqb, ne_eqb}
 use Rattle.linkstate.specs.Lists.{any, numbers}
 use Rattle.linkstate.specs.Masks.{in_number}
 use Rattle.linkstate.proofs.ListLaws.{and_l, and_r}
 use Rattle.srlg_sources.proofs.Joins.{any-split, any_same, any_none, any_some}
 use Rattle.grids.specs.Slots.{cell, IsSet}
-use Rattle.set_table.specs.Tables.{cell_of, first, Table, Given, Value, slot_at, reached, to_reached, Free, reaches, to_named, Fresh, Slotted, Having, set_in, Within}
+use Rattle.set_table.specs.Tables.{first, Given, slot_at, reached, to_reached, Free, reaches, to_named, Fresh, Slotted, Having, set_in, Within}
 use Rattle.masks.specs.declared.Applications.{Applications}
 use Rattle.masks.specs.Applications.{at_place}
 use Rattle.masks.proofs.Sets.{place-low, place-high}

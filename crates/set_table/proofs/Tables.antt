@@ -1,22 +1,21 @@
 -- Laws of the table while it is filled: values that come to cells, and a row with a value more. Assumes nothing.
-use Prim.Native.Nat.{ℕ, zero, suc, ◌+◌, ◌*◌, ◌/◌, ◌%◌, ◌≤◌, ◌<◌}
+use Prim.Native.Nat.{ℕ, ◌+◌, ◌/◌, ◌%◌, ◌≤◌, ◌<◌}
 use mathlib.Core.Path.{◌≡◌, refl, sym, ◌∙◌, ap, subst}
 use mathlib.Core.Bool.{Bool, true, false, cond, ◌&&◌}
-use mathlib.Core.List.{List, [], ◌∷◌, map}
+use mathlib.Core.List.{List, []}
 use lib.Dec.{eqb, ltb}
 use lib.ListN.{length, get_or, set, length-set, get_or-eq_default}
 use lib.Seq.{get_or-set_same, get_or-set_other}
 use native.Mathlib.Omega.{arith}
 use borrow.Author.Tests.{eqb-true, eqb-false, eq-eqb, ne_eqb, ltb-true, ltb-false}
-use Rattle.linkstate.specs.Limits.{most_bytes}
 use Rattle.linkstate.specs.Lists.{numbers}
 use Rattle.linkstate.proofs.ListLaws.{and_l, and_r}
-use Rattle.kinds.specs.Rules.{grid_codes, row_in}
+use Rattle.kinds.specs.Rules.{grid_codes}
 use Rattle.kinds.proofs.Computing.{computing}
-use Rattle.tlv_bytes.specs.Tlvs.{in_tlvs, front, value_at}
+use Rattle.tlv_bytes.specs.Tlvs.{front, value_at}
 use Rattle.tlv_bytes.proofs.Laws.{length-value, value_none, front-most}
 use Rattle.grids.specs.Grids.{row_value, grid_value, RowFits, Fits, Alike}
-use Rattle.grids.specs.Slots.{cell, cell_row, slot_grid, slot_values, slot_mark, slot_size, IsSet, Slots}
+use Rattle.grids.specs.Slots.{cell, cell_row, slot_grid, slot_values, slot_size, IsSet, Slots}
 use Rattle.grids.proofs.Laws.{row-numbers, slot_row, length-slot}
 use Rattle.srlg_sources.proofs.Marks.{At, here, there, at_row}
 use Rattle.set_table.specs.Marks.{value_mark, value_size, total, set_mark, set_size}
@@ -319,5 +318,5 @@ module _ (run : List ℕ) (sets : List (List ℕ)) (t : Table run sets) where
   }
 
 -- A table with the row that a call left.
-pub row-set : (sets : List (List ℕ)) (s k c m z : ℕ) (row : List ℕ) → row ≡ entered_row (get_or sets s []) k c m z → set sets s row ≡ entered sets s k c m z
-row-set sets s k c m z row e = ap (set sets s) e
+pub row-set : (sets : List (List ℕ)) (s k c m z : ℕ) (r : List ℕ) → r ≡ entered_row (get_or sets s []) k c m z → set sets s r ≡ entered sets s k c m z
+row-set sets s k c m z r e = ap (set sets s) e

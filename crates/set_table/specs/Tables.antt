@@ -1,5 +1,5 @@
 -- The table of a link's sets while it is filled. A value that comes to a cell stays there, and one that comes later changes nothing (rule W5).
-use Rattle.std.specs.Prelude.{◌≡◌, Bool, true, false, cond, ◌&&◌, not, List, [], map, ℕ, zero, suc, ◌+◌, ◌-◌, ◌*◌, ◌/◌, ◌%◌, ◌≤◌, ◌<◌, eqb, leb, ltb, length, get_or, set, replicate}
+use Rattle.std.specs.Prelude.{◌≡◌, Bool, true, false, cond, ◌&&◌, not, List, [], map, ℕ, zero, suc, ◌+◌, ◌-◌, ◌*◌, ◌/◌, ◌%◌, ◌≤◌, ◌<◌, eqb, leb, length, get_or, set, replicate}
 use Rattle.linkstate.specs.Limits.{most_bytes}
 use Rattle.linkstate.specs.Lists.{any, numbers}
 use Rattle.linkstate.specs.Masks.{one, in_number}

@@ -1,0 +1,10 @@
+-- `set_groups::find` meets its contract: entries of the bucket that were passed have other sets. Assumes nothing.
+use Rattle.set_groups.specs.Table.{word}
+use Rattle.set_groups.proofs.Laws.{At}
+use Rattle.set_groups.proofs.find.Given as goal
+
+abbrev pub invariant-loop-i : goal.invariant-loop-i
+invariant-loop-i l = At l.run l.sets (word l.groups) l.count l.s l.c l.i
+
+abbrev pub decreases-loop-i : goal.decreases-loop-i
+decreases-loop-i l = l.i
