@@ -11,7 +11,7 @@ fn folders() -> Vec<PathBuf> {
     }
     let here =
         PathBuf::from(env::var_os("CARGO_MANIFEST_DIR").expect("cargo names the crate's folder"));
-    vec![here.join("../../target/staticlib"), here.join("../lib")]
+    vec![here.join("../../crates/nakhshirul/out"), here.join("../lib")]
 }
 
 fn has_archive(dir: &Path) -> bool {
@@ -22,7 +22,7 @@ fn main() {
     println!("cargo:rerun-if-env-changed=NAKHSHIRUL_LIB_DIR");
     let tried = folders();
     let Some(dir) = tried.iter().find(|d| has_archive(d)) else {
-        panic!("{ARCHIVE} is in none of {tried:?}: build it with `rt staticlib nakhshirul`, or set NAKHSHIRUL_LIB_DIR to its folder");
+        panic!("{ARCHIVE} is in none of {tried:?}: build it with `rt lib` in crates/nakhshirul, or set NAKHSHIRUL_LIB_DIR to its folder");
     };
     println!("cargo:rerun-if-changed={}", dir.join(ARCHIVE).display());
     println!("cargo:rustc-link-search=native={}", dir.display());

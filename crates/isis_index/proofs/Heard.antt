@@ -125,8 +125,8 @@ module _ (run : List ℕ) (owns table have after : List (List ℕ)) (r : Ready r
       → TookFor run owns table have after have (heard who) (attribute_at t place n v ∷ [])
   for-only k holds g e = record {
     holds = holds;
-    having = having-kept r.ground (kept-only 2 k c (omega arith) g) r.having;
-    adds = adds-by (heard who) (attribute_at t place n v) r.ground g e;
+    having = having-kept r.grounded (kept-only 2 k c (omega arith) g) r.having;
+    adds = adds-by (heard who) (attribute_at t place n v) r.grounded g e;
   }
 
   pub for-named : Within who (owning owns) → (k : ℕ) → k < 10 → code_of_type t ≡ get_or grid_codes k 0 → (had : List (List ℕ)) → Table run after
@@ -135,7 +135,7 @@ module _ (run : List ℕ) (owns table have after : List (List ℕ)) (r : Ready r
   for-named w k l e had holds g h = record {
     holds = holds;
     having = h;
-    adds = adds-by (heard who) (attribute_at t place n v) r.ground g (named-grid owns table r.ground who w (code_of_type t) (cell_of place n) k l e);
+    adds = adds-by (heard who) (attribute_at t place n v) r.grounded g (named-grid owns table r.grounded who w (code_of_type t) (cell_of place n) k l e);
   }
 
 pub for-none : (run : List ℕ) (owns table have : List (List ℕ)) → Ready run owns table have → (who : Applications) (t place n : ℕ) (v : List ℕ)
@@ -144,5 +144,5 @@ pub for-none : (run : List ℕ) (owns table have : List (List ℕ)) → Ready ru
 for-none run owns table have r who t place n v e = record {
   holds = r.holds;
   having = r.having;
-  adds = adds-by (heard who) (attribute_at t place n v) r.ground (given_nothing table) e;
+  adds = adds-by (heard who) (attribute_at t place n v) r.grounded (given_nothing table) e;
 }

@@ -204,4 +204,4 @@ general-ready m r = (r.done.holds, omega (arith, r.done.kept.same))
 
 pub named-ready : {run : List ℕ} {owns table have sets had : List (List ℕ)} {h : Source → Bool} {from end at : ℕ} → Ready run owns table have
     → Reading run from end at (TookFor run owns table have sets had h) → Ready run owns sets had
-named-ready y r = record { holds = r.done.holds; ground = ground-same r.done.adds.same y.ground; having = r.done.having }
+named-ready y r = record { holds = r.done.holds; grounded = ground-same r.done.adds.same y.grounded; having = r.done.having }

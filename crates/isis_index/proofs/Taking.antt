@@ -71,8 +71,8 @@ module _ {a : List ℕ} {at end : ℕ} (y : Here a at end) (asla : get_or a at 0
           → Gains a owns table after have (λ src. takes src (here_in a at))
       gains-all t k = record {
         holds = k.holds;
-        having = having-kept r.ground k.kept r.having;
-        adds = told_here owns table after heard_by_all (list_in a from end) all-legacy t.gives (k.adds owns r.ground);
+        having = having-kept r.grounded k.kept r.having;
+        adds = told_here owns table after heard_by_all (list_in a from end) all-legacy t.gives (k.adds owns r.grounded);
       }
 
       pub gains-named : (who : Applications) {had : List (List ℕ)} → Told a at end from (heard who)
@@ -129,8 +129,8 @@ module _ {a : List ℕ} {at end : ℕ} (y : Here a at end) (other : get_or a at 
     unfolding takes from_legacy attributes_of attribute
     gains-legacy k = record {
       holds = t.holds;
-      having = having-kept r.ground t.kept r.having;
-      adds = adds-cells (λ x v. ap (cell_in (code_of x)) (go (source_of x))) (t.adds owns r.ground);
+      having = having-kept r.grounded t.kept r.having;
+      adds = adds-cells (λ x v. ap (cell_in (code_of x)) (go (source_of x))) (t.adds owns r.grounded);
     }
       where
         sent : List ℕ

@@ -89,7 +89,7 @@ or_right false y e = e
 
 module _ {a : List ℕ} {owns begun table have : List (List ℕ)} {at : ℕ} (w : Walking a owns begun table have at) where
   pub walking-ready : Ground owns begun → Ready a owns table have
-  walking-ready g = record { holds = w.done.holds; ground = ground-same w.done.adds.same g; having = w.done.having }
+  walking-ready g = record { holds = w.done.holds; grounded = ground-same w.done.adds.same g; having = w.done.having }
 
   module _ (here : at < length a) where
     pub walking-inside : at + 2 + get_or a (at + 1) 0 ≤ length a

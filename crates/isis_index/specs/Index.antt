@@ -158,7 +158,7 @@ pub record TookFor (run : List ℕ) (owns table have after had : List (List ℕ)
 -- What the lists of advertisements that name applications ask for.
 pub record Ready (run : List ℕ) (owns table have : List (List ℕ)) : Type 0 where
   pub holds : Table run table
-  pub ground : Ground owns table
+  pub grounded : Ground owns table
   pub having : Having table owns have (owning owns)
 
 -- The part of a run between two places.

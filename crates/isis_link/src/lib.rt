@@ -1,4 +1,5 @@
 // Questions to an IS-IS link: ask, value and named. A link is three lent runs: A, the sub-TLVs of its neighbour entry; B, its TLVs 238, whole; C, its legacy SRLG values.
+// An answer is one look-up in run A by the rule.
 
 #![tactic(auto)]
 
@@ -26,8 +27,6 @@ use isis_check::{LinkChecked, Sides};
 use isis_grids::Which;
 use replies::{Answer, Checked, Named, Run, Subject};
 use rules::{Names, Rule};
-
-// look-up in run A by that rule.
 
 // What comes before the answer to a question: its first refusal, or what the sides of the link tell.
 pub fn check_asked(a: &[u8], b: &[u8], c: &[u8], whom: Subject, code: usize) -> LinkChecked

@@ -1,4 +1,5 @@
-// The live TLVs 238, Application-Specific SRLG, of a run B that passed its checks: the numbers of the SRLG values of those that pass a test (document 01, "Who
+// The live TLVs 238, Application-Specific SRLG, of a run B that passed its checks: the numbers of the SRLG values of those that pass a test; and what a rule
+// takes: numbers of such TLVs or the legacy values of run C.
 
 #![tactic(auto)]
 
@@ -23,8 +24,6 @@ ghost use Rattle.isis_check_a.specs.Headers.{header_of};
 use isis_check_a::Header;
 use replies::Subject;
 use rules::{Names, Rule};
-
-// TLVs 238 of run B or the legacy values of run C.
 
 // The numbers of the TLVs 238 that name RSVP-TE, and those of run C where these carry none, at the front of the list; how many there are.
 fn naming_first(b: &[u8], c: &[u8], out: &mut [u32]) -> usize

@@ -1,7 +1,7 @@
 -- A block with one source more, its rest, and a block that is split. Assumes nothing.
 use Prim.Native.Nat.{ℕ, suc, ◌+◌, ◌-◌, ◌*◌, ◌%◌, ◌^◌, ◌≤◌, ◌<◌}
 use mathlib.Core.Path.{◌≡◌, refl, sym, ◌∙◌, ap, ap₂}
-use mathlib.Core.Bool.{Bool, true, false, ◌||◌, ◌&&◌, not, or-false}
+use mathlib.Core.Bool.{Bool, ◌||◌, ◌&&◌, not, or-false}
 use mathlib.Core.List.{List, [], ◌∷◌}
 use native.Mathlib.Omega.{arith}
 use borrow.Author.Tests.{eq-eqb, ne_eqb}
@@ -14,7 +14,7 @@ use Rattle.srlg.proofs.Laws.{Order, less, more, same, order}
 use Rattle.srlg_ranks.specs.Ranks.{in_words}
 use Rattle.srlg_ranks.proofs.Bits.{with_in}
 use Rattle.srlg_sources.proofs.Joins.{two-words}
-use Rattle.srlg_table.specs.Blocks.{Alike, in_block, block_source, Part, Rest, Cut, whole, two, Split}
+use Rattle.srlg_table.specs.Blocks.{Alike, in_block, block_source, Part, Rest, whole, two, Split}
 use Rattle.srlg_table.proofs.Sizes.{pair-bits, low_bit, high_bit}
 
 module _ (b : List ℕ) (x y i : ℕ) where

@@ -1,26 +1,21 @@
 -- Bits compared, marked and counted word by word. Assumes nothing.
-use Prim.Native.Nat.{ℕ, zero, suc, ◌+◌, ◌-◌, ◌*◌, ◌/◌, ◌%◌, ◌^◌, ◌≤◌, ◌<◌}
+use Prim.Native.Nat.{ℕ, zero, suc, ◌+◌, ◌*◌, ◌/◌, ◌%◌, ◌^◌, ◌≤◌, ◌<◌}
 use mathlib.Core.Path.{◌≡◌, refl, sym, ◌∙◌, ap, ap₂}
-use mathlib.Core.Bool.{Bool, true, false}
-use mathlib.Core.List.{List, [], ◌∷◌}
+use mathlib.Core.Bool.{Bool, false}
+use mathlib.Core.List.{List}
 use native.Mathlib.Nat.{zero-add}
 use native.Mathlib.Numerals.{add-one}
 use native.Mathlib.Omega.{arith}
-use lib.Dec.{eqb}
-use borrow.Author.Tests.{eqb-true, eqb-false}
-use lib.Bits.{bit_or, bit_xor, xor_lt}
-use lib.ListN.{length, get_or, take, drop, length-drop, length-append}
-use Rattle.linkstate.specs.Lists.{numbers}
+use lib.Bits.{bit_or, bit_xor}
+use lib.ListN.{length, get_or, drop, length-drop}
 use Rattle.linkstate.specs.Masks.{in_number, as_number}
 use Rattle.linkstate.proofs.MaskLaws.{number_same}
-use Rattle.linkstate.proofs.ListLaws.{length-numbers}
 use Rattle.masks.proofs.Laws.{below_suc, number_of}
-use Rattle.srlg_ranks.specs.Ranks.{keep_from, in_words, picked, Inside}
+use Rattle.srlg_ranks.specs.Ranks.{keep_from, in_words, Inside}
 use Rattle.srlg_ranks.proofs.Bits.{or-none}
-use Rattle.srlg_ranks.proofs.Laws.{rest, share, word_end}
-use Rattle.srlg_ranks.proofs.Steps.{length-next}
+use Rattle.srlg_ranks.proofs.Laws.{rest, word_end}
 use Rattle.srlg_table.specs.Marks.{mixed, words_mark, folded, mark_of}
-use Rattle.srlg_table.specs.Tables.{Equal, Counts}
+use Rattle.srlg_table.specs.Tables.{Equal}
 
 -- The bits of one word.
 pub word-bit : (x : List ℕ) (w j : ℕ) → j < 64 → in_words x (64 * w + j) ≡ in_number (get_or x w 0) j

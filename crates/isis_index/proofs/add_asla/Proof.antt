@@ -16,7 +16,7 @@ enum-known-from c = search rules
 general-list-requires : tie.Need-general-list-requires
 general-list-requires c κs = let s = c.before.before.before.before.before.before in
     let t = read_all s.requires.1 _ c.before.before.before.before.read-asla.ensures _ c.before.before.from.given.1 in
-    (s.requires.0.holds, s.requires.0.ground.three, t.listed)
+    (s.requires.0.holds, s.requires.0.grounded.three, t.listed)
 
 enum-known-from-2 : tie.Need-enum-known-from-2
 enum-known-from-2 c = search rules

@@ -29,7 +29,7 @@ sub-enter-legacy c = search rules
 
 enter-legacy-requires : tie.Need-enter-legacy-requires
 enter-legacy-requires c κs = let s = c.before.before.before.before.before in
-    (s.requires.0.holds, s.requires.0.ground.three, legacy-right s.requires.1 c.before.before.if1.false (omega (arith, c.shared-slice-known3.given (s.args.at + 1))))
+    (s.requires.0.holds, s.requires.0.grounded.three, legacy-right s.requires.1 c.before.before.if1.false (omega (arith, c.shared-slice-known3.given (s.args.at + 1))))
 
 same-length-2 : tie.Need-same-length-2
 same-length-2 c = search rules

@@ -22,7 +22,7 @@ enum-known-kind : tie.Need-enum-known-kind
 enum-known-kind c = search rules
 
 enter-link-requires : tie.Need-enter-link-requires
-enter-link-requires c κs = let s = c.before.before.before.before.before.before.before in let h = s.requires.0.ground.three in
+enter-link-requires c κs = let s = c.before.before.before.before.before.before.before in let h = s.requires.0.grounded.three in
     (omega (arith, h), (s.requires.0.holds.rows 2 (omega (arith, h))).twelve, omega arith, s.requires.1.low, s.requires.1.short)
 
 same_length : tie.Need-same-length
@@ -40,7 +40,7 @@ add-enter-link c = let a = c.before.before.before.before.before.before.before.be
     let k = kind-read a.t _ _ c.before.before.before.before.before.before.before.before.classify-type.ensures c.before.before.before.before.before.before.kind.given.1 in omega (arith, k.0)
 
 enter-link-requires-2 : tie.Need-enter-link-requires-2
-enter-link-requires-2 c κs = let s = c.before.before.before.before.before.before.before.before.before.before in let h = s.requires.0.ground.three in
+enter-link-requires-2 c κs = let s = c.before.before.before.before.before.before.before.before.before.before in let h = s.requires.0.grounded.three in
     let k = kind-read s.args.t _ _ c.before.before.before.before.before.before.before.before.classify-type.ensures c.before.before.before.before.before.before.kind.given.1 in
     (omega (arith, h), (s.requires.0.holds.rows 2 (omega (arith, h))).twelve, omega (arith, k.0), s.requires.1.low, s.requires.1.short)
 
@@ -50,7 +50,7 @@ enum-known-kind-2 c = search rules
 enter-named-requires : tie.Need-enter-named-requires
 enter-named-requires c κs = let s = c.before.before.before.before.before.before.before in let a = s.args in
     let k = kind-read a.t _ _ c.before.before.before.before.before.classify-type.ensures c.before.before.before.kind2.given.1 in
-    (s.requires.0.holds, k.0, value-grid s.requires.1 _ k.0 k.1, (owning a.own.now, s.requires.0.ground.slotted, s.requires.0.having, s.requires.2))
+    (s.requires.0.holds, k.0, value-grid s.requires.1 _ k.0 k.1, (owning a.own.now, s.requires.0.grounded.slotted, s.requires.0.having, s.requires.2))
 
 enum_told : tie.Need-enum-told
 enum_told c = search rules
@@ -84,7 +84,7 @@ returns-4 : tie.Need-returns-4
 returns-4 c = let s = c.before.before.before.before.before.before.before.before.before in let a = s.args in
     let k = kind-read a.t _ _ c.before.before.before.before.before.before.before.classify-type.ensures c.before.before.before.before.before.kind2.given.1 in
     let r = c.before.enter-named.ensures in
-    λ v. for-named a.a.now a.own.now a.sets.now a.have.now _ s.requires.0 a.who a.t a.place a.n v s.requires.2 _ k.0 k.1 _ r.0 r.1 (r.2 (owning a.own.now) s.requires.0.ground.slotted s.requires.0.having s.requires.2)
+    λ v. for-named a.a.now a.own.now a.sets.now a.have.now _ s.requires.0 a.who a.t a.place a.n v s.requires.2 _ k.0 k.1 _ r.0 r.1 (r.2 (owning a.own.now) s.requires.0.grounded.slotted s.requires.0.having s.requires.2)
 
 returns-5 : tie.Need-returns-5
 returns-5 c = let a = c.before.before.before.before.args in
