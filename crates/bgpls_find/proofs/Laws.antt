@@ -29,7 +29,7 @@ use Rattle.bgpls_find.specs.declared.Set.TheVariants.{Top, Every, General, Namin
 use Rattle.bgpls_find.specs.declared.Found.{Found}
 use Rattle.bgpls_find.specs.declared.Found.TheVariants.{At, Absent}
 use Rattle.bgpls_find.specs.Sets.{chosen_by, ends_before, chosen, found_in}
-use Rattle.bgpls_find.specs.Walks.{rest, Passes, any_element, Uncut, aslas_from, standard_mask, user_mask, Sound, IsAsla}
+use Rattle.bgpls_find.specs.Walks.{rest, Passes, any_element, aslas_from, standard_mask, user_mask, Sound, IsAsla}
 
 -- ---- the elements that are left
 

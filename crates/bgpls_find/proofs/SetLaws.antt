@@ -24,7 +24,7 @@ use Rattle.bgpls_find.specs.declared.Set.{Set}
 use Rattle.bgpls_find.specs.declared.Set.TheVariants.{Top, Every, General, Naming}
 use Rattle.bgpls_find.specs.declared.Found.TheVariants.{At, Absent}
 use Rattle.bgpls_find.specs.Sets.{is_top, chosen_by, chosen, attributes_in, found_in}
-use Rattle.bgpls_find.specs.Walks.{rest, Passes, any_element, aslas_from, attributes_from, bytes_up_to, IsAsla, IsPart, AtList, Starts}
+use Rattle.bgpls_find.specs.Walks.{Passes, any_element, aslas_from, attributes_from, bytes_up_to, IsAsla, IsPart, AtList, Starts}
 use Rattle.bgpls_find.proofs.Laws.{rest_end, passes-end, aslas-end, uncut}
 
 -- ---- a run that passed

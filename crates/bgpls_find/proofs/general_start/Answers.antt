@@ -1,0 +1,24 @@
+-- `bgpls_find::general_start` meets its contract: the general set begins with its first list, or has none.
+use Rattle.bgpls_find.proofs.SetLaws.{run-passes, starts-part, starts_none}
+use Rattle.bgpls_find.specs.Walks.{NextPart}
+use Rattle.bgpls_find.specs.Sets.{is_top, attributes_in}
+use Rattle.bgpls_find.specs.declared.Set.TheVariants.{General}
+use native.Mathlib.Omega.{arith}
+use mathlib.Core.Path.{refl, subst}
+use Rattle.bgpls_find.proofs.general_start.Goals as goal
+
+pub next_part-requires : goal.next_part-requires
+unfolding is_top
+next_part-requires c = (omega arith, refl, run-passes c.args.r.now c.requires)
+
+pub returns-in-At : goal.returns-in-At
+unfolding is_top attributes_in
+returns-in-At c = let r = c.args.r.now in
+    let p = subst (NextPart General r 0) c.in-At.is c.next_part.ensures in
+    (starts-part General r refl _ _ p, refl)
+
+pub returns-in-Absent : goal.returns-in-Absent
+unfolding is_top attributes_in
+returns-in-Absent c = let r = c.args.r.now in
+    let p = subst (NextPart General r 0) c.in-Absent.is c.next_part.ensures in
+    (starts_none General r refl p.1, refl)

@@ -1,0 +1,24 @@
+-- `bgpls_find::set_of` meets its contract: some 1122 names the application, or none does.
+use Rattle.bgpls_find.proofs.SetLaws.{run-passes, starts-part, some-name, none-name}
+use Rattle.bgpls_find.specs.Walks.{NextPart}
+use Rattle.bgpls_find.specs.Sets.{is_top, attributes_in}
+use Rattle.bgpls_find.specs.declared.Set.TheVariants.{Naming}
+use native.Mathlib.Omega.{arith}
+use mathlib.Core.Path.{refl, subst, ◌∙◌}
+use Rattle.bgpls_find.proofs.set_of.Goals as goal
+
+pub next_part-requires : goal.next_part-requires
+unfolding is_top
+next_part-requires c = (omega arith, refl, run-passes c.args.r.now c.requires)
+
+pub returns-in-At : goal.returns-in-At
+unfolding is_top
+returns-in-At c = let a = c.args in
+    let p = subst (NextPart (Naming a.application) a.r.now 0) c.in-At.is c.next_part.ensures in
+    (starts-part (Naming a.application) a.r.now refl _ _ p, some-name a.r.now a.application p.some)
+
+pub returns-in-Absent : goal.returns-in-Absent
+unfolding attributes_in
+returns-in-Absent c = let a = c.args in
+    let p = subst (NextPart (Naming a.application) a.r.now 0) c.in-Absent.is c.next_part.ensures in
+    (c.general_start.ensures.0, c.general_start.ensures.1 ∙ none-name a.r.now a.application p.0)
