@@ -5,7 +5,7 @@ use mathlib.Core.List.{List, [], ◌++◌, map, append-nil}
 use Prim.Native.Nat.{ℕ, suc, ◌-◌, ◌≤◌, ◌<◌}
 use native.Mathlib.Omega.{arith}
 use borrow.Author.Tests.{lt-ltb, le-ltb}
-use lib.Dec.{eqb, ltb}
+use lib.Dec.{eqb}
 use lib.ListN.{length, get_or, take, drop}
 use Rattle.linkstate.specs.Lists.{all, each, numbers, empty, put}
 use Rattle.linkstate.specs.Kinds.{codes, application_codes}
@@ -19,8 +19,6 @@ use Rattle.linkstate.proofs.Computing.{computing}
 use Rattle.replies.specs.Told.{told_refusal, told_exported}
 use Rattle.replies.specs.declared.Refusal.{Refusal}
 use Rattle.replies.specs.declared.Written.TheVariants.{Bytes, Refused}
-use Rattle.masks.specs.Sets.{turned_place, in_sent}
-use Rattle.masks.proofs.Steps.{zero-none}
 use Rattle.masks.specs.Applications.{in_set}
 use Rattle.masks.proofs.Sets.{place_none, set-none}
 use Rattle.tlv_bytes.specs.Tlvs.{in_tlvs}

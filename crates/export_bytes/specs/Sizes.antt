@@ -1,5 +1,5 @@
 -- How many bytes an export has, by the tables that it is written from. Entry 0 of the groups is the general set: slot 0, its class, and no member.
-use Rattle.std.specs.Prelude.{◌≡◌, cond, List, [], ℕ, zero, suc, ◌+◌, ◌-◌, ◌≤◌, ◌<◌, eqb, length, get_or}
+use Rattle.std.specs.Prelude.{cond, List, [], ℕ, zero, suc, ◌+◌, ◌-◌, ◌≤◌, ◌<◌, eqb, length, get_or}
 use Rattle.linkstate.specs.Limits.{most_numbers}
 use Rattle.tlv_bytes.specs.Tlvs.{value_size}
 use Rattle.set_bytes.specs.Standing.{srlg_size, count_in}

@@ -2,7 +2,6 @@
 use mathlib.Core.Path.{◌≡◌, refl, sym, ap, ◌∙◌, subst}
 use mathlib.Core.Bool.{Bool, true, false, cond, ◌&&◌, ◌||◌, not}
 use mathlib.Core.List.{List, [], ◌∷◌, map}
-use mathlib.Core.Logic.{◌⊎◌, inl, inr}
 use Prim.Native.Nat.{ℕ, zero, suc, pred, ◌+◌, ◌*◌, ◌/◌, ◌%◌, ◌≤◌, ◌<◌}
 use native.Mathlib.Omega.{arith}
 use native.Mathlib.Nat.{zero-add}
@@ -59,11 +58,6 @@ module _ (t n : ℕ) (k : Known) (is : k ≡ known_of t) where
 
   pub identifier-right : n ≡ k.length → wrong_identifier t n ≡ false
   identifier-right e = by-known n t ∙ rw (sym is, eq-eqb n k.length e) (and-false (not (eqb k.weight 0)))
-
-  -- one of two ways led here
-  pub identifier-fits : {A B : Type 0} → A ⊎ B → (A → n ≡ k.length) → (B → k.weight ≡ 0) → wrong_identifier t n ≡ false
-  identifier-fits (inl x) f g = identifier-right (f x)
-  identifier-fits (inr x) f g = identifier-unknown (g x)
 
   pub identifier-wrong : (k.weight ≡ 0 → ⊥) → (n ≡ k.length → ⊥) → wrong_identifier t n ≡ true
   identifier-wrong e f = by-known n t ∙ rw (sym is, ne_eqb k.weight 0 e, ne_eqb n k.length f)

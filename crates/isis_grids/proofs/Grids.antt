@@ -9,7 +9,7 @@ use native.Mathlib.Omega.{arith}
 use borrow.Author.Tests.{eqb-true, eqb-false, eq-eqb, ne_eqb}
 use lib.Dec.{eqb}
 use lib.ListN.{get_or}
-use Rattle.linkstate.specs.Lists.{keep, each, member}
+use Rattle.linkstate.specs.Lists.{keep, each}
 use Rattle.linkstate.specs.Elements.{Element, element, cut, elements}
 use Rattle.linkstate.specs.Attributes.{Attribute, attribute, of_kind}
 use Rattle.isis.specs.RunA.{attributes_of, side_a}

@@ -20,7 +20,7 @@ use Rattle.isis.specs.MaskHeader.{l_flag, sabm_length, udabm_length, header_leng
 use Rattle.isis_check_a.proofs.Laws.{part-of-part}
 use Rattle.isis_grids.specs.declared.Which.{Which}
 use Rattle.isis_grids.specs.declared.Which.TheVariants.{Naming, General, RsvpTeAlone, WithoutL}
-use Rattle.isis_grids.specs.Selected.{selects, unflagged, list_from, list_at, is_taken, value_at, AslaAt, ReadAt}
+use Rattle.isis_grids.specs.Selected.{selects, list_from, list_at, is_taken, value_at, AslaAt, ReadAt}
 
 -- ---- the two length bytes
 

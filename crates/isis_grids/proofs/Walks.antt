@@ -9,7 +9,6 @@ use Rattle.linkstate.specs.Lists.{each}
 use Rattle.linkstate.specs.Bytes.{bytes_at}
 use Rattle.linkstate.specs.Replies.{Verdict, accepted, run_a, ◌then◌}
 use Rattle.linkstate.specs.Elements.{Element, element, cut, elements, faults}
-use Rattle.linkstate.specs.Attributes.{attribute}
 use Rattle.linkstate.proofs.WalkLaws.{left, type-one, length-one, faults-passed, each_turn, then-second, not-accepted}
 use Rattle.isis_grids.specs.Grid.{unchecked}
 

@@ -1,0 +1,65 @@
+-- The invariant: what is left decides, and with whom was met names whom the run names.
+use mathlib.Core.Path.{sym, ◌∙◌}
+use native.Mathlib.Omega.{arith}
+use lib.ListN.{get_or}
+use Rattle.linkstate.specs.Replies.{run_b}
+use Rattle.rules.proofs.NameLaws.{checks-as}
+use Rattle.frames.proofs.Laws.{IsWhole, is-whole-one}
+use Rattle.isis.specs.RunB.{check_b, srlg_advertisements, side_b}
+use Rattle.isis_check_a.proofs.Naming.{walked_start, walked-cut, walked_end, walked-over, walked_on, walked-refused}
+use Rattle.isis_check.proofs.SrlgLaws.{tlv-checks, tlv-other, other-nobody}
+use Rattle.isis_check.proofs.check_b.Goals as goal
+use Rattle.isis_check.proofs.check_b.Goals.{In-Whole}
+
+-- the element is whole
+whole : (c : In-Whole) → let b = c.args.b.now in IsWhole 1 b c.loop-len.at (get_or b c.loop-len.at 0) c.in-Whole.len
+whole c = is-whole-one _ _ _ _ (sym c.frame_one.ensures ∙ c.in-Whole.is)
+
+pub loop-len-init : goal.loop-len-init
+loop-len-init c = (omega arith, walked_start run_b check_b srlg_advertisements _ _ c.nobody-names.ensures)
+
+pub returns-in-End : goal.returns-in-End
+unfolding side_b
+returns-in-End c = λ d. walked_end run_b check_b srlg_advertisements _ _ _ c.loop-len.invariant.1 (sym c.frame_one.ensures ∙ c.in-End.is)
+
+pub returns-in-Cut : goal.returns-in-Cut
+unfolding side_b
+returns-in-Cut c = λ d. let e = sym c.frame_one.ensures ∙ c.in-Cut.is in
+    checks-as (walked-cut run_b check_b srlg_advertisements _ _ _ c.loop-len.invariant.1 e) (c.refuse.ensures.checks _)
+
+pub overflow_add-next : goal.overflow_add-next
+overflow_add-next c = let f = whole (goal.at.overflow_add-next c).In-Whole in omega arith
+
+pub overflow_add-next-in-Whole : goal.overflow_add-next-in-Whole
+overflow_add-next-in-Whole c = let f = whole (goal.at.overflow_add-next-in-Whole c).In-Whole in omega arith
+
+pub bounds-b-at : goal.bounds-b-at
+bounds-b-at c = let f = whole (goal.at.bounds-b-at c).In-Whole in omega arith
+
+pub check_tlv-requires : goal.check_tlv-requires
+check_tlv-requires c = let f = whole (goal.at.check_tlv-requires c).In-Whole in (omega arith, omega arith, c.requires)
+
+pub returns-in-Refused : goal.returns-in-Refused
+unfolding side_b
+returns-in-Refused c = λ d. walked-refused run_b check_b srlg_advertisements _ _ _ c.loop-len.invariant.1 _ (whole (goal.at.returns-in-Refused c).In-Whole) _
+    (tlv-checks _ _ _ _ _ (omega arith) c.check_tlv.ensures) _ c.in-Refused.is
+
+pub loop-len-smaller-in-Accepted : goal.loop-len-smaller-in-Accepted
+loop-len-smaller-in-Accepted c = let f = whole (goal.at.loop-len-smaller-in-Accepted c).In-Whole in omega arith
+
+pub loop-len-preserved-in-Accepted : goal.loop-len-preserved-in-Accepted
+loop-len-preserved-in-Accepted c = (
+  (whole (goal.at.loop-len-preserved-in-Accepted c).In-Whole).within,
+  walked_on run_b check_b srlg_advertisements _ _ _ c.loop-len.invariant.1 _ (whole (goal.at.loop-len-preserved-in-Accepted c).In-Whole) _
+      (tlv-checks _ _ _ _ _ (omega arith) c.check_tlv.ensures) _ c.in-Accepted.is,
+)
+
+pub loop-len-smaller : goal.loop-len-smaller
+loop-len-smaller c = let f = whole (goal.at.loop-len-smaller c).In-Whole in omega arith
+
+pub loop-len-preserved : goal.loop-len-preserved
+loop-len-preserved c = (
+  (whole (goal.at.loop-len-preserved c).In-Whole).within,
+  walked-over run_b check_b srlg_advertisements _ _ _ c.loop-len.invariant.1 _ (whole (goal.at.loop-len-preserved c).In-Whole)
+      (tlv-other _ _ _ (λ e. omega (arith, e))) (other-nobody _ _ _ (λ e. omega (arith, e))),
+)
