@@ -1,13 +1,13 @@
 -- The classes of legacy and of general values, and of the blocks of applications. Assumes nothing.
-use Prim.Native.Nat.{ℕ, zero, suc, ◌+◌, ◌-◌, ◌*◌, ◌/◌, ◌%◌, ◌≤◌, ◌<◌}
+use Prim.Native.Nat.{ℕ, zero, suc, ◌+◌, ◌-◌, ◌*◌, ◌≤◌, ◌<◌}
 use mathlib.Core.Path.{◌≡◌, refl, sym, ◌∙◌, ap, ap₂}
-use mathlib.Core.Bool.{Bool, true, false, cond, ◌&&◌, ◌||◌, not, and-false, or-false, false≢true}
+use mathlib.Core.Bool.{Bool, true, false, cond, ◌&&◌, ◌||◌, not, or-false, false≢true}
 use mathlib.Core.List.{List, [], ◌∷◌, Memᴰ}
 use native.Mathlib.Omega.{arith}
 use borrow.Author.Tests.{eq-eqb, ne_eqb, eqb-true, ltb-true, ltb-false}
 use lib.Dec.{eqb, ltb, eqb-suc-zero, eqb-suc-suc}
-use lib.ListN.{length, get_or, set}
-use Rattle.linkstate.specs.Lists.{numbers, any, keep}
+use lib.ListN.{length, get_or}
+use Rattle.linkstate.specs.Lists.{numbers, keep}
 use Rattle.linkstate.specs.Masks.{in_number}
 use Rattle.linkstate.proofs.ListLaws.{and_l, and_r, keep-mem, numbers-mem}
 use Rattle.srlg.proofs.Laws.{Order, less, more, same, order}
@@ -22,7 +22,7 @@ use Rattle.srlg_table.specs.Blocks.{size_of, naming, in_block, block_source, Blo
 use Rattle.srlg_table.proofs.Sizes.{pair-bits, low_bit, high_bit, size-split, size_same, total-least}
 use Rattle.srlg_table.specs.Tables.{Equal, Rowed, Table, with_class, Given}
 use Rattle.srlg_classes.specs.declared.First.{First}
-use Rattle.srlg_classes.specs.Owned.{class_at, Slots, Gave, without, plain, in_named, HasBits, Firsts, Assigned, NamedOwn, FirstOwn}
+use Rattle.srlg_classes.specs.Owned.{class_at, Gave, without, plain, in_named, HasBits, Firsts, Assigned, NamedOwn, FirstOwn}
 use Rattle.srlg_classes.proofs.Gives.{slots-then}
 
 -- ---- classes stay

@@ -1,18 +1,18 @@
 -- Classes by their numbers: what bits pick of a list, and that different bits pick different numbers. Assumes nothing.
-use Prim.Native.Nat.{ℕ, zero, suc, ◌+◌, ◌*◌, ◌≤◌, ◌<◌}
-use mathlib.Core.Path.{◌≡◌, refl, sym, ◌∙◌, ap, ap₂}
-use mathlib.Core.Bool.{Bool, true, false, cond, ◌&&◌, and-false, false≢true}
-use mathlib.Core.List.{List, [], ◌∷◌}
+use Prim.Native.Nat.{ℕ, ◌+◌, ◌*◌, ◌≤◌, ◌<◌}
+use mathlib.Core.Path.{◌≡◌, refl, sym, ◌∙◌, ap}
+use mathlib.Core.Bool.{Bool, true, false, ◌&&◌, false≢true}
+use mathlib.Core.List.{List, []}
 use native.Mathlib.Omega.{arith}
 use borrow.Author.Tests.{ltb-true, ltb-false}
 use lib.Dec.{ltb}
 use lib.ListN.{length, get_or, set, length-set}
 use lib.Seq.{get_or-set_same}
-use Rattle.linkstate.specs.Lists.{numbers, any, member}
+use Rattle.linkstate.specs.Lists.{member}
 use Rattle.srlg.specs.Ascending.{ascending}
 use Rattle.srlg_ranks.specs.Ranks.{keep_from, in_words}
 use Rattle.srlg_ranks.proofs.Laws.{keep_same, keep-none, keep-member}
-use Rattle.srlg_sources.specs.Classes.{has_source, in_class, class_numbers, Class, Classed}
+use Rattle.srlg_sources.specs.Classes.{has_source, in_class, class_numbers, Classed}
 use Rattle.srlg_sources.proofs.Joins.{any_none}
 use Rattle.srlg_table.specs.Tables.{Equal, Rowed, Table}
 use Rattle.srlg_table.proofs.Tabling.{none_row, none-bits, none-source}

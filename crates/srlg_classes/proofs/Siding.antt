@@ -1,16 +1,16 @@
 -- The classes of a side's subjects, from the classes of its sources (rules W2 to W10). Assumes nothing.
-use Prim.Native.Nat.{ℕ, zero, suc, ◌+◌, ◌-◌, ◌*◌, ◌/◌, ◌%◌, ◌≤◌, ◌<◌}
+use Prim.Native.Nat.{ℕ, ◌+◌, ◌-◌, ◌*◌, ◌≤◌, ◌<◌}
 use mathlib.Core.Path.{◌≡◌, refl, sym, ◌∙◌, ap, ap₂, subst}
-use mathlib.Core.Bool.{Bool, true, false, cond, ◌&&◌, ◌||◌, not, or-true, and-false, false≢true}
+use mathlib.Core.Bool.{Bool, true, false, cond, ◌&&◌, ◌||◌, not, or-true, and-false}
 use mathlib.Core.Logic.{◌⊎◌, inl, inr}
 use mathlib.Core.List.{List, [], ◌∷◌}
 use native.Mathlib.Omega.{arith}
-use borrow.Author.Tests.{eq-eqb, ne_eqb, eqb-true, eqb-false, ltb-true, ltb-false, not-true, not-false}
+use borrow.Author.Tests.{eqb-true, eqb-false, ltb-true, ltb-false, not-false}
 use lib.Dec.{eqb, ltb}
 use lib.ListN.{length, get_or, set}
-use Rattle.linkstate.specs.Lists.{any, keep, each, empty}
+use Rattle.linkstate.specs.Lists.{keep, each, empty}
 use Rattle.linkstate.specs.Masks.{in_number}
-use Rattle.linkstate.specs.Bytes.{distinct, words, bytes_of_words, four}
+use Rattle.linkstate.specs.Bytes.{distinct, bytes_of_words, four}
 use Rattle.linkstate.specs.Attributes.{Attribute, of_kind, srlgs, value_of}
 use Rattle.linkstate.specs.Sides.{Side, names, named, named_with_l, of_live, general_set, application_set, has_legacy, takes_general, rsvp_te_kind}
 use Rattle.linkstate.proofs.ListLaws.{any-keep, empty-nil}
@@ -18,7 +18,6 @@ use Rattle.masks.specs.Sets.{turned_place}
 use Rattle.masks.specs.declared.Applications.{Applications}
 use Rattle.masks.specs.Applications.{in_set}
 use Rattle.rules.specs.declared.Names.{Names}
-use Rattle.rules.specs.Names as naming
 use Rattle.rules.specs.Names.{Tells}
 use Rattle.rules.specs.Rules.{rsvp_te_rule}
 use Rattle.rules.proofs.NameLaws.{side-named, side-flagged}
@@ -26,11 +25,10 @@ use Rattle.rules.proofs.Laws.{never}
 use Rattle.srlg_ranks.specs.Ranks.{keep_from, in_words, picked}
 use Rattle.srlg_sources.specs.Classes.{class_numbers, Classed, class_of}
 use Rattle.srlg_table.proofs.Sizes.{low_bit, high_bit}
-use Rattle.srlg_table.specs.Tables.{Table}
 use Rattle.srlg_table.proofs.Tabling.{none_row}
 use Rattle.srlg_classes.specs.declared.First.{First}
 use Rattle.srlg_classes.specs.declared.Classes.{Classes}
-use Rattle.srlg_classes.specs.Owned.{class_at, Slots, Gave, without, plain, in_named, HasBits, Firsts, NamedOwn, FirstOwn, class_by, rsvp_class}
+use Rattle.srlg_classes.specs.Owned.{class_at, without, plain, in_named, HasBits, Firsts, NamedOwn, FirstOwn, class_by, rsvp_class}
 use Rattle.srlg_classes.specs.Sided.{Sourced, Has, Classified}
 use Rattle.srlg_classes.proofs.Numbers.{has-numbers, classed, classed-none, has-none}
 

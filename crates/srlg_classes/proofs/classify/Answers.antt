@@ -1,0 +1,23 @@
+-- `srlg_classes::classify` meets its contract: nobody has a number, or by how many classes there is room for. Assumes nothing.
+use mathlib.Core.Path.{refl}
+use native.Mathlib.Omega.{arith}
+use Rattle.srlg_classes.proofs.Siding.{settled-none}
+use Rattle.srlg_classes.proofs.classify.Goals as goal
+
+pub bounds-classes-0 : goal.bounds-classes-0
+bounds-classes-0 c = (c.requires.1 c.if-used-eq0.true).0
+
+pub returns-then-used-eq0 : goal.returns-then-used-eq0
+returns-then-used-eq0 c = let a = c.args in
+    let z = c.if-used-eq0.true in
+    let p = c.requires.1 z in (
+      record { size = p.1; slots = λ i. refl },
+      λ values side short so tells old.
+          settled-none a.rows.now a.classes.now a.own.now a.used.sources a.who a.named _ values side (omega (arith, z)) p.0 p.2 refl refl refl so tells,
+    )
+
+pub classify_few-requires : goal.classify_few-requires
+classify_few-requires c = (c.requires.0 (omega arith), omega arith)
+
+pub classify_many-requires : goal.classify_many-requires
+classify_many-requires c = c.requires.0 (omega arith)
