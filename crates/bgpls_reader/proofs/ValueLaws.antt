@@ -1,21 +1,21 @@
 -- What a question to an accepted BGP-LS run is about, and that the first value of a kind stands where it was found, with a length that can be read.
 use mathlib.Core.Path.{◌≡◌, refl, sym, ap, ap₂, ◌∙◌, subst}
-use mathlib.Core.Bool.{Bool, true, false, cond, not}
+use mathlib.Core.Bool.{Bool, true, false, not}
 use mathlib.Core.List.{List, [], ◌∷◌, Memᴰ}
 use Prim.Native.Nat.{ℕ, ◌+◌, ◌-◌, ◌≤◌, ◌<◌}
 use native.Mathlib.Omega.{arith}
 use borrow.Author.Tests.{ne_eqb, eqb-true, ltb-false}
 use lib.Dec.{eqb}
 use lib.ListN.{length, take, drop, length-take, length-drop}
-use Rattle.linkstate.specs.Lists.{empty, keep}
+use Rattle.linkstate.specs.Lists.{empty}
 use Rattle.linkstate.specs.Bytes.{bytes_at}
 use Rattle.linkstate.specs.Kinds.{is_code, is_link_code, form_of, wrong_at_top, wrong_inside}
 use Rattle.linkstate.specs.Replies.{run_bgp_ls, accepted, place}
-use Rattle.linkstate.specs.Attributes.{Attribute, of_kind, reading_as}
+use Rattle.linkstate.specs.Attributes.{Attribute, of_kind}
 use Rattle.linkstate.specs.Sides.{general_set, application_set}
 use Rattle.linkstate.specs.Meaning.{Accepted}
-use Rattle.linkstate.specs.Questions.{Subject, number_too_high, set_of, given, first_of, bytes_of_first}
-use Rattle.linkstate.specs.BgpLs.{run_verdict, top_level, run_side, run_source}
+use Rattle.linkstate.specs.Questions.{number_too_high, set_of, given, first_of, bytes_of_first}
+use Rattle.linkstate.specs.BgpLs.{run_verdict, run_side, run_source}
 use Rattle.linkstate.specs.Masks.{user}
 use Rattle.linkstate.proofs.Computing.{computing}
 use Rattle.octets.proofs.Laws.{part-is}
@@ -27,14 +27,12 @@ use Rattle.kinds.proofs.Laws.{wrong-at-top, wrong-inside, code-link}
 use Rattle.replies.specs.declared.Subject.{Subject as Whom}
 use Rattle.replies.specs.declared.Subject.TheVariants.{General, Standard, User}
 use Rattle.replies.specs.Told.{subject_of}
-use Rattle.answering.specs.Standing.{Readable, standing}
 use Rattle.answering.proofs.ReadingLaws.{own-bytes}
 use Rattle.answering.proofs.Lengths.{readable-in-bgpls}
 use Rattle.answering.specs.Rows.{ReadableRow, row_answer}
-use Rattle.answering.proofs.Laws.{first_absent, first-present}
+use Rattle.answering.proofs.Laws.{first-present}
 use Rattle.bgpls_find.specs.declared.Set.{Set}
 use Rattle.bgpls_find.specs.declared.Set.TheVariants as Sets
-use Rattle.bgpls_find.specs.declared.Found.{Found}
 use Rattle.bgpls_find.specs.declared.Found.TheVariants.{At, Absent}
 use Rattle.bgpls_find.specs.Sets.{attributes_in, found_in}
 use Rattle.linkstate.proofs.ListLaws.{keep-mem}
