@@ -4,14 +4,14 @@ use mathlib.Core.Bool.{Bool, true, false, cond}
 use mathlib.Core.List.{List, [], ◌∷◌}
 use Prim.Native.Nat.{ℕ, zero, suc, ◌+◌, ◌-◌, ◌*◌, ◌/◌, ◌%◌, ◌≤◌, ◌<◌}
 use native.Mathlib.Omega.{arith}
-use borrow.Author.Tests.{lt-ltb, le-ltb, ltb-true, ltb-false}
+use borrow.Author.Tests.{ltb-true, ltb-false}
 use lib.Dec.{ltb}
 use lib.ListN.{length, get_or, length-append}
 use Rattle.linkstate.specs.Lists.{numbers, keep}
 use Rattle.linkstate.specs.Masks.{one, in_number}
 use Rattle.linkstate.proofs.ListLaws.{keep_append}
 use Rattle.linkstate.proofs.MaskLaws.{one-le}
-use Rattle.masks.specs.Sets.{turned_place, in_sent}
+use Rattle.masks.specs.Sets.{turned_place}
 use Rattle.masks.specs.declared.Applications.{Applications}
 use Rattle.masks.specs.Applications.{in_set, at_place}
 use Rattle.masks.proofs.Sets.{place_set}
@@ -19,7 +19,7 @@ use Rattle.srlg_ranks.specs.Ranks.{in_words}
 use Rattle.srlg_table.specs.Blocks.{size_of}
 use Rattle.srlg_table.proofs.Sizes.{size_same}
 use Rattle.set_table.specs.Tables.{how_many}
-use Rattle.set_table.proofs.Assigns.{many-same, many-split, many-pair}
+use Rattle.set_table.proofs.Assigns.{many-same, many-split}
 use Rattle.set_groups.specs.Table.{left}
 use Rattle.set_groups.proofs.Joined.{numbers-last}
 

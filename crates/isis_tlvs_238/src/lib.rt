@@ -98,8 +98,6 @@ pub fn srlgs_of(b: &[u8], c: &[u8], whom: Subject, m: Names, legacy: bool, out: 
     sort_front(out, k)
 }
 
-// gets what").
-
 // Which live TLVs 238 are read: those that name an application, or the general ones.
 #[derive(Clone, Copy)]
 pub enum Which {
