@@ -165,6 +165,7 @@ pub fn names(standard: &[u8], user: &[u8], a: u32) -> bool
 }
 
 // How many bytes of a user mask of n bytes are read: four at most, as its bits from 32 on are retired.
+#[tactic(auto, using(crate::proofs::UserBytes::few_bytes_read, crate::proofs::UserBytes::four_bytes_read))]
 fn user_bytes(n: usize) -> usize
     ensures { (result ≡ user_bytes n) × (result ≤ n) × (result ≤ 4) }
 {

@@ -5,8 +5,14 @@ use Rattle.srlg_classes.proofs.Assigns.{with-more, assigned-start, assigned-next
 use Rattle.srlg_classes.proofs.assign.Goals as goal
 
 pub loop-k-init : goal.loop-k-init
-loop-k-init c = let a = c.args in
-    (omega arith, refl, refl, refl, assigned-start a.rows.now a.used.sources a.used.words a.blocks.now a.classes.now a.own.now a.first a.heads.now a.buckets.now c.requires.7 c.requires.9)
+loop-k-init c = let a = c.args in (
+  omega arith,
+  refl,
+  refl,
+  refl,
+  assigned-start a.rows.now a.used.sources a.used.words a.blocks.now a.classes.now a.own.now a.first a.heads.now a.buckets.now
+      c.requires.7 c.requires.9,
+)
 
 pub class_of-c-requires : goal.class_of-c-requires
 class_of-c-requires c = let l = c.loop-k in
@@ -40,7 +46,8 @@ loop-k-preserved c = let l = c.loop-k in
       k.auto.heads ∙ l.invariant.2,
       k.auto.buckets ∙ l.invariant.3,
       rw c.with_class-count.ensures
-          (assigned-next a.rows.now a.used.sources a.used.words a.blocks.now a.classes.now a.own.now a.first l.classes l.heads l.own _ _ _ l.buckets _ l.k l.count k.result
+          (assigned-next a.rows.now a.used.sources a.used.words a.blocks.now a.classes.now a.own.now a.first l.classes l.heads l.own _ _ _ l.buckets _ l.k
+          l.count k.result
           l.invariant.4 k.ensures c.give_both.ensures),
     )
 

@@ -16,7 +16,8 @@ class_of-legacy-requires c = let a = c.args in
       omega (arith, c.requires.4),
       omega arith,
       legacy-rowed a.used.sources c.requires.1,
-      table_none a.rows.now a.used.sources a.used.words a.classes.now a.heads.now a.buckets.now (omega (arith, c.requires.3)) (omega (arith, c.requires.4)) c.requires.6,
+      table_none a.rows.now a.used.sources a.used.words a.classes.now a.heads.now a.buckets.now (omega (arith, c.requires.3))
+          (omega (arith, c.requires.4)) c.requires.6,
     )
 
 pub class_of-general-requires : goal.class_of-general-requires
@@ -43,4 +44,5 @@ pub shape_of-classes : goal.shape_of-classes
 shape_of-classes c = c.class_of-general.auto.classes ∙ c.class_of-legacy.auto.classes ∙ length-set c.args.classes.now 0 none_row
 
 pub returns : goal.returns
-returns c = firsts c.args.rows.now c.args.used.sources c.args.used.words _ _ _ _ _ _ _ c.class_of-legacy.result _ _ c.with_class-one.ensures c.with_class-count.ensures refl c.class_of-legacy.ensures c.class_of-general.ensures
+returns c = firsts c.args.rows.now c.args.used.sources c.args.used.words _ _ _ _ _ _ _ c.class_of-legacy.result _ _ c.with_class-one.ensures
+    c.with_class-count.ensures refl c.class_of-legacy.ensures c.class_of-general.ensures

@@ -36,8 +36,10 @@ loop-x-smaller c = (lowest (goal.at.loop-x-smaller c).In-loop-x).less
 pub loop-x-preserved : goal.loop-x-preserved
 unfolding slot_at
 loop-x-preserved c = let l = c.loop-x in
-    let a = c.args in
-    (omega (arith, (lowest (goal.at.loop-x-preserved c).In-loop-x).less, l.invariant.0), giving-next a.bits a.base a.c l.x a.own.now l.own c.requires.0 (omega arith) l.invariant.0 l.invariant.1)
+    let a = c.args in (
+      omega (arith, (lowest (goal.at.loop-x-preserved c).In-loop-x).less, l.invariant.0),
+      giving-next a.bits a.base a.c l.x a.own.now l.own c.requires.0 (omega arith) l.invariant.0 l.invariant.1,
+    )
 
 pub returns : goal.returns
 returns c = let l = c.loop-x in

@@ -16,10 +16,17 @@ are c = plain-pair c.args.named _ _ c.without-s.ensures c.without-u.ensures
 pub returns-then-not-meets : goal.returns-then-not-meets
 returns-then-not-meets c = let a = c.args in
     let none = c.meets.ensures.1 c.if-not-meets.true in
-    named_none a.rows.now a.used.sources a.used.words a.named a.classes.now a.heads.now a.buckets.now a.own.now a.count (λ i h. sym (are (goal.at.returns-then-not-meets c).After-meets i h) ∙ none i h) c.requires.9 c.requires.10
+    named_none a.rows.now a.used.sources a.used.words a.named a.classes.now a.heads.now a.buckets.now a.own.now a.count
+    (λ i h. sym (are (goal.at.returns-then-not-meets c).After-meets i h) ∙ none i h) c.requires.9 c.requires.10
 
 pub blocks_of-m-requires : goal.blocks_of-m-requires
-blocks_of-m-requires c = (c.requires.1, c.requires.2, c.requires.3, c.meets.ensures.0 c.if-not-meets.false, omega (arith, c.requires.4, plain-few c.args.named _ _ (are (goal.at.blocks_of-m-requires c).After-meets)))
+blocks_of-m-requires c = (
+  c.requires.1,
+  c.requires.2,
+  c.requires.3,
+  c.meets.ensures.0 c.if-not-meets.false,
+  omega (arith, c.requires.4, plain-few c.args.named _ _ (are (goal.at.blocks_of-m-requires c).After-meets)),
+)
 
 pub assign-requires : goal.assign-requires
 assign-requires c = let w = c.blocks_of-m in
@@ -41,4 +48,5 @@ assign-requires c = let w = c.blocks_of-m in
 pub returns : goal.returns
 returns c = let w = c.blocks_of-m in
     let a = c.args in
-    named-blocks a.rows.now a.used.sources _ _ _ w.result w.ensures a.named a.used.words a.classes.now a.own.now _ _ _ _ a.count _ (are (goal.at.returns c).After-meets) c.assign.ensures
+    named-blocks a.rows.now a.used.sources _ _ _ w.result w.ensures a.named a.used.words a.classes.now a.own.now _ _ _ _ a.count _
+    (are (goal.at.returns c).After-meets) c.assign.ensures

@@ -33,6 +33,10 @@ pub returns : goal.returns
 returns c = let l = c.loop-i in
     let a = c.args in
     let ws = words a.s.now in record {
-      value = (ap (λ (k : ℕ). a.at + k) l.invariant.1, copy-end a.keys.now a.at (map (key_of a.source) ws) l.i l.keys l.invariant.3 (omega (arith, length-keys a.source ws)));
+      value = (
+        ap (λ (k : ℕ). a.at + k) l.invariant.1,
+        copy-end a.keys.now a.at (map (key_of a.source) ws) l.i l.keys l.invariant.3
+            (omega (arith, length-keys a.source ws)),
+      );
       small = small_all ws l.i (omega arith) l.invariant.4;
     }

@@ -9,4 +9,5 @@ use Rattle.srlg_sources.specs.Sources.{key_of}
 use Rattle.srlg_sources.proofs.add_words.Given as goal
 
 abbrev pub invariant-loop-i : goal.invariant-loop-i
-invariant-loop-i l = (l.i ≤ l.n) × (l.n ≡ length (words l.s)) × (length l.keys ≡ length l.initial.keys) × (l.keys ≡ paste l.initial.keys l.at (map (key_of l.source) (words l.s)) l.i) × ((j : ℕ) → j < l.i → get_or (words l.s) j 0 < 4294967296)
+invariant-loop-i l = (l.i ≤ l.n) × (l.n ≡ length (words l.s)) × (length l.keys ≡ length l.initial.keys)
+    × (l.keys ≡ paste l.initial.keys l.at (map (key_of l.source) (words l.s)) l.i) × ((j : ℕ) → j < l.i → get_or (words l.s) j 0 < 4294967296)

@@ -9,7 +9,13 @@ pub join_rows-requires : goal.join_rows-requires
 join_rows-requires c = (refl, c.requires.0, omega arith, λ j h e. omega (arith, c.requires.1 j (omega arith) (low-source c.args.low c.args.high j h ∙ e)))
 
 pub join_rows-requires-2 : goal.join_rows-requires-2
-join_rows-requires-2 c = (c.join_rows.ensures.0, c.requires.0, omega arith, λ j h e. c.requires.1 (64 + j) (omega arith) (high-source c.args.low c.args.high j h ∙ e))
+join_rows-requires-2 c = (
+  c.join_rows.ensures.0,
+  c.requires.0,
+  omega arith,
+  λ j h e. c.requires.1 (64 + j) (omega arith)
+      (high-source c.args.low c.args.high j h ∙ e),
+)
 
 pub returns : goal.returns
 returns c = bits-joined c.args.rows.now c.args.low c.args.high _ _ c.args.words c.requires.0 c.join_rows.ensures.1 c.join_rows-2.ensures.1

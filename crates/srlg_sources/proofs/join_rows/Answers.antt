@@ -49,6 +49,7 @@ returns c = let l = c.loop-y in
     let z : l.y ≡ 0 = omega arith in (
       l.invariant.0,
       λ i h.
-          sym (or-false (in_words l.x i)) ∙ ap (λ (b : Bool). in_words l.x i || b) (sym (ap (λ (y : ℕ). in_some c.args.rows.now c.args.base y i) z ∙ some-none c.args.rows.now c.args.base i))
+          sym (or-false (in_words l.x i)) ∙ ap (λ (b : Bool). in_words l.x i || b)
+          (sym (ap (λ (y : ℕ). in_some c.args.rows.now c.args.base y i) z ∙ some-none c.args.rows.now c.args.base i))
           ∙ l.invariant.3 i h,
     )

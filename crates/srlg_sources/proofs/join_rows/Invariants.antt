@@ -8,7 +8,8 @@ use Rattle.srlg_sources.specs.Sources.{InRows, in_some}
 use Rattle.srlg_sources.proofs.join_rows.Given as goal
 
 abbrev pub invariant-loop-y : goal.invariant-loop-y
-invariant-loop-y l = (length l.x ≡ 16) × (l.y < 2 ^ 64) × InRows l.rows l.base l.y × ((i : ℕ) → i < 64 * l.words → in_words l.x i || in_some l.rows l.base l.y i ≡ in_words l.initial.x i || in_some l.rows l.base l.set i)
+invariant-loop-y l = (length l.x ≡ 16) × (l.y < 2 ^ 64) × InRows l.rows l.base l.y
+    × ((i : ℕ) → i < 64 * l.words → in_words l.x i || in_some l.rows l.base l.y i ≡ in_words l.initial.x i || in_some l.rows l.base l.set i)
 
 abbrev pub decreases-loop-y : goal.decreases-loop-y
 decreases-loop-y l = l.y

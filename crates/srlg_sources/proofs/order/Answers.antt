@@ -17,4 +17,6 @@ rank-requires c = let w = c.sort_first in
 pub returns : goal.returns
 returns c = let k = c.rank in
     let w = c.sort_first in
-    first-ordered c.args.keys.now _ c.args.m _ _ c.args.rows.now _ (omega (arith, k.auto.values, w.auto.values, c.requires.2, first-length c.args.keys.now _ c.args.m c.requires.1 w.ensures, k.ensures.few)) w.ensures k.ensures
+    first-ordered c.args.keys.now _ c.args.m _ _ c.args.rows.now _
+    (omega (arith, k.auto.values, w.auto.values, c.requires.2, first-length c.args.keys.now _ c.args.m c.requires.1 w.ensures, k.ensures.few)) w.ensures
+    k.ensures

@@ -18,8 +18,10 @@ turned c =
     let k = c.args.keys.now in
     let so = l.invariant.4 in
     elim c.if-v-last.branch [
-      | then-v-last w ↦ turned-new k l.values c.if-v-last.values l.i l.count c.if-v-last.count l.last c.if-v-last.last so (omega arith) c.requires.0 (omega (arith, so.few)) w.if-v-last.true w.values-is w.count-is w.last-is
-      | else-v-last w ↦ turned-again k l.values c.if-v-last.values l.i l.count c.if-v-last.count l.last c.if-v-last.last so (omega arith) c.requires.0 (omega (arith, so.few)) w.if-v-last.false w.values-is w.count-is w.last-is
+      | then-v-last w ↦ turned-new k l.values c.if-v-last.values l.i l.count c.if-v-last.count l.last c.if-v-last.last so (omega arith) c.requires.0
+          (omega (arith, so.few)) w.if-v-last.true w.values-is w.count-is w.last-is
+      | else-v-last w ↦ turned-again k l.values c.if-v-last.values l.i l.count c.if-v-last.count l.last c.if-v-last.last so (omega arith) c.requires.0
+          (omega (arith, so.few)) w.if-v-last.false w.values-is w.count-is w.last-is
     ]
 
 pub loop-i-init : goal.loop-i-init
@@ -35,8 +37,14 @@ pub mark-requires : goal.mark-requires
 unfolding in_rows source_of
 mark-requires c = let l = c.loop-i in
     let k = c.args.keys.now in
-    let i = ltb-true (source_of (get_or k l.i 0)) (length c.args.rows.now) (all-at (in_rows (length c.args.rows.now)) k l.i c.requires.3 (omega arith)) in
-    (omega (arith, l.invariant.3), omega (arith, (turned (goal.at.mark-requires c).Joined-v-last).some, (turned (goal.at.mark-requires c).Joined-v-last).numbered.few))
+    let i = ltb-true (source_of (get_or k l.i 0)) (length c.args.rows.now) (all-at (in_rows (length c.args.rows.now)) k l.i c.requires.3 (omega arith)) in (
+      omega (arith, l.invariant.3),
+      omega (
+        arith,
+        (turned (goal.at.mark-requires c).Joined-v-last).some,
+        (turned (goal.at.mark-requires c).Joined-v-last).numbered.few,
+      ),
+    )
 
 pub loop-i-preserved : goal.loop-i-preserved
 unfolding source_of

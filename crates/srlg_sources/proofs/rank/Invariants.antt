@@ -7,4 +7,5 @@ use Rattle.srlg_sources.proofs.Rankings.{Noted}
 use Rattle.srlg_sources.proofs.rank.Given as goal
 
 abbrev pub invariant-loop-i : goal.invariant-loop-i
-invariant-loop-i l = (l.i ≤ length l.keys) × (l.i-end ≡ length l.keys) × (length l.values ≡ length l.initial.values) × (length l.rows ≡ length l.initial.rows) × Numbered l.keys l.values l.i l.count l.last × Noted l.keys l.values l.initial.rows l.rows l.i l.count
+invariant-loop-i l = (l.i ≤ length l.keys) × (l.i-end ≡ length l.keys) × (length l.values ≡ length l.initial.values) × (length l.rows ≡ length l.initial.rows)
+    × Numbered l.keys l.values l.i l.count l.last × Noted l.keys l.values l.initial.rows l.rows l.i l.count

@@ -8,12 +8,22 @@ use Rattle.srlg_table.proofs.Refines.{blocks-first}
 use Rattle.srlg_table.proofs.blocks_of.Goals as goal
 
 pub loop-i-init : goal.loop-i-init
-loop-i-init c = let a = c.args in
-    (omega arith, omega (arith, c.requires.0), refl, blocks-first a.rows.now a.standard a.user a.blocks.now (omega (arith, c.requires.3, c.requires.4)) c.requires.3)
+loop-i-init c = let a = c.args in (
+  omega arith,
+  omega (arith, c.requires.0),
+  refl,
+  blocks-first a.rows.now a.standard a.user a.blocks.now
+      (omega (arith, c.requires.3, c.requires.4)) c.requires.3,
+)
 
 pub refine-n-requires : goal.refine-n-requires
-refine-n-requires c = let l = c.loop-i in
-    (omega (arith, l.invariant.0), omega (arith, c.requires.1), omega (arith, c.requires.2), omega (arith, l.invariant.2, c.requires.4, length-set c.args.blocks.now 0 (c.args.standard ∷ c.args.user ∷ 0 ∷ 0 ∷ [])), l.invariant.3)
+refine-n-requires c = let l = c.loop-i in (
+  omega (arith, l.invariant.0),
+  omega (arith, c.requires.1),
+  omega (arith, c.requires.2),
+  omega (arith, l.invariant.2, c.requires.4, length-set c.args.blocks.now 0 (c.args.standard ∷ c.args.user ∷ 0 ∷ 0 ∷ [])),
+  l.invariant.3,
+)
 
 pub loop-i-preserved : goal.loop-i-preserved
 loop-i-preserved c = let l = c.loop-i in

@@ -11,7 +11,12 @@ loop-i-preserved c = let l = c.loop-i in
     let x = c.args.x.now in (
       omega arith,
       omega (arith, c.word_count-n.ensures.0),
-      λ values h w. omega (arith, l.invariant.2 values h w, length-next values x l.i, c.word_count-n.ensures.1 (drop (64 * l.i) values) (word-within values x c.args.words l.i (omega arith) w)),
+      λ values h w. omega (
+        arith,
+        l.invariant.2 values h w,
+        length-next values x l.i,
+        c.word_count-n.ensures.1 (drop (64 * l.i) values) (word-within values x c.args.words l.i (omega arith) w),
+      ),
     )
 
 pub returns : goal.returns

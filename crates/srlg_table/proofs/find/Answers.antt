@@ -38,7 +38,8 @@ has_bits-requires c = let l = c.loop-i in
 pub returns-then-has_bits : goal.returns-then-has_bits
 returns-then-has_bits c = let l = c.loop-i in
     let a = c.args in
-    λ count t. finds-here a.rows.now a.used.words a.x.now a.classes.now a.heads.now a.buckets.now a.mark c.requires.3 a.used.sources count t l.i (omega arith) (l.invariant count t) (c.has_bits.ensures.0 c.if-has_bits.true)
+    λ count t. finds-here a.rows.now a.used.words a.x.now a.classes.now a.heads.now a.buckets.now a.mark c.requires.3 a.used.sources count t l.i (omega arith)
+    (l.invariant count t) (c.has_bits.ensures.0 c.if-has_bits.true)
 
 pub offset_bounds-heads-i-in-loop-i : goal.offset_bounds-heads-i-in-loop-i
 offset_bounds-heads-i-in-loop-i c = omega (arith, (low (goal.at.offset_bounds-heads-i-in-loop-i c).In-loop-i).1)
@@ -68,4 +69,5 @@ loop-i-preserved c = let l = c.loop-i in
 pub returns : goal.returns
 returns c = let l = c.loop-i in
     let a = c.args in
-    λ count t. finds-none a.rows.now a.used.words a.x.now a.classes.now a.heads.now a.buckets.now a.mark c.requires.3 a.used.sources count t l.i (omega arith) (l.invariant count t)
+    λ count t. finds-none a.rows.now a.used.words a.x.now a.classes.now a.heads.now a.buckets.now a.mark c.requires.3 a.used.sources count t l.i (omega arith)
+    (l.invariant count t)

@@ -4,7 +4,8 @@ use mathlib.Core.List.{[]}
 use lib.ListN.{length, get_or}
 use native.Mathlib.Omega.{arith}
 use Rattle.srlg_table.proofs.Sizes.{masks-none, total-least}
-use Rattle.srlg_table.proofs.Refines.{common-block, common-row, minus, refining-start, refining-pass, refining-split, split-room, still-room, in-block, refined, refined-early}
+use Rattle.srlg_table.proofs.Refines.{common-block, common-row, minus, refining-start, refining-pass, refining-split, split-room, still-room, in-block}
+use Rattle.srlg_table.proofs.Refines.{refined, refined-early}
 use Rattle.srlg_table.proofs.refine.Goals as goal
 use Rattle.srlg_table.proofs.refine.Goals.{else-meets, then-meets}
 
@@ -44,8 +45,10 @@ loop-k-preserved c = let l = c.loop-k in
       | then-meets w ↦ let less-of = minus l.s l.u _ _ _ _ w.without-s.ensures w.without-u.ensures in
           let some = c.meets.ensures.0 w.if-meets.true in
           let z : length c.if-meets.blocks ≡ length a.blocks.now = ap length w.blocks-is ∙ w.split-n.auto.blocks ∙ l.invariant.0 in
-          let next = refining-split rows a.i a.standard a.user l.blocks c.requires.0 a.count l.n l.k l.s l.u _ _ so (omega arith) part _ _ _ _ some w.split-n.ensures less-of in
-          let room = still-room rows a.i a.standard a.user l.blocks c.requires.0 a.count l.n l.k l.s l.u _ _ so (omega arith) part _ _ _ _ some w.split-n.ensures less-of
+          let next = refining-split rows a.i a.standard a.user l.blocks c.requires.0 a.count l.n l.k l.s l.u _ _ so
+          (omega arith) part _ _ _ _ some w.split-n.ensures less-of in
+          let room = still-room rows a.i a.standard a.user l.blocks c.requires.0 a.count l.n l.k l.s l.u _ _ so
+          (omega arith) part _ _ _ _ some w.split-n.ensures less-of
           (length a.blocks.now) c.requires.3 in
           (z, omega (arith, z, w.n-is, room), rw (w.blocks-is, w.n-is, w.s-is, w.u-is) next)
       | else-meets w ↦ let none = c.meets.ensures.1 w.if-meets.false in (
