@@ -9,7 +9,7 @@ use lib.Dec.{eqb, ltb}
 use lib.ListN.{length, take, drop, get_or, length-take, length-drop}
 use Rattle.linkstate.specs.Lists.{any, each}
 use Rattle.linkstate.specs.Bytes.{bytes_at}
-use Rattle.linkstate.specs.Masks.{bit, in_masks, others}
+use Rattle.linkstate.specs.Masks.{in_masks, others}
 use Rattle.linkstate.proofs.Retired.{in-nobody}
 use Rattle.linkstate.specs.Replies.{accepted, run_a}
 use Rattle.linkstate.specs.Elements.{elements, faults}

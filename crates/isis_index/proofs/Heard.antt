@@ -17,7 +17,7 @@ use Rattle.masks.specs.declared.Applications.{Applications}
 use Rattle.masks.specs.Applications.{at_place}
 use Rattle.set_table.proofs.Named.{reaches-own}
 use Rattle.isis_grids.specs.declared.Which.TheVariants.{RsvpTeAlone, WithoutL}
-use Rattle.isis_index.specs.Index.{legacy, live, Spot, general, old, bandwidth, maximum, alone, own, source_of, slot_in, cell_at, code_of, owning, Valid, Ground, Kept, told, heard, attribute_at, TookFor, Ready}
+use Rattle.isis_index.specs.Index.{legacy, live, Spot, general, old, bandwidth, maximum, alone, own, source_of, slot_in, cell_at, code_of, owning, Valid, Ground, Kept, heard, attribute_at, TookFor, Ready}
 use Rattle.isis_index.proofs.Codes.{grid-same, link-same, grid-link, link-grid, link-first}
 use Rattle.isis_index.proofs.Cells.{own-high, place-low, adds-by, given_nothing, kept-only}
 

@@ -1,7 +1,6 @@
 -- Two masks as sent, and whom an advertisement with such masks names. Assumes nothing.
 use mathlib.Core.Path.{◌≡◌, refl, sym, ap, ap₂, ◌∙◌}
-use mathlib.Core.Bool.{Bool, true, false, cond, ◌&&◌, ◌||◌, not, false≢true}
-use mathlib.Core.List.{List}
+use mathlib.Core.Bool.{Bool, true, false, ◌&&◌, not, false≢true}
 use Prim.Native.Nat.{ℕ, ◌+◌, ◌-◌, ◌^◌, ◌≤◌, ◌<◌}
 use native.Mathlib.Omega.{arith}
 use borrow.Author.Tests.{eqb-true, eqb-false, ne_eqb, ltb-true, ltb-false}
@@ -12,9 +11,9 @@ use Rattle.linkstate.proofs.Retired.{in-retired}
 use Rattle.linkstate.specs.Sides.{Advertisement, names, rsvp_te_alone}
 use Rattle.linkstate.proofs.Computing.{computing}
 use Rattle.linkstate.proofs.ListLaws.{any-no, mem-any, numbers-mem, mem-numbers}
-use Rattle.masks.specs.Sets.{turned_place, in_sent}
+use Rattle.masks.specs.Sets.{turned_place}
 use Rattle.masks.proofs.Laws.{same-members}
-use Rattle.masks.proofs.Steps.{turned-back, turned-below, zero-none}
+use Rattle.masks.proofs.Steps.{turned-back}
 use Rattle.masks.specs.declared.Applications.{Applications}
 use Rattle.masks.specs.Applications.{at_place}
 use Rattle.masks.proofs.Sets as sets

@@ -1,16 +1,14 @@
 -- The tables that the walk starts from: as they were assigned, and what the walk asks for. Assumes nothing.
 use mathlib.Core.Path.{◌≡◌, refl, sym, ap, ◌∙◌}
-use mathlib.Core.Bool.{Bool, true, false, cond}
+use mathlib.Core.Bool.{Bool, true, false}
 use mathlib.Core.List.{List, []}
 use Prim.Native.Nat.{ℕ, zero, suc, ◌-◌, ◌≤◌, ◌<◌}
 use native.Mathlib.Omega.{arith}
-use borrow.Author.Tests.{ltb-true, ltb-false, leb-true, le-leb}
-use lib.Dec.{ltb}
+use borrow.Author.Tests.{leb-true, le-leb}
 use lib.ListN.{length, take, drop, get_or, replicate, length-take}
 use lib.Seq.{get_or-take}
-use Rattle.linkstate.specs.Masks.{in_number}
 use Rattle.linkstate.specs.Sides.{Advertisement}
-use Rattle.masks.specs.Sets.{turned_place, in_sent}
+use Rattle.masks.specs.Sets.{turned_place}
 use Rattle.masks.proofs.Steps.{turned-back}
 use Rattle.rules.specs.declared.Names.{Names}
 use Rattle.rules.specs.Names.{Tells}

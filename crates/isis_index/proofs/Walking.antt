@@ -1,12 +1,11 @@
 -- The turns of the walk over run A. Assumes nothing.
-use mathlib.Core.Path.{◌≡◌, refl, sym, ap, ap₂, ◌∙◌, subst}
-use mathlib.Core.Bool.{Bool, true, false, cond, ◌||◌, not}
+use mathlib.Core.Path.{◌≡◌, refl, sym, ap, ◌∙◌, subst}
+use mathlib.Core.Bool.{Bool, true, false, ◌||◌, not}
 use mathlib.Core.List.{List, [], ◌++◌, append_assoc, append-nil}
-use Prim.Native.Nat.{ℕ, zero, suc, ◌+◌, ◌-◌, ◌≤◌, ◌<◌}
+use Prim.Native.Nat.{ℕ, zero, suc, ◌+◌, ◌≤◌, ◌<◌}
 use native.Mathlib.Omega.{arith}
 use native.Mathlib.Nat.{zero-add}
 use borrow.Author.Tests.{eq-eqb}
-use lib.Dec.{ltb}
 use lib.ListN.{length, get_or, replicate}
 use Rattle.linkstate.specs.Lists.{any, each}
 use Rattle.linkstate.specs.Bytes.{bytes_at}
@@ -16,12 +15,10 @@ use Rattle.linkstate.specs.Attributes.{Attribute}
 use Rattle.linkstate.specs.Sides.{names}
 use Rattle.linkstate.proofs.ListLaws.{any_append}
 use Rattle.linkstate.proofs.WalkLaws.{left, each-end}
-use Rattle.masks.proofs.Steps.{zero-none}
 use Rattle.isis.specs.RunA.{check_a, asla_advertisements, side_a}
 use Rattle.isis_grids.proofs.Walks.{left-all, inside, passed, rest_ok, turn}
 use Rattle.grids.specs.Slots.{cell}
 use Rattle.set_table.specs.Tables.{slot_at, Having}
-use Rattle.masks.specs.declared.Applications.{Applications}
 use Rattle.masks.proofs.Sets.{place_none}
 use Rattle.set_table.proofs.Tables.{first-free}
 use Rattle.set_table.proofs.Assigns.{empty-cell, empty-table}

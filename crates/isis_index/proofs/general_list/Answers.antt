@@ -1,0 +1,36 @@
+-- `isis_index::general_list` meets its contract: a turn takes the attribute at its position. Assumes nothing.
+use Prim.Native.Nat.{◌+◌}
+use native.Mathlib.Omega.{arith}
+use Rattle.isis_index.specs.Index.{heard_by_all}
+use Rattle.isis_index.proofs.Lists.{reading-begin, reading-end, reading-right, reading-room, reading-next, took-then, took-empty, general-ready}
+use Rattle.isis_index.proofs.general_list.Goals as goal
+
+pub loop-at-init : goal.loop-at-init
+loop-at-init c = reading-begin c.requires.2 (took-empty c.args.a.now c.args.sets.now heard_by_all c.requires.0)
+
+pub bounds-a-at : goal.bounds-a-at
+bounds-a-at c = omega (arith, (reading-room c.requires.2 c.loop-at.invariant c.loop-at-test.true).0)
+
+pub overflow_cast-n : goal.overflow_cast-n
+overflow_cast-n c = omega (arith, c.shared_slice_known-in-loop-at-1.given (c.loop-at.at + 1))
+
+pub enter_general-requires : goal.enter_general-requires
+enter_general-requires c = let p = c.requires in let l = c.loop-at in
+    let g = general-ready p.1 l.invariant in
+    (g.0, g.1, reading-right p.2 l.invariant c.loop-at-test.true (omega (arith, c.shared_slice_known-in-loop-at-1.given (l.at + 1))))
+
+pub overflow_add-at-in-loop-at-2 : goal.overflow_add-at-in-loop-at-2
+overflow_add-at-in-loop-at-2 c = omega (arith, (reading-room c.requires.2 c.loop-at.invariant c.loop-at-test.true).1)
+
+pub loop-at-smaller : goal.loop-at-smaller
+loop-at-smaller c = omega (arith, c.loop-at-test.true)
+
+pub loop-at-preserved : goal.loop-at-preserved
+loop-at-preserved c = let l = c.loop-at in
+    reading-next c.requires.2 l.invariant c.loop-at-test.true (λ v. took-then l.invariant.done (c.enter_general.ensures v))
+
+pub shape_of-sets : goal.shape_of-sets
+shape_of-sets c = c.loop-at.invariant.done.kept.same
+
+pub returns : goal.returns
+returns c = reading-end c.requires.2 c.loop-at.invariant c.loop-at-test.false
