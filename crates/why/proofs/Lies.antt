@@ -12,7 +12,7 @@ use Rattle.linkstate.specs.Lists.{keep, any, each, empty, lookup}
 use Rattle.linkstate.specs.Replies.{Place, accepted}
 use Rattle.linkstate.specs.Bytes.{bytes_of_words, four}
 use Rattle.linkstate.specs.Kinds.{is_code}
-use Rattle.linkstate.specs.Elements.{Element, elements}
+use Rattle.linkstate.specs.Elements.{Element}
 use Rattle.linkstate.specs.Attributes.{Attribute, of_kind, srlgs, value_of}
 use Rattle.linkstate.specs.Sides.{Advertisement, Side, names, named_with_l, of_live, general_set, takes_general, rsvp_te_kind}
 use Rattle.linkstate.specs.Why.{Holder, held_at, nowhere, Standing, offset_of, first, has, holder}
@@ -26,7 +26,6 @@ use Rattle.isis_grids.specs.Selected.{selects}
 use Rattle.isis_grids.proofs.Grids.{All}
 use Rattle.isis_grids.proofs.Places.{Stands, First, absent, present, first-of, value_none, live-stands}
 use Rattle.isis_link.proofs.Checks.{a-passed}
-use Rattle.replies.specs.declared.Run.TheVariants.{A}
 use Rattle.why.proofs.Has.{has-live}
 use Rattle.why.proofs.First.{Tied, holder-other}
 

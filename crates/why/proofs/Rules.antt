@@ -1,10 +1,7 @@
 -- The rules, branch by branch, from what the searches found. Assumes nothing.
 use mathlib.Core.Path.{◌≡◌, refl, sym, ap, ◌∙◌}
 use mathlib.Core.Bool.{Bool, true, false, cond, ◌||◌, not, false≢true}
-use mathlib.Core.Logic.{⊎_elim}
-use types.Run.{OneOf}
-use denote.Enum.Declared.{tag_of}
-use mathlib.Core.List.{List, [], ◌∷◌}
+use mathlib.Core.List.{List, []}
 use Prim.Native.Nat.{ℕ, ◌+◌}
 use native.Mathlib.Omega.{arith}
 use borrow.Author.Tests.{eqb-true}
@@ -44,7 +41,6 @@ use Rattle.rules.specs.declared.Rule.{Rule}
 use Rattle.rules.specs.declared.Rule.TheVariants.{ByL, Naming, General, Legacy, NamingFirst, AloneFirst, LegacyFirst}
 use Rattle.rules.specs.Rules.{application_rule, rsvp_te_rule, bandwidth_rule, subject_rule, rule_on}
 use Rattle.rules.proofs.Laws.{none-naming, none-alone, never}
-use Rattle.rules.specs.contracts.Rule.{the_type}
 use Rattle.rivals.proofs.RunLaws.{no-L}
 use Rattle.isis_link.specs.Asked.{AskedInA}
 use Rattle.why.specs.Runs.{is_held, standing, Ready, IsType, with_kind, number_of, is_rsvp_te, link_answer, run_answer}
@@ -243,18 +239,19 @@ module _ (rule : Rule) (whom : Subject) (k : ℕ) (s : Standing) (x : W.Why) whe
   unfolding why_by
   by-naming-first e h = rw e h
 
-  pub by-else : OneOf (3 ∷ 5 ∷ 6 ∷ []) (tag_of the_type rule) → x ≡ legacy_why s → x ≡ why_by rule whom k s
+  pub by-else : (rule ≡ ByL → ⊥) → ((n : ℕ) → rule ≡ Naming n → ⊥) → (rule ≡ General → ⊥) → (rule ≡ NamingFirst → ⊥) → x ≡ legacy_why s
+      → x ≡ why_by rule whom k s
   unfolding why_by
-  by-else o h = h ∙ go rule o
+  by-else l n g f h = h ∙ go rule l n g f
     where
-      go : (r : Rule) → OneOf (3 ∷ 5 ∷ 6 ∷ []) (tag_of the_type r) → legacy_why s ≡ why_by r whom k s
-      go ByL o = absurd (⊎_elim (λ e. omega arith) (λ g. ⊎_elim (λ e. omega arith) (λ e. omega arith) g) o)
-      go (Naming n) o = absurd (⊎_elim (λ e. omega arith) (λ g. ⊎_elim (λ e. omega arith) (λ e. omega arith) g) o)
-      go General o = absurd (⊎_elim (λ e. omega arith) (λ g. ⊎_elim (λ e. omega arith) (λ e. omega arith) g) o)
-      go NamingFirst o = absurd (⊎_elim (λ e. omega arith) (λ g. ⊎_elim (λ e. omega arith) (λ e. omega arith) g) o)
-      go Legacy o = refl
-      go AloneFirst o = refl
-      go LegacyFirst o = refl
+      go : (r : Rule) → (r ≡ ByL → ⊥) → ((n : ℕ) → r ≡ Naming n → ⊥) → (r ≡ General → ⊥) → (r ≡ NamingFirst → ⊥) → legacy_why s ≡ why_by r whom k s
+      go ByL l n g f = absurd (l refl)
+      go (Naming i) l n g f = absurd (n i refl)
+      go General l n g f = absurd (g refl)
+      go NamingFirst l n g f = absurd (f refl)
+      go Legacy l n g f = refl
+      go AloneFirst l n g f = refl
+      go LegacyFirst l n g f = refl
 
   pub band-legacy-first : rule ≡ LegacyFirst → x ≡ legacy_first_why k s → x ≡ bandwidth_by rule k s
   unfolding bandwidth_by
@@ -264,22 +261,18 @@ module _ (rule : Rule) (whom : Subject) (k : ℕ) (s : Standing) (x : W.Why) whe
   unfolding bandwidth_by passing
   band-alone-first e h = rw e h
 
-  pub band-else : OneOf (0 ∷ 1 ∷ 2 ∷ 3 ∷ 4 ∷ []) (tag_of the_type rule) → x ≡ legacy_why s → x ≡ bandwidth_by rule k s
+  pub band-else : (rule ≡ LegacyFirst → ⊥) → (rule ≡ AloneFirst → ⊥) → x ≡ legacy_why s → x ≡ bandwidth_by rule k s
   unfolding bandwidth_by
-  band-else o h = h ∙ go rule o
+  band-else l a h = h ∙ go rule l a
     where
-      go : (r : Rule) → OneOf (0 ∷ 1 ∷ 2 ∷ 3 ∷ 4 ∷ []) (tag_of the_type r) → legacy_why s ≡ bandwidth_by r k s
-      go ByL o = refl
-      go (Naming n) o = refl
-      go General o = refl
-      go NamingFirst o = refl
-      go Legacy o = refl
-      go AloneFirst o =
-          absurd (⊎_elim (λ e. omega arith) (λ g. ⊎_elim (λ e. omega arith) (λ f. ⊎_elim (λ e. omega arith)
-          (λ d. ⊎_elim (λ e. omega arith) (λ e. omega arith) d) f) g) o)
-      go LegacyFirst o =
-          absurd (⊎_elim (λ e. omega arith) (λ g. ⊎_elim (λ e. omega arith) (λ f. ⊎_elim (λ e. omega arith)
-          (λ d. ⊎_elim (λ e. omega arith) (λ e. omega arith) d) f) g) o)
+      go : (r : Rule) → (r ≡ LegacyFirst → ⊥) → (r ≡ AloneFirst → ⊥) → legacy_why s ≡ bandwidth_by r k s
+      go ByL l a = refl
+      go (Naming n) l a = refl
+      go General l a = refl
+      go NamingFirst l a = refl
+      go Legacy l a = refl
+      go AloneFirst l a = absurd (a refl)
+      go LegacyFirst l a = absurd (l refl)
 
 pub by_general : (rule : Rule) (whom : Subject) (k : ℕ) (s : Standing) → rule ≡ General → (g : W.Rule) (h : W.Holder) → g ≡ general_rule whom
     → h ≡ holder s k (passing T.General) → because g h ≡ why_by rule whom k s

@@ -1,0 +1,25 @@
+-- The top level, or by the rule that the run's 1122s give.
+use Rattle.why.proofs.Rules.{run-bandwidth, run-rsvp-te, run-other}
+use Rattle.replies.specs.Told.{subject_of}
+use mathlib.Core.Path.{sym, ◌∙◌}
+use Rattle.why.proofs.why_of_run.Goals as goal
+
+pub returns-then-is_link_code : goal.returns-then-is_link_code
+returns-then-is_link_code c = run-bandwidth c.args.r.now (subject_of c.args.whom) c.args.code _ (sym c.is_link_code.ensures ∙ c.if-is_link_code.true)
+    c.top_why.ensures
+
+pub returns-then-is_rsvp_te : goal.returns-then-is_rsvp_te
+returns-then-is_rsvp_te c = run-rsvp-te c.args.r.now (subject_of c.args.whom) c.args.code _
+    (sym c.is_link_code.ensures ∙ c.if-is_link_code.false)
+    (sym c.is_rsvp_te.ensures ∙ c.if-is_rsvp_te.true) c.top_why-then-is_rsvp_te.ensures
+
+pub run_rule-requires : goal.run_rule-requires
+run_rule-requires c = (c.requires.0, c.requires.1, sym c.is_rsvp_te.ensures ∙ c.if-is_rsvp_te.false)
+
+pub why_by-requires : goal.why_by-requires
+why_by-requires c = ((c.requires.0, c.requires.2), c.requires.1)
+
+pub returns : goal.returns
+returns c = run-other c.args.r.now (subject_of c.args.whom) c.args.code _
+    (sym c.is_link_code.ensures ∙ c.if-is_link_code.false)
+    (sym c.is_rsvp_te.ensures ∙ c.if-is_rsvp_te.false) _ c.run_rule.ensures c.why_by.ensures
