@@ -8,7 +8,7 @@ use borrow.Author.Tests.{eqb-true}
 use lib.Dec.{eqb}
 use lib.ListN.{length, drop, take, length-drop, length-take}
 use Rattle.linkstate.specs.Lists.{any}
-use Rattle.linkstate.specs.Replies.{accepted, fault, ◌then◌, run_b}
+use Rattle.linkstate.specs.Replies.{accepted, fault, run_b}
 use Rattle.linkstate.specs.Elements.{Element, element, cut, size_of, length_of, elements, faults}
 use Rattle.linkstate.proofs.ElementLaws.{Framed, done, short, step, framed, value-length}
 use Rattle.linkstate.proofs.ListLaws.{and_l, and_r}

@@ -6,7 +6,7 @@ use Prim.Native.Nat.{ℕ, zero, suc, ◌+◌, ◌-◌, ◌/◌, ◌≤◌, ◌<�
 use native.Mathlib.Omega.{arith}
 use borrow.Author.Tests.{eqb-true}
 use Rattle.linkstate.proofs.ListLaws.{and_l, and_r}
-use lib.Dec.{eqb, ltb}
+use lib.Dec.{eqb}
 use lib.Bits.{bit_or}
 use lib.ListN.{length, set, take, drop, length-drop, length-take}
 use lib.Seq.{drop-drop, drop-length, length-take-le}
