@@ -20,7 +20,6 @@ use Rattle.srlg.specs.Ascending.{ascending}
 use Rattle.srlg_ranks.specs.Ranks.{picked, keep_from}
 use Rattle.srlg_table.specs.declared.Used.{Used}
 use Rattle.export_tables.specs.Resolved.{Listed}
-use Rattle.isis.specs.RunA.{side_a}
 use Rattle.isis.specs.RunB.{side_b}
 use Rattle.isis.specs.Link.{link_verdict, link_source}
 use Rattle.isis.proofs.Computing.{computing}

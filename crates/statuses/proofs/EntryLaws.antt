@@ -1,27 +1,23 @@
 -- Each way that a question is answered in words: refused, SRLG, absent, or read where its value stands; and each way that a value's place is told.
 use mathlib.Core.Path.{◌≡◌, refl, sym, ap, ◌∙◌}
-use mathlib.Core.Logic.{⊎_elim}
-use mathlib.Core.Bool.{Bool, true, false, cond, not}
+use mathlib.Core.Bool.{Bool, true, false, cond}
 use mathlib.Core.List.{List, [], ◌∷◌}
-use Prim.Native.Nat.{ℕ, ◌+◌, ◌-◌, ◌≤◌, ◌<◌}
+use Prim.Native.Nat.{ℕ, ◌+◌, ◌-◌}
 use native.Mathlib.Omega.{arith}
 use borrow.Author.Tests.{eq-eqb, ne_eqb}
 use lib.Dec.{eqb, ltb}
 use lib.Ieee.{Float as IeeeFloat}
-use types.Run.{OneOf}
-use denote.Enum.Declared.{tag_of}
 use lib.ListN.{length, take, drop, get_or}
 use Rattle.linkstate.specs.Lists.{empty}
 use Rattle.linkstate.specs.Bytes.{number, bytes_at}
 use Rattle.linkstate.specs.Kinds.{Form, float, form_of}
 use Rattle.linkstate.specs.Replies.{Run, run_a, run_bgp_ls, Verdict, accepted, refused, Refusal, refused_if, fault_of_call, fault, ◌then◌, unless, Reading, bandwidth, Reply, absent, found, ask_refused, Asked, Place, place}
 use Rattle.linkstate.specs.Attributes.{Attribute, of_kind, reading_as, srlgs}
-use Rattle.linkstate.specs.Questions.{Source, Subject, number_too_high, given, before_answer, first_of, unwritten, srlg_answer, answer, ask, bytes_of_first, value}
+use Rattle.linkstate.specs.Questions.{Source, Subject, given, before_answer, first_of, unwritten, srlg_answer, answer, ask, bytes_of_first, value}
 use Rattle.octets.proofs.Laws.{part-is}
 use Rattle.kinds.specs.declared.Form.{Form as CodeForm}
 use Rattle.kinds.specs.declared.Form.TheVariants.{WholeNumber, TwoNumbers, Float, PlaceAndLength, SrlgCount}
 use Rattle.kinds.specs.Rules.{told_form}
-use Rattle.kinds.specs.contracts.Form.{the_type}
 use Rattle.answering.specs.Standing.{standing}
 use Rattle.answering.specs.Rows.{row_answer}
 use Rattle.answering.proofs.Laws.{row-found}
@@ -30,7 +26,7 @@ use Rattle.isis_grids.specs.Grid.{first_row}
 use Rattle.bgpls_find.specs.declared.Found.TheVariants.{At, Absent}
 use Rattle.bgpls_find.specs.Sets.{found_in}
 use Rattle.statuses.specs.Words.{two, nothing, placed, refusal_words, reading_words, reply_words, ask_words, place_words, value_words}
-use Rattle.statuses.proofs.Laws.{no_bits, IsBandwidth, status-3}
+use Rattle.statuses.proofs.Laws.{no_bits, status-3}
 use Rattle.statuses.specs.Answered.{Answers}
 
 -- ---- a question that finds a bandwidth
@@ -72,18 +68,18 @@ module _ (s : List ℕ) (spot : ℕ → Place) (p n : ℕ) where
   float-words f e = rw e (ap (λ (v : List ℕ). two 3 (number v) 0) (part-is s p n))
 
   -- Any other form has no bits.
-  pub other-words : (f : CodeForm) → OneOf (0 ∷ 1 ∷ 3 ∷ 4 ∷ []) (tag_of the_type f) → (g : Form) → told_form f ≡ g → (x : Reading)
+  pub other-words : (f : CodeForm) → (f ≡ Float → ⊥) → (g : Form) → told_form f ≡ g → (x : Reading)
       → x ≡ reading_as (told_form f) spot (standing s p n)
       → (w : List ℕ) → w ≡ reading_words 0 x → w ≡ reading_words (number (bytes_at s p n)) (reading_as g spot (standing s p n))
   unfolding reading_as
   other-words f o g e x h w i =
       i ∙ ap (reading_words 0) h ∙ go f o ∙ ap (λ (q : Form). reading_words (number (bytes_at s p n)) (reading_as q spot (standing s p n))) e
     where
-      go : (f : CodeForm) → OneOf (0 ∷ 1 ∷ 3 ∷ 4 ∷ []) (tag_of the_type f)
+      go : (f : CodeForm) → (f ≡ Float → ⊥)
           → reading_words 0 (reading_as (told_form f) spot (standing s p n)) ≡ reading_words (number (bytes_at s p n)) (reading_as (told_form f) spot (standing s p n))
       go WholeNumber o = refl
       go TwoNumbers o = refl
-      go Float o = absurd (⊎_elim (λ e. omega arith) (λ g. ⊎_elim (λ e. omega arith) (λ f. ⊎_elim (λ e. omega arith) (λ e. omega arith) f) g) o)
+      go Float o = absurd (o refl)
       go PlaceAndLength o = refl
       go SrlgCount o = refl
 

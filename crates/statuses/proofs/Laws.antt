@@ -6,14 +6,14 @@ use Prim.Native.Nat.{ℕ}
 use native.Mathlib.Omega.{arith}
 use lib.Dec.{eqb, ltb}
 use lib.Ieee.{Float}
-use lib.ListN.{length, get_or, take}
+use lib.ListN.{length, get_or}
 use borrow.Author.Tests.{ne_eqb, ltb-true, lt-ltb}
 use lib.Seq.{take-length}
 use Rattle.linkstate.specs.Bytes.{bytes_at}
 use Rattle.linkstate.specs.Replies.{Verdict, accepted, refused, refused_if, ◌then◌, unless, fault_of_call, fault, whole, pair, bandwidth, part, count, Reply, absent, found, ask_refused, Run, place}
 use Rattle.linkstate.specs.Attributes.{Attribute, of_kind}
 use Rattle.linkstate.specs.Why.{Why, unless_ask_refused}
-use Rattle.linkstate.specs.Questions.{Source, Subject, generally, standard_no, user_no, number_too_high, before_answer, given, answer, ask, value, bytes_of_first}
+use Rattle.linkstate.specs.Questions.{Source, Subject, generally, standard_no, user_no, number_too_high, before_answer, given, ask, value, bytes_of_first}
 use Rattle.statuses.specs.Words.{nothing, placed, whom_of, least, reply_words, ask_words, place_words, value_words}
 
 -- ---- numbers above 63

@@ -1,19 +1,18 @@
 -- No function of the C interface answers otherwise than by the statuses of its table: 0 to 5 a question, 6 and 7 named and an export, 16 why, or 128 + n, refused by n from 1 to 7, in run A, run B or the BGP-LS run.
-use mathlib.Core.Path.{◌≡◌, refl}
 use mathlib.Core.Logic.{◌⊎◌, inl, inr}
-use mathlib.Core.Bool.{Bool, true, false, cond, not, ◌&&◌, ◌||◌}
+use mathlib.Core.Bool.{Bool, true, false, cond, not, ◌&&◌}
 use mathlib.Core.List.{List, [], ◌∷◌}
 use Prim.Native.Nat.{ℕ, ◌+◌, ◌%◌, ◌≤◌}
 use native.Mathlib.Omega.{arith}
 use lib.Dec.{eqb, ltb}
 use lib.ListN.{length, get_or}
 use Rattle.linkstate.specs.Lists.{empty, any, put, member}
-use Rattle.linkstate.specs.Kinds.{is_code, is_link_code, wrong_at_top, wrong_inside}
+use Rattle.linkstate.specs.Kinds.{is_link_code, wrong_at_top, wrong_inside}
 use Rattle.linkstate.specs.Replies.{Run, run_a, run_b, run_bgp_ls, place, Refusal, refusal_at, Verdict, accepted, refused, fault, fault_of_call, refused_if, ◌then◌, unless, count, Reply, absent, found, ask_refused, Named, listed, named_refused, Length, bytes, export_refused, Exported, Place}
 use Rattle.linkstate.specs.Replies as R
 use Rattle.linkstate.specs.Elements.{Element, element, cut, elements, faults, faults_once}
 use Rattle.linkstate.specs.Attributes.{Attribute, of_kind, srlgs}
-use Rattle.linkstate.specs.Questions.{Source, Subject, generally, standard_no, user_no, number_too_high, given, before_answer, first_of, unwritten, srlg_answer, answer, ask, list_named, write}
+use Rattle.linkstate.specs.Questions.{Source, Subject, generally, standard_no, user_no, given, before_answer, first_of, unwritten, srlg_answer, answer, ask, list_named, write}
 use Rattle.linkstate.specs.BgpLs as L
 use Rattle.linkstate.specs.BgpLs.{run_verdict, run_source}
 use Rattle.linkstate.specs.Masks.{user, as_number}
@@ -28,7 +27,7 @@ use Rattle.isis.specs.Types.{wrong_in_a}
 use Rattle.isis.specs.MaskHeader.{header_length, mask_too_long, l_for_nobody, l_flag}
 use Rattle.isis.specs.Link.{link_verdict, link_source, export_link}
 use Rattle.isis.specs.Why.{link_why, side_why, stand_a, stand_of}
-use Rattle.statuses.specs.Words.{run_number, refusal_words, reading_words, reply_words, ask_words, named_words, length_words, why_words}
+use Rattle.statuses.specs.Words.{run_number, refusal_words, reply_words, ask_words, named_words, length_words, why_words}
 
 -- ---- refusals
 
@@ -248,6 +247,7 @@ module _ (s : Source) (sound : Sound s.verdict) where
       go : (v : Verdict) → Sound v → (w : Why) → Ruled w → Tells 16 16 (why_words (unless v why_refused w))
       go (refused r) (known p) w t = inr (refusal-told r p)
       go accepted p (because r h) ruled = inl (omega arith, omega arith)
+      go accepted p (why_refused _) t = elim t [ ]
 
   named-tells : Tells 6 6 (named_words (list_named s))
   unfolding list_named unless

@@ -1,0 +1,13 @@
+-- `isis_export::export_accepted` meets its contract, by the lengths of runs B and C. Assumes nothing.
+use Rattle.isis_export.proofs.Readying.{none_passed, none-answered, both-short}
+use Rattle.isis_export.proofs.export_accepted.Goals as goal
+
+pub export_bare-requires : goal.export_bare-requires
+export_bare-requires c = none_passed c.args.a.now c.args.b.now c.args.c.now c.if-b-c.true c.requires
+
+pub returns-then-b-c : goal.returns-then-b-c
+returns-then-b-c c = let a = c.args in
+    none-answered a.a.now a.b.now a.c.now c.if-b-c.true _ a.measuring a.out.now c.export_bare.ensures
+
+pub export_short-requires : goal.export_short-requires
+export_short-requires c = let h = both-short _ _ _ _ c.if-b-c-2.true in (c.requires, h.0, h.1)
