@@ -32,7 +32,7 @@ bounds-a-at c = let l = c.loop-at in omega (
 )
 
 pub overflow_cast-n : goal.overflow_cast-n
-overflow_cast-n c = omega (arith, c.shared_slice_known-in-loop-at-1.given (c.loop-at.at + 1))
+overflow_cast-n c = omega (arith, c.type_inv.a (c.loop-at.at + 1))
 
 pub overflow_add-next-in-loop-at : goal.overflow_add-next-in-loop-at
 overflow_add-next-in-loop-at c = let l = c.loop-at in omega (

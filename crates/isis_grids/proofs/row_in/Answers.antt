@@ -29,7 +29,7 @@ bounds-s-at c = let l = c.loop-at in omega (
 )
 
 pub overflow_cast-n : goal.overflow_cast-n
-overflow_cast-n c = omega (arith, c.shared_slice_known-1.given (c.loop-at.at + 1))
+overflow_cast-n c = omega (arith, c.type_inv.s (c.loop-at.at + 1))
 
 pub overflow_add-found : goal.overflow_add-found
 overflow_add-found c = let l = c.loop-at in omega (arith, c.requires.1)

@@ -39,12 +39,12 @@ unfolding computing
 returns-in-1173 c = rw c.in-1173.is c.rule_of-in-1173.ensures
 
 pub returns-in-1114-to-1120 : goal.returns-in-1114-to-1120
-returns-in-1114-to-1120 c = c.range_rule.ensures ∙ code-range _ c.in-1114-to-1120.if-c-lt1114-own.false c.in-1114-to-1120.if-c-lt1121-own.true
+returns-in-1114-to-1120 c = c.range_rule.ensures ∙ code-range _ (omega arith) (omega arith)
 
 pub returns-in_default : goal.returns-in_default
-returns-in_default c = let r = c.in_default-1.rest in
+returns-in_default c =
     c.rule_of-in_default.ensures
-    ∙ code-unknown _ r.0.0.0.0.0.0.0.1 r.0.0.0.0.0.0.1 r.0.0.0.0.0.1 r.0.0.0.0.1 r.0.0.0.1 r.0.0.1 r.0.1 r.1
+    ∙ code-unknown c.args.c (λ e. omega (arith, e)) (λ e. omega (arith, e)) (λ e. omega (arith, e)) (λ e. omega (arith, e)) (λ e. omega (arith, e)) (λ e. omega (arith, e)) (λ e. omega (arith, e)) (λ e. omega (arith, e))
     (elim c.in_default.branch [
       | in_default-via-then-c-lt1114 w ↦ λ k h g e. omega (arith, e)
       | in_default-via-else-c-lt1114+else-c-lt1121 w ↦ λ k h g e. omega (arith, e)

@@ -29,10 +29,10 @@ unfolding computing
 returns-in-1173 c = rw c.in-1173.is
 
 pub returns-in-1118-to-1120 : goal.returns-in-1118-to-1120
-returns-in-1118-to-1120 c = float-range _ c.in-1118-to-1120.if-c-lt1118-own.false c.in-1118-to-1120.if-c-lt1121-own.true
+returns-in-1118-to-1120 c = float-range _ (omega arith) (omega arith)
 
 pub returns-in_default : goal.returns-in_default
-returns-in_default c = let m = c.in_default.in_default-own in form-other _ m.rest.0.0.0.0.0.1 m.rest.0.0.0.0.1 m.rest.0.0.0.1 m.rest.0.0.1 m.rest.0.1 m.rest.1 (λ k h g e. omega (arith, c.in_default.if-c-lt1118-own.true, e))
+returns-in_default c = form-other c.args.c (λ e. omega (arith, e)) (λ e. omega (arith, e)) (λ e. omega (arith, e)) (λ e. omega (arith, e)) (λ e. omega (arith, e)) (λ e. omega (arith, e)) (λ k h g e. omega (arith, e))
 
 pub returns-in_default-2 : goal.returns-in_default-2
-returns-in_default-2 c = let m = c.in_default.in_default-own in form-other _ m.rest.0.0.0.0.0.1 m.rest.0.0.0.0.1 m.rest.0.0.0.1 m.rest.0.0.1 m.rest.0.1 m.rest.1 (λ k h g e. omega (arith, c.in_default.if-c-lt1121-own.false, e))
+returns-in_default-2 c = form-other c.args.c (λ e. omega (arith, e)) (λ e. omega (arith, e)) (λ e. omega (arith, e)) (λ e. omega (arith, e)) (λ e. omega (arith, e)) (λ e. omega (arith, e)) (λ k h g e. omega (arith, e))

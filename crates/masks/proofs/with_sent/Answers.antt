@@ -13,9 +13,9 @@ returns-then-n-eq0 c = sent-same _ _ _ c.if-n-eq0.true
 
 pub returns-then-at-s : goal.returns-then-at-s
 returns-then-at-s c = let a = c.args in
-    sent-joined _ _ _ _ (small-part a.s.now (λ i. omega (arith, c.shared_slice_known-1.given i)) a.at a.n) c.front_bytes.ensures c.joined.ensures
+    sent-joined _ _ _ _ (small-part a.s.now (λ i. omega (arith, c.type_inv.s i)) a.at a.n) c.front_bytes.ensures c.joined.ensures
 
 pub returns : goal.returns
 returns c = let a = c.args in
-    sent-joined _ _ _ _ (small-part a.s.now (λ i. omega (arith, c.shared_slice_known-1.given i)) a.at a.n)
+    sent-joined _ _ _ _ (small-part a.s.now (λ i. omega (arith, c.type_inv.s i)) a.at a.n)
     (c.few_bytes.ensures ∙ ap (λ (i : ℕ). little_endian (take i (drop a.at a.s.now))) (add-sub_cancel_left a.at a.n)) c.joined-2.ensures
