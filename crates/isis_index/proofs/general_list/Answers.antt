@@ -12,12 +12,12 @@ pub bounds-a-at : goal.bounds-a-at
 bounds-a-at c = omega (arith, (reading-room c.requires.2 c.loop-at.invariant c.loop-at-test.true).0)
 
 pub overflow_cast-n : goal.overflow_cast-n
-overflow_cast-n c = omega (arith, c.shared_slice_known-in-loop-at-1.given (c.loop-at.at + 1))
+overflow_cast-n c = omega (arith, c.type_inv.a (c.loop-at.at + 1))
 
 pub enter_general-requires : goal.enter_general-requires
 enter_general-requires c = let p = c.requires in let l = c.loop-at in
     let g = general-ready p.1 l.invariant in
-    (g.0, g.1, reading-right p.2 l.invariant c.loop-at-test.true (omega (arith, c.shared_slice_known-in-loop-at-1.given (l.at + 1))))
+    (g.0, g.1, reading-right p.2 l.invariant c.loop-at-test.true (omega (arith, c.type_inv.a (l.at + 1))))
 
 pub overflow_add-at-in-loop-at-2 : goal.overflow_add-at-in-loop-at-2
 overflow_add-at-in-loop-at-2 c = omega (arith, (reading-room c.requires.2 c.loop-at.invariant c.loop-at-test.true).1)

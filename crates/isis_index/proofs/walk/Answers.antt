@@ -11,7 +11,7 @@ pub bounds-a-at : goal.bounds-a-at
 bounds-a-at c = omega (arith, walking-inside c.loop-at.invariant c.loop-at-test.true)
 
 pub overflow_cast-end : goal.overflow_cast-end
-overflow_cast-end c = omega (arith, c.shared_slice_known-in-loop-at-1.given (c.loop-at.at + 1))
+overflow_cast-end c = omega (arith, c.type_inv.a (c.loop-at.at + 1))
 
 pub overflow_add-end-in-loop-at-2 : goal.overflow_add-end-in-loop-at-2
 overflow_add-end-in-loop-at-2 c = omega (arith, walking-inside c.loop-at.invariant c.loop-at-test.true, c.requires.1)

@@ -51,7 +51,7 @@ bounds-b-at c =
     omega (arith, w)
 
 pub overflow_cast-next : goal.overflow_cast-next
-overflow_cast-next c = omega (arith, c.shared_slice_known-in-loop-at-1.given (c.loop-at.at + 1))
+overflow_cast-next c = omega (arith, c.type_inv.b (c.loop-at.at + 1))
 
 pub overflow_add-next-in-loop-at : goal.overflow_add-next-in-loop-at
 overflow_add-next-in-loop-at c =

@@ -8,7 +8,9 @@ use Rattle.isis_srlg_index.proofs.Said.{header-sizes, general-header, sent-names
 use Rattle.isis_srlg_index.proofs.live_tlv.Goals as goal
 
 pub with_masks-who-requires : goal.with_masks-who-requires
-with_masks-who-requires c = let (a, b, e) = header-sizes c.args.v.now c.args.h c.requires.header c.requires.masks in (a, b, omega (arith, c.requires.inside), omega (arith, c.requires.size))
+with_masks-who-requires c =
+    let (a, b, e) = header-sizes c.args.v.now c.args.h c.requires.header c.requires.masks in
+    (a, b, omega (arith, c.requires.inside), omega (arith, c.requires.size))
 
 pub overflow_add-length_byte : goal.overflow_add-length_byte
 overflow_add-length_byte c = let (a, b, e) = header-sizes c.args.v.now c.args.h c.requires.header c.requires.masks in omega arith
@@ -21,7 +23,7 @@ bounds-v-length_byte c = let (a, b, e) = header-sizes c.args.v.now c.args.h c.re
 
 pub overflow_cast-identifiers : goal.overflow_cast-identifiers
 overflow_cast-identifiers c = let h = c.args.h in
-    omega (arith, c.shared_slice_known-2-1.given (2 + h.standard + h.user))
+    omega (arith, c.type_inv.v (2 + h.standard + h.user))
 
 pub overflow_add-result : goal.overflow_add-result
 overflow_add-result c = let (a, b, e) = header-sizes c.args.v.now c.args.h c.requires.header c.requires.masks in omega arith
@@ -31,7 +33,7 @@ overflow_add-result-2 c = let (a, b, e) = header-sizes c.args.v.now c.args.h c.r
 
 pub overflow_add-result-3 : goal.overflow_add-result-3
 overflow_add-result-3 c = let (a, b, e) = header-sizes c.args.v.now c.args.h c.requires.header c.requires.masks in
-    omega (arith, c.shared_slice_known-2-1.given (2 + c.args.h.standard + c.args.h.user))
+    omega (arith, c.type_inv.v (2 + c.args.h.standard + c.args.h.user))
 
 pub returns : goal.returns
 returns c = let v = c.args.v.now in

@@ -24,7 +24,7 @@ bounds-v-length_byte c =
     omega (arith, e, c.requires.0.inside)
 
 pub overflow_cast-end : goal.overflow_cast-end
-overflow_cast-end c = omega (arith, c.shared_slice_known-2-1.given c.header_length-length_byte.result)
+overflow_cast-end c = omega (arith, c.type_inv.v c.header_length-length_byte.result)
 
 pub overflow_add-end : goal.overflow_add-end
 overflow_add-end c =
@@ -39,7 +39,7 @@ slice_bounds-identifies_link-end c =
     omega (arith, e, r.inside, length-byte _ _ e)
 
 pub identifies_link-requires : goal.identifies_link-requires
-identifies_link-requires c = simp length-take (omega (arith, c.shared_slice_known-2-1.given c.header_length-length_byte.result))
+identifies_link-requires c = simp length-take (omega (arith, c.type_inv.v c.header_length-length_byte.result))
 
 pub returns : goal.returns
 returns c =

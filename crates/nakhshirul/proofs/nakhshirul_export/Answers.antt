@@ -1,0 +1,6 @@
+-- The entry's answer.
+use Rattle.nakhshirul.proofs.Laws.{exported-by}
+use Rattle.nakhshirul.proofs.nakhshirul_export.Goals as goal
+
+pub returns : goal.returns
+returns c = exported-by _ _ _ _ _ c.hand_over.ensures c.length_words-w.ensures c.export-x.ensures.out_after

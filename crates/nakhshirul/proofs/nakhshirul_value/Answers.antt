@@ -1,0 +1,8 @@
+-- The entry's answer, for whom the caller named.
+use Rattle.nakhshirul.proofs.Laws.{value-by}
+use Rattle.isis.specs.Link.{link_source}
+use Rattle.nakhshirul.proofs.nakhshirul_value.Goals as goal
+
+pub returns : goal.returns
+returns c = let a = c.args in
+    value-by (link_source a.a.now a.b.now a.c.now) a.who a.number a.code _ c.subject-whom.ensures _ _ c.hand_over.ensures c.value_link-w.ensures
