@@ -17,7 +17,8 @@ some-width C = omega arith
 some-width BgpLs = omega arith
 
 -- A frame by the run's width.
-pub frame-by : (run other : Run) (w : ℕ) (s : List ℕ) (at : ℕ) (f : Frame) → run ≡ other → width_of other ≡ w → f ≡ frame_in w s at → f ≡ frame_in (width_of run) s at
+pub frame-by : (run other : Run) (w : ℕ) (s : List ℕ) (at : ℕ) (f : Frame) → run ≡ other → width_of other ≡ w → f ≡ frame_in w s at
+    → f ≡ frame_in (width_of run) s at
 frame-by run other w s at f i e h = h ∙ ap (λ (k : ℕ). frame_in k s at) (sym (ap width_of i ∙ e))
 
 pub width-a : width_of A ≡ 1

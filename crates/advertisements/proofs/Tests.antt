@@ -112,13 +112,18 @@ module _ (v : List ℕ) where
   pub masks-short : (h : Header) → h ≡ header_of v → mask_too_long v ≡ false → (h.standard ≤ 8) × (h.user ≤ 8)
   unfolding mask_too_long
   masks-short h e t =
-      let o = or-false (ltb 8 (sabm_length v)) (ltb 8 (udabm_length v)) t in
-      (omega (arith, ltb-false 8 (sabm_length v) o.0, ap (λ (i : Header). i.standard) e), omega (arith, ltb-false 8 (udabm_length v) o.1, ap (λ (i : Header). i.user) e))
+      let o = or-false (ltb 8 (sabm_length v)) (ltb 8 (udabm_length v)) t in (
+        omega (arith, ltb-false 8 (sabm_length v) o.0, ap (λ (i : Header). i.standard) e),
+        omega (arith, ltb-false 8 (udabm_length v) o.1, ap (λ (i : Header). i.user) e),
+      )
 
   -- what is live can be read
   pub live-readable : (leb 2 (length v) && live_asla v) ≡ true → (2 ≤ length v) × (mask_too_long v ≡ false)
   unfolding live_asla
-  live-readable t = (leb-true 2 (length v) (and_l (leb 2 (length v)) (live_asla v) t), not-or (mask_too_long v) (l_for_nobody v) (and_r (leb 2 (length v)) (live_asla v) t))
+  live-readable t = (
+    leb-true 2 (length v) (and_l (leb 2 (length v)) (live_asla v) t),
+    not-or (mask_too_long v) (l_for_nobody v) (and_r (leb 2 (length v)) (live_asla v) t),
+  )
 
   pub live-short : length v < 2 → false ≡ (leb 2 (length v) && live_asla v)
   live-short h = rw (lt-leb 2 (length v) h)
@@ -193,7 +198,8 @@ module _ (k : ℕ) (v : List ℕ) where
       pub b-past : length v ≤ n → false ≡ carries_b k v
       unfolding carries_b srlg_values
       b-past p =
-          let y = lt-leb 4 (length (drop (header_length v + 1 + identifier_bytes v) v)) (omega (arith, header-bytes h v e, length-drop (header_length v + 1 + identifier_bytes v) v)) in
+          let y = lt-leb 4 (length (drop (header_length v + 1 + identifier_bytes v) v))
+          (omega (arith, header-bytes h v e, length-drop (header_length v + 1 + identifier_bytes v) v)) in
           rw (ne_eqb k 0 z, unflagged, y)
 
       pub b-is : (m : ℕ) → m ≡ get_or v n 0 → leb (n + 1 + m + 4) (length v) ≡ carries_b k v
@@ -252,7 +258,8 @@ module _ (test : Test) (k at t : ℕ) (v : List ℕ) where
     unfolding such_in
     asla-dead d = rw (any-asla, is) (go (leb 2 (length v)) refl (live_asla v) (sym e ∙ d))
       where
-        go : (b : Bool) → leb 2 (length v) ≡ b → (c : Bool) → (b && c) ≡ false → false ≡ ((stands v && (c && passing test (advertisement v []))) && carries_a k v)
+        go : (b : Bool) → leb 2 (length v) ≡ b → (c : Bool) → (b && c) ≡ false
+            → false ≡ ((stands v && (c && passing test (advertisement v []))) && carries_a k v)
         go false i c j = rw (short_none v (leb-false 2 (length v) i))
         go true i false j = unlike (stands v) false (carries_a k v) refl
         go true i true j = let z : ◌≡◌ {A = ℕ} 0 1 = cc in absurd (omega arith)
@@ -315,7 +322,8 @@ mask-length-short n h = go (eqb n 0) refl (eqb n 4) refl (eqb n 8) refl h
     go false e false f false g h = let z : ◌≡◌ {A = ℕ} 0 1 = cc in absurd (omega arith)
 
 module _ (test : Test) (k at t : ℕ) (v : List ℕ) where
-  passing-tlv : passing test (L.advertisement at v) ≡ passing test (seen false (take (L.sabm_length v) (drop 4 v)) (take (L.udabm_length v) (drop (4 + L.sabm_length v) v)))
+  passing-tlv : passing test (L.advertisement at v) ≡ passing test
+      (seen false (take (L.sabm_length v) (drop 4 v)) (take (L.udabm_length v) (drop (4 + L.sabm_length v) v)))
   unfolding L.advertisement
   passing-tlv = sym (passing-seen test false (L.advertisement at v) refl)
 
@@ -328,7 +336,8 @@ module _ (test : Test) (k at t : ℕ) (v : List ℕ) where
 
   pub tlv-other : (t ≡ 1122 → ⊥) → false ≡ such_in BgpLs test k (element at t v)
   unfolding such_in
-  tlv-other n = unlike (leb (L.asla_header v) (length v)) (any (passing test) (L.advertisements_of (element at t v))) (in_list 2 k list) (any-tlv ∙ rw (ne_eqb t 1122 n))
+  tlv-other n = unlike (leb (L.asla_header v) (length v)) (any (passing test) (L.advertisements_of (element at t v))) (in_list 2 k list)
+      (any-tlv ∙ rw (ne_eqb t 1122 n))
 
   pub tlv-short : length v < 4 → false ≡ such_in BgpLs test k (element at t v)
   unfolding such_in L.asla_header
@@ -348,7 +357,8 @@ module _ (test : Test) (k at t : ℕ) (v : List ℕ) where
       unfolding such_in
       tlv-ignored d =
           let z : L.not_ignored v ≡ false = kept ∙ d in
-          unlike (leb (L.asla_header v) (length v)) (any (passing test) (L.advertisements_of (element at t v))) (in_list 2 k list) (any-tlv ∙ rw z (go (eqb t 1122)))
+          unlike (leb (L.asla_header v) (length v)) (any (passing test) (L.advertisements_of (element at t v))) (in_list 2 k list)
+          (any-tlv ∙ rw z (go (eqb t 1122)))
         where
           go : (c : Bool) → ((c && false) && passing test (L.advertisement at v)) ≡ false
           go true = refl
@@ -361,7 +371,8 @@ module _ (test : Test) (k at t : ℕ) (v : List ℕ) where
       tlv-is is d h x y i j =
           let z : L.not_ignored v ≡ true = kept ∙ d in
           let f : take (4 + s - 4) (drop 4 v) ≡ take (L.sabm_length v) (drop 4 v) = rw (add-sub_cancel_left 4 s, a) in
-          let g : take (4 + s + u - (4 + s)) (drop (4 + s) v) ≡ take (L.udabm_length v) (drop (4 + L.sabm_length v) v) = rw (add-sub_cancel_left (4 + s) u, a, b) in
+          let g : take (4 + s + u - (4 + s)) (drop (4 + s) v) ≡ take (L.udabm_length v) (drop (4 + L.sabm_length v) v) =
+          rw (add-sub_cancel_left (4 + s) u, a, b) in
           let w : take (length v - (4 + s + u)) (drop (4 + s + u) v) ≡ drop (4 + L.sabm_length v + L.udabm_length v) v = rest-is v (4 + s + u) h ∙ rw (a, b) in
           rw (le-leb (4 + L.sabm_length v + L.udabm_length v) (length v) (omega arith), any-tlv, is, z)
           (ap₂ (λ (p q : Bool). p && q) (i ∙ ap₂ (λ (y w : List ℕ). passing test (seen false y w)) f g ∙ sym passing-tlv) (j ∙ ap (in_list 2 k) w))

@@ -35,7 +35,8 @@ inside-four c n e = sym (ap (wrong_inside c) e ∙ any-kept (has_code c) (λ q. 
 pub inside-srlg : (c n : ℕ) → c ≡ 1096 → not (eqb (n % 4) 0) ≡ wrong_inside c n
 unfolding computing
 inside-srlg c n e =
-    sym (ap (λ (x : ℕ). wrong_inside x n) e ∙ or-false (not (eqb (n % 4) 0 && leb 0 n)) ∙ ap (λ (b : Bool). not (eqb (n % 4) 0 && b)) (le-leb 0 n (omega arith)) ∙ ap not (and-true (eqb (n % 4) 0)))
+    sym (ap (λ (x : ℕ). wrong_inside x n) e ∙ or-false (not (eqb (n % 4) 0 && leb 0 n))
+    ∙ ap (λ (b : Bool). not (eqb (n % 4) 0 && b)) (le-leb 0 n (omega arith)) ∙ ap not (and-true (eqb (n % 4) 0)))
 
 pub inside-delays : (c n : ℕ) → c ≡ 1115 → not (eqb n 8) ≡ wrong_inside c n
 unfolding computing
@@ -106,7 +107,8 @@ pub two_bytes : 0 < 2
 two_bytes = omega arith
 
 abbrev pub Listed : ℕ → List ℕ → ℕ → ℕ → Type 0
-Listed base s seen at = Once run_bgp_ls known_inside check_inner 2 two_bytes base s 0 (faults_once run_bgp_ls known_inside check_inner [] (elements 2 base s)) seen at
+Listed base s seen at = Once run_bgp_ls known_inside check_inner 2 two_bytes base s 0
+    (faults_once run_bgp_ls known_inside check_inner [] (elements 2 base s)) seen at
 
 -- ---- a 1122
 
@@ -153,10 +155,12 @@ module _ (at : ℕ) (v : List ℕ) where
       asla-past h = rw (le-ltb (length v) 4 long, p, lt-ltb (length v) (asla_header v) h)
 
       -- the list of the code's slice from n on
-      pub asla-inner : (n : ℕ) → n ≡ asla_header v → n ≤ length v → faults_once run_bgp_ls known_inside check_inner [] (elements 2 (at + 4 + n) (take (length v - n) (drop n v))) ≡ check_asla at v
+      pub asla-inner : (n : ℕ) → n ≡ asla_header v → n ≤ length v
+          → faults_once run_bgp_ls known_inside check_inner [] (elements 2 (at + 4 + n) (take (length v - n) (drop n v))) ≡ check_asla at v
       unfolding check_asla inner_elements
       asla-inner n e h =
-          ap (λ (l : List ℕ). faults_once run_bgp_ls known_inside check_inner [] (elements 2 (at + 4 + n) l)) (ap (λ (k : ℕ). take k (drop n v)) (sym (length-drop n v)) ∙ take-length (drop n v))
+          ap (λ (l : List ℕ). faults_once run_bgp_ls known_inside check_inner [] (elements 2 (at + 4 + n) l))
+          (ap (λ (k : ℕ). take k (drop n v)) (sym (length-drop n v)) ∙ take-length (drop n v))
           ∙ rw (le-ltb (length v) 4 long, p, le-ltb (length v) (asla_header v) (omega arith))
           (ap (λ (k : ℕ). faults_once run_bgp_ls known_inside check_inner [] (elements 2 (at + 4 + k) (drop k v))) e)
 

@@ -51,7 +51,8 @@ module _ (r : List ℕ) (at : ℕ) where
       (ap (λ (i : ℕ). elements 2 i (drop (at + 4 + n) r)) y)
 
 -- Where no element is refused, the one that begins is whole: its type and its length are what the code reads there.
-module _ (check : ℕ → ℕ → List ℕ → Verdict) (base : ℕ) (s : List ℕ) (at : ℕ) (h : at < length s) (p : faults run_bgp_ls check (left 2 base s at) ≡ accepted) where
+module _ (check : ℕ → ℕ → List ℕ → Verdict) (base : ℕ) (s : List ℕ) (at : ℕ) (h : at < length s)
+    (p : faults run_bgp_ls check (left 2 base s at) ≡ accepted) where
   fits_in : at + 4 + length_of 2 (drop at s) ≤ length s
   fits_in = faults-whole run_bgp_ls check 2 (omega arith) base s at h p
 
@@ -92,7 +93,9 @@ sound at t v h e = record { fixed = go (ltb (length v) 4) refl checked; masks = 
 
     go : (b : Bool) → ltb (length v) 4 ≡ b
         → cond b (fault 3 run_bgp_ls at)
-        (cond (not (not_ignored v)) accepted (cond (ltb (length v) (asla_header v)) (fault 3 run_bgp_ls at) (faults_once run_bgp_ls Rattle.linkstate.specs.BgpLs.known_inside Rattle.linkstate.specs.BgpLs.check_inner [] (inner_elements at v))))
+        (cond (not (not_ignored v)) accepted
+        (cond (ltb (length v) (asla_header v)) (fault 3 run_bgp_ls at)
+        (faults_once run_bgp_ls Rattle.linkstate.specs.BgpLs.known_inside Rattle.linkstate.specs.BgpLs.check_inner [] (inner_elements at v))))
         ≡ accepted → 4 ≤ length v
     go true f k = absurd (not-accepted 3 run_bgp_ls at k)
     go false f k = ltb-false (length v) 4 f
@@ -109,7 +112,8 @@ module _ (v : List ℕ) (s u : ℕ) (e : s ≡ sabm_length v) (f : u ≡ udabm_l
   unfolding user_mask
   user-part = rw (add-sub_cancel_left (4 + s) u) (ap₂ (λ (x y : ℕ). take y (drop (4 + x) v)) e f)
 
-  pub names-part : (a : ℕ) → in_masks (take (4 + s - 4) (drop 4 v)) (take (4 + s + u - (4 + s)) (drop (4 + s) v)) a ≡ chosen_by (Naming a) (standard_mask v) (user_mask v)
+  pub names-part : (a : ℕ)
+      → in_masks (take (4 + s - 4) (drop 4 v)) (take (4 + s + u - (4 + s)) (drop (4 + s) v)) a ≡ chosen_by (Naming a) (standard_mask v) (user_mask v)
   unfolding chosen_by
   names-part a = ap₂ (λ (x y : List ℕ). in_masks x y a) standard-part user-part
 
@@ -131,7 +135,8 @@ module _ (set : Set) (a s u : ℕ) (e : set ≡ Naming a) where
   ends-user h = rw (e, le-ltb a 64 h)
 
 -- Where the mask ends before the application's bit, the bit is not set.
-pub ends-unnamed : (set : Set) (v : List ℕ) (s u : ℕ) → s ≡ sabm_length v → u ≡ udabm_length v → ends_before set s u ≡ true → chosen_by set (standard_mask v) (user_mask v) ≡ false
+pub ends-unnamed : (set : Set) (v : List ℕ) (s u : ℕ) → s ≡ sabm_length v → u ≡ udabm_length v → ends_before set s u ≡ true
+    → chosen_by set (standard_mask v) (user_mask v) ≡ false
 unfolding ends_before chosen_by in_masks standard_mask user_mask
 ends-unnamed Top v s u e f h = refl
 ends-unnamed Every v s u e f h = absurd (let z : ◌≡◌ {A = ℕ} 0 1 = cc in omega arith)
@@ -141,7 +146,8 @@ ends-unnamed (Naming a) v s u e f h = go (ltb a 64) h
     go : (b : Bool) → cond b (leb s (a / 8)) (leb u ((a - 64) / 8)) ≡ true → cond b (bit (standard_mask v) a) (ltb a 96 && bit (user_mask v) (a - 64)) ≡ false
     go true k = bit-beyond (standard_mask v) a (omega (arith, leb-true s (a / 8) k, length-take (sabm_length v) (drop 4 v)))
     go false k =
-        ap (λ (b : Bool). ltb a 96 && b) (bit-beyond (user_mask v) (a - 64) (omega (arith, leb-true u ((a - 64) / 8) k, length-take (udabm_length v) (drop (4 + sabm_length v) v))))
+        ap (λ (b : Bool). ltb a 96 && b)
+        (bit-beyond (user_mask v) (a - 64) (omega (arith, leb-true u ((a - 64) / 8) k, length-take (udabm_length v) (drop (4 + sabm_length v) v))))
         ∙ and-false (ltb a 96)
 
 -- ---- whether an element is taken, test by test
@@ -198,11 +204,13 @@ module _ (set : Set) (r : List ℕ) (at : ℕ) where
     module _ (p : Passes r at) where
       pub element-passes : check_top at t value ≡ accepted
       unfolding faults
-      element-passes = then-first (check_top at t value) (faults run_bgp_ls check_top (rest r (at + 4 + n))) (sym (ap (faults run_bgp_ls check_top) (rest-whole r at t n f)) ∙ p)
+      element-passes = then-first (check_top at t value) (faults run_bgp_ls check_top (rest r (at + 4 + n)))
+          (sym (ap (faults run_bgp_ls check_top) (rest-whole r at t n f)) ∙ p)
 
       pub rest-passes : Passes r (at + 4 + n)
       unfolding faults
-      rest-passes = then-second (check_top at t value) (faults run_bgp_ls check_top (rest r (at + 4 + n))) (sym (ap (faults run_bgp_ls check_top) (rest-whole r at t n f)) ∙ p)
+      rest-passes = then-second (check_top at t value) (faults run_bgp_ls check_top (rest r (at + 4 + n)))
+          (sym (ap (faults run_bgp_ls check_top) (rest-whole r at t n f)) ∙ p)
 
       pub part_sound : t ≡ 1122 → Sound (take (at + 4 + n - (at + 4)) (drop (at + 4) r))
       part_sound e = subst Sound (sym (part-is r (at + 4) n)) (sound at t value element-passes e)
@@ -217,7 +225,16 @@ module _ (set : Set) (r : List ℕ) (at : ℕ) where
           let m = v.masks l in
           let z = length-bytes_at r (at + 4) n f.within in
           let g = v.fixed in
-          record { behind = h; within = f.within; fixed = omega arith; live = l; masks = omega arith; inner = (asla-checked at value l (top-asla at t value i ∙ element-passes)).1; passes = rest-passes; left = sym e ∙ aslas-turn ∙ rw k }
+          record {
+            behind = h;
+            within = f.within;
+            fixed = omega arith;
+            live = l;
+            masks = omega arith;
+            inner = (asla-checked at value l (top-asla at t value i ∙ element-passes)).1;
+            passes = rest-passes;
+            left = sym e ∙ aslas-turn ∙ rw k;
+          }
 
 -- ---- the attributes of a list of elements, whose first byte is at an offset of the run
 

@@ -45,7 +45,8 @@ run-within r = go (ltb 524288 (length r)) refl
 pub part-size : (r : List ℕ) (first next : ℕ) → first ≤ next → next ≤ length r → length (bytes_up_to r first next) ≡ next - first
 part-size r first next h g = length-take-le (next - first) (drop first r) (omega (arith, length-drop first r))
 
-pub part-within : (r : List ℕ) (first next : ℕ) → first ≤ next → next ≤ length r → run_verdict r ≡ accepted → first + length (take (next - first) (drop first r)) ≤ 524288
+pub part-within : (r : List ℕ) (first next : ℕ) → first ≤ next → next ≤ length r → run_verdict r ≡ accepted
+    → first + length (take (next - first) (drop first r)) ≤ 524288
 part-within r first next h g p = omega (arith, run-within r p, part-size r first next h g)
 
 -- ---- the lists of elements of a set
@@ -60,7 +61,8 @@ from-run (Naming a) r = refl
 pub attributes-end : (set : Set) (r : List ℕ) (from : ℕ) → length r ≤ from → attributes_from set r from ≡ []
 unfolding attributes_from each
 attributes-end set r from h =
-    ap₂ (λ (es : List Element) (ds : List Advertisement). cond (is_top set) (each attributes_of es) (each (λ d. d.attributes) ds)) (rest_end r from h) (aslas-end set r from h)
+    ap₂ (λ (es : List Element) (ds : List Advertisement). cond (is_top set) (each attributes_of es) (each (λ d. d.attributes) ds)) (rest_end r from h)
+    (aslas-end set r from h)
     ∙ go (is_top set)
   where
     go : (b : Bool) → ◌≡◌ {A = List Attribute} (cond b [] []) []
@@ -89,7 +91,8 @@ module _ (set : Set) (r : List ℕ) (from : ℕ) where
           start = omega arith;
           order = omega arith;
           within = w;
-          uncut = ap₂ (λ (i : ℕ) (l : List ℕ). faults run_bgp_ls any_element (elements 2 i l)) e l ∙ uncut check_inner (elements 2 (at + 4 + h) (drop h v)) a.inner;
+          uncut = ap₂ (λ (i : ℕ) (l : List ℕ). faults run_bgp_ls any_element (elements 2 i l)) e l
+              ∙ uncut check_inner (elements 2 (at + 4 + h) (drop h v)) a.inner;
           passes = a.passes;
           some = rw a.left;
           left =
@@ -128,7 +131,10 @@ module _ (set : Set) (r : List ℕ) (inside : is_top set ≡ false) where
 
   pub starts-part : (first next : ℕ) → IsPart set r 0 first next → Starts set r first next
   starts-part first next p =
-      record { list = record { order = p.order; within = p.within; uncut = p.uncut; passes = p.passes; top = λ e. not-true e next }; all = sym p.left ∙ from-run set r }
+      record {
+        list = record { order = p.order; within = p.within; uncut = p.uncut; passes = p.passes; top = λ e. not-true e next };
+        all = sym p.left ∙ from-run set r;
+      }
 
   pub starts_none : attributes_from set r 0 ≡ [] → Starts set r (length r) (length r)
   unfolding each faults

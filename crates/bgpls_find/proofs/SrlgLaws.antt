@@ -100,9 +100,11 @@ module _ (set : Set) (r : List ℕ) (from : ℕ) where
   set-none e = ap srlg_words e
 
   -- with a list before them
-  pub set-turn : (first next : ℕ) → srlg_words (list_at r first next ++ attributes_from set r from) ≡ list_words (bytes_up_to r first next) ++ srlg_words (attributes_from set r from)
+  pub set-turn : (first next : ℕ)
+      → srlg_words (list_at r first next ++ attributes_from set r from) ≡ list_words (bytes_up_to r first next) ++ srlg_words (attributes_from set r from)
   set-turn first next =
-      srlg-append (list_at r first next) (attributes_from set r from) ∙ ap (λ (l : List ℕ). l ++ srlg_words (attributes_from set r from)) (list-words first (bytes_up_to r first next))
+      srlg-append (list_at r first next) (attributes_from set r from)
+      ∙ ap (λ (l : List ℕ). l ++ srlg_words (attributes_from set r from)) (list-words first (bytes_up_to r first next))
 
 -- Where numbers are left, the run has not ended.
 pub set_more : (set : Set) (r : List ℕ) (from : ℕ) → 0 < length (srlg_words (attributes_from set r from)) → from < length r
@@ -147,7 +149,8 @@ module _ (d : List ℕ) (start : ℕ) (all : List ℕ) where
   pub written_start : (l : List ℕ) → l ≡ all → start + length all ≤ length d → Written d start all d start l
   written_start l e h = record { same = refl; room = omega (arith, ap length e); at = omega (arith, ap length e); rest = ap (put d start) e }
 
-  pub written_next : (out after : List ℕ) (k m : ℕ) (l ws rest : List ℕ) → Written d start all out k l → l ≡ ws ++ rest → m ≡ k + length ws → after ≡ put out k ws
+  pub written_next : (out after : List ℕ) (k m : ℕ) (l ws rest : List ℕ) → Written d start all out k l → l ≡ ws ++ rest → m ≡ k + length ws
+      → after ≡ put out k ws
       → Written d start all after m rest
   written_next out after k m l ws others w e f g =
       let z : length l ≡ length ws + length others = ap length e ∙ length-append ws others in
@@ -169,7 +172,8 @@ module _ (d : List ℕ) (start : ℕ) (all : List ℕ) where
   written-end out k l w e = let at = w.at in (omega (arith, ap length e), put-nil out k ∙ sym (ap (put out k) e) ∙ w.rest)
 
 -- The next numbers fit.
-pub written-room : (d : List ℕ) (start : ℕ) (all out : List ℕ) (k : ℕ) (l ws rest : List ℕ) → Written d start all out k l → l ≡ ws ++ rest → k + length ws ≤ length out
+pub written-room : (d : List ℕ) (start : ℕ) (all out : List ℕ) (k : ℕ) (l ws rest : List ℕ) → Written d start all out k l → l ≡ ws ++ rest
+    → k + length ws ≤ length out
 written-room d start all out k l ws others w e = let room = w.room in omega (arith, ap length e, length-append ws others)
 
 -- At the front of the list.

@@ -15,15 +15,18 @@ use Rattle.octets.proofs.Laws.{front-is}
 use Rattle.bgpls_find.specs.Words.{srlg_words}
 
 -- The numbers of attributes, sorted, are their SRLGs.
-pub words-answer : (x : Asked) (ts : List Attribute) (n : ℕ) (xs after ns list : List ℕ) → n ≤ length xs → n ≡ length (srlg_words ts) → after ≡ put xs 0 (srlg_words ts)
+pub words-answer : (x : Asked) (ts : List Attribute) (n : ℕ) (xs after ns list : List ℕ) → n ≤ length xs → n ≡ length (srlg_words ts)
+    → after ≡ put xs 0 (srlg_words ts)
     → ns ≡ distinct (take n after) → x ≡ srlg_answer ns list → x ≡ srlg_answer (srlgs ts) list
 unfolding srlgs srlg_words
 words-answer x ts n xs after ns list h c w s e =
-    let front : take n after ≡ srlg_words ts = ap (λ (i : ℕ). take i after) c ∙ ap (take (length (srlg_words ts))) w ∙ front-is xs (srlg_words ts) (omega arith) in
+    let front : take n after ≡ srlg_words ts = ap (λ (i : ℕ). take i after) c ∙ ap (take (length (srlg_words ts))) w
+    ∙ front-is xs (srlg_words ts) (omega arith) in
     e ∙ ap (λ (l : List ℕ). srlg_answer l list) (s ∙ ap distinct front)
 
 -- Without numbers the answer is absent.
-pub none-answer : (ts : List Attribute) (n : ℕ) (list : List ℕ) → n ≡ length (srlg_words ts) → n ≡ 0 → record { reply = absent; list = list } ≡ srlg_answer (srlgs ts) list
+pub none-answer : (ts : List Attribute) (n : ℕ) (list : List ℕ) → n ≡ length (srlg_words ts) → n ≡ 0
+    → record { reply = absent; list = list } ≡ srlg_answer (srlgs ts) list
 unfolding srlgs srlg_words srlg_answer unwritten distinct empty
 none-answer ts n list c z = go (srlg_words ts) (omega arith)
   where
@@ -39,7 +42,8 @@ pub half_room : (n k : ℕ) → n ≤ 2 * k → n ≤ 2 * length {A = ℕ} (repl
 half_room n k h = rw length-replicate h
 
 -- The answer to a question for SRLGs.
-pub asks-srlg : (r : List ℕ) (whom : Subject) (k : ℕ) (spot : ℕ → Place) (list : List ℕ) (x : Asked) → k ≡ 1096 → x ≡ srlg_answer (srlgs (given (run_source r) whom 1096)) list
+pub asks-srlg : (r : List ℕ) (whom : Subject) (k : ℕ) (spot : ℕ → Place) (list : List ℕ) (x : Asked) → k ≡ 1096
+    → x ≡ srlg_answer (srlgs (given (run_source r) whom 1096)) list
     → x ≡ answer spot k (given (run_source r) whom k) list
 unfolding answer
 asks-srlg r whom k spot list x h e = rw h e
@@ -56,6 +60,7 @@ pub source-bytes : (r v : List ℕ) (ts : List Attribute) → v ≡ bytes_of_fir
 unfolding run_source
 source-bytes r v ts e = e
 
-pub lists : (r : List ℕ) (s u : ℕ) → accepted ≡ (run_source r).verdict → s ≡ as_number (run_source r).names → u ≡ as_number (λ n. (run_source r).names (user n)) → listed s u ≡ list_named (run_source r)
+pub lists : (r : List ℕ) (s u : ℕ) → accepted ≡ (run_source r).verdict → s ≡ as_number (run_source r).names
+    → u ≡ as_number (λ n. (run_source r).names (user n)) → listed s u ≡ list_named (run_source r)
 unfolding list_named unless
 lists r s u v hs hu = rw (← v, hs, hu)

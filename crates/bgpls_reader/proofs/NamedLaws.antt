@@ -85,12 +85,14 @@ unfolding names advertisement standard_mask user_mask
 masks-name at v n = refl
 
 pub held_next : (r : List ℕ) (m j : Applications) (from at n : ℕ) → Held m r from → IsAsla Every r from at n
-    → ((k : ℕ) → in_set j k ≡ in_set m k || in_masks (standard_mask (take (at + 4 + n - (at + 4)) (drop (at + 4) r))) (user_mask (take (at + 4 + n - (at + 4)) (drop (at + 4) r))) k)
+    → ((k : ℕ) → in_set j k ≡ in_set m k || in_masks (standard_mask (take (at + 4 + n - (at + 4)) (drop (at + 4) r)))
+    (user_mask (take (at + 4 + n - (at + 4)) (drop (at + 4) r))) k)
     → Held j r (at + 4 + n)
 unfolding any
 held_next r m j from at n held a both k =
     let d = advertisement at (bytes_at r (at + 4) n) in
-    let is : in_masks (standard_mask (take (at + 4 + n - (at + 4)) (drop (at + 4) r))) (user_mask (take (at + 4 + n - (at + 4)) (drop (at + 4) r))) k ≡ names k d =
+    let is : in_masks (standard_mask (take (at + 4 + n - (at + 4)) (drop (at + 4) r)))
+    (user_mask (take (at + 4 + n - (at + 4)) (drop (at + 4) r))) k ≡ names k d =
     ap (λ (v : List ℕ). in_masks (standard_mask v) (user_mask v) k) (part-is r (at + 4) n) ∙ sym (masks-name at (bytes_at r (at + 4) n) k) in
     ap (λ (z : Bool). z || any (names k) (aslas_from Every r (at + 4 + n))) (both k ∙ ap (λ (z : Bool). in_set m k || z) is)
     ∙ or_assoc (in_set m k) (names k d) (any (names k) (aslas_from Every r (at + 4 + n)))
@@ -129,4 +131,5 @@ module _ (r : List ℕ) (m by : Applications) (held : (n : ℕ) → in_set m n �
   unfolding run_source named run_side user
   names-user l =
       is_number by.user (λ n. (run_source r).names (64 + n)) l (λ k h.
-      sym (place-high by k) ∙ turned (64 + k) ∙ held (64 + k) ∙ sym (user-among k (any (names (64 + k)) (aslas r)) (λ l. none-retired (64 + k) (omega arith) (aslas r))))
+      sym (place-high by k) ∙ turned (64 + k) ∙ held (64 + k)
+      ∙ sym (user-among k (any (names (64 + k)) (aslas r)) (λ l. none-retired (64 + k) (omega arith) (aslas r))))

@@ -54,11 +54,13 @@ module _ (r : List ℕ) (k : ℕ) (whom : Whom) where
     unfolding attributes_in given run_source set_of
     asks-rsvp-te n w z = rw (e, w, z)
 
-    pub asks-standard : (n : ℕ) (s : Set) → whom ≡ Standard n → (n ≡ 0 → ⊥) → attributes_in s r ≡ application_set n (run_side r) → attributes_in s r ≡ given (run_source r) (subject_of whom) k
+    pub asks-standard : (n : ℕ) (s : Set) → whom ≡ Standard n → (n ≡ 0 → ⊥) → attributes_in s r ≡ application_set n (run_side r)
+        → attributes_in s r ≡ given (run_source r) (subject_of whom) k
     unfolding given run_source set_of
     asks-standard n s w z h = rw (e, w, ne_eqb n 0 z) h
 
-    pub asks-user : (n : ℕ) (s : Set) → whom ≡ User n → attributes_in s r ≡ application_set (64 + n) (run_side r) → attributes_in s r ≡ given (run_source r) (subject_of whom) k
+    pub asks-user : (n : ℕ) (s : Set) → whom ≡ User n → attributes_in s r ≡ application_set (64 + n) (run_side r)
+        → attributes_in s r ≡ given (run_source r) (subject_of whom) k
     unfolding given run_source set_of user
     asks-user n s w h = rw (e, w) h
 
@@ -115,7 +117,8 @@ asla-no-code k c = go (eqb k 1122) refl
     go false e = e
 
 -- The first value of a kind, in an accepted run: it stands at its place, and its length can be read.
-module _ (r : List ℕ) (ok : run_verdict r ≡ accepted) (whom : Whom) (low : number_too_high (subject_of whom) ≡ false) (k : ℕ) (c : is_code k ≡ true) (d : eqb k 1096 ≡ false) (p n : ℕ)
+module _ (r : List ℕ) (ok : run_verdict r ≡ accepted) (whom : Whom) (low : number_too_high (subject_of whom) ≡ false) (k : ℕ) (c : is_code k ≡ true)
+    (d : eqb k 1096 ≡ false) (p n : ℕ)
     (f : First (of_kind k (given (run_source r) (subject_of whom) k)) p n) where
   accepted-run : Accepted (run_source r)
   unfolding run_source
@@ -161,7 +164,8 @@ module _ (r : List ℕ) (ok : run_verdict r ≡ accepted) (whom : Whom) (low : n
 
   pub answers : first_of (place run_bgp_ls) (of_kind k (given (run_source r) (subject_of whom) k)) ≡ row_answer r (place run_bgp_ls) k p n
   answers =
-      first-present r (place run_bgp_ls) k (of_kind k (given (run_source r) (subject_of whom) k)) f.first f.rest f.is facts.1 facts.0.placed (own-bytes r (place run_bgp_ls) f.first (form_of k) (sym facts.0.bytes))
+      first-present r (place run_bgp_ls) k (of_kind k (given (run_source r) (subject_of whom) k)) f.first f.rest f.is facts.1 facts.0.placed
+      (own-bytes r (place run_bgp_ls) f.first (form_of k) (sym facts.0.bytes))
       ∙ ap₂ (row_answer r (place run_bgp_ls) k) f.place f.len
 
   pub part-is-value : take (p + n - p) (drop p r) ≡ bytes_of_first r (of_kind k (given (run_source r) (subject_of whom) k))

@@ -32,7 +32,8 @@ unfolding computing
 own k v f = go (eqb k 1092) refl
   where
     go : (z : Bool) → eqb k 1092 ≡ z → cond z (drop 1 v) v ≡ v
-    go true e = let m : form_of 1092 ≡ place_and_length = subst (λ (x : ℕ). form_of x ≡ place_and_length) (eqb-true k 1092 e) f in let z : ◌≡◌ {A = ℕ} 0 1 = cc in absurd (omega arith)
+    go true e = let m : form_of 1092 ≡ place_and_length = subst (λ (x : ℕ). form_of x ≡ place_and_length) (eqb-true k 1092 e) f in
+        let z : ◌≡◌ {A = ℕ} 0 1 = cc in absurd (omega arith)
     go false e = refl
 
 -- ---- two replies that tell one value
@@ -44,7 +45,8 @@ module _ (a r : List ℕ) (k : ℕ) (v : List ℕ) where
   abbrev in_run : ℕ → Attribute
   in_run o = record { code = k; at = o; len = length v; value = v }
 
-  reading-alike : (i j : ℕ) → bytes_at a i (length (in_a k v)) ≡ in_a k v → bytes_at r j (length v) ≡ v → AlikeReply a r (found (reading (place run_a) (in_link i))) (found (reading (place run_bgp_ls) (in_run j)))
+  reading-alike : (i j : ℕ) → bytes_at a i (length (in_a k v)) ≡ in_a k v → bytes_at r j (length v) ≡ v
+      → AlikeReply a r (found (reading (place run_a) (in_link i))) (found (reading (place run_bgp_ls) (in_run j)))
   unfolding reading reading_as
   reading-alike i j e d = go (form_of k) refl
     where

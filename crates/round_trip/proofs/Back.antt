@@ -30,7 +30,8 @@ module _ (a b c buffer after : List ℕ) (n : ℕ) (w : Writes a b c buffer afte
       let e : x ≡ ask (run_source run) whom k list = h ∙ ap (λ (r : List ℕ). ask (run_source r) whom k list) front-is in
       asked_back n w e
       (subst (λ (y : Asked). Alike a run (ask (link_source a b c) whom k list) y) (sym e)
-      (subst (λ (r : List ℕ). Alike a r (ask (link_source a b c) whom k list) (ask (run_source r) whom k list)) (sym d.bytes) (export-answers a b c d.accepted whom k list)))
+      (subst (λ (r : List ℕ). Alike a r (ask (link_source a b c) whom k list) (ask (run_source r) whom k list)) (sym d.bytes)
+      (export-answers a b c d.accepted whom k list)))
 
   pub named_back_lem : (x : Named) → x ≡ list_named (run_source front) → NamedBack a b c buffer after x
   named_back_lem x h =

@@ -36,7 +36,9 @@ unfolding srlg_answer unwritten refused_if fault_of_call fault unless
 srlg-no-bandwidth ns list x = go (empty ns) (ltb (length list) (length ns))
   where
     go : (b d : Bool)
-        → (cond b (unwritten list absent) (unless (refused_if d 5) (λ r. unwritten list (ask_refused r)) (record { reply = found (Rattle.linkstate.specs.Replies.count (length ns)); list = Rattle.linkstate.specs.Lists.put list 0 ns }))).reply
+        → (cond b (unwritten list absent)
+        (unless (refused_if d 5) (λ r. unwritten list (ask_refused r))
+        (record { reply = found (Rattle.linkstate.specs.Replies.count (length ns)); list = Rattle.linkstate.specs.Lists.put list 0 ns }))).reply
         ≡ found (bandwidth x) → ⊥
     go true d e = let z : ◌≡◌ {A = ℕ} 0 1 = cc in omega arith
     go false true e = let z : ◌≡◌ {A = ℕ} 0 1 = cc in omega arith
@@ -52,7 +54,8 @@ unfolding ask answer unless unwritten
 finds s whom k list x = go (before_answer s whom k) refl (eqb k 1096) refl
   where
     go : (v : Verdict) → before_answer s whom k ≡ v → (b : Bool) → eqb k 1096 ≡ b
-        → (unless v (λ r. unwritten list (ask_refused r)) (cond b (srlg_answer (srlgs (given s whom k)) list) (unwritten list (first_of s.spot (of_kind k (given s whom k)))))).reply ≡ found (bandwidth x)
+        → (unless v (λ r. unwritten list (ask_refused r))
+        (cond b (srlg_answer (srlgs (given s whom k)) list) (unwritten list (first_of s.spot (of_kind k (given s whom k)))))).reply ≡ found (bandwidth x)
         → Finds s whom k x
     go (refused r) v b d e = absurd (let z : ◌≡◌ {A = ℕ} 0 1 = cc in omega arith)
     go accepted v true d e = absurd (srlg-no-bandwidth (srlgs (given s whom k)) list x e)
@@ -76,7 +79,8 @@ module _ (s : List ℕ) (spot : ℕ → Place) (p n : ℕ) where
       i ∙ ap (reading_words 0) h ∙ go f o ∙ ap (λ (q : Form). reading_words (number (bytes_at s p n)) (reading_as q spot (standing s p n))) e
     where
       go : (f : CodeForm) → (f ≡ Float → ⊥)
-          → reading_words 0 (reading_as (told_form f) spot (standing s p n)) ≡ reading_words (number (bytes_at s p n)) (reading_as (told_form f) spot (standing s p n))
+          → reading_words 0 (reading_as (told_form f) spot (standing s p n)) ≡ reading_words (number (bytes_at s p n))
+          (reading_as (told_form f) spot (standing s p n))
       go WholeNumber o = refl
       go TwoNumbers o = refl
       go Float o = absurd (o refl)
@@ -114,7 +118,8 @@ unfolding first_row place_words place
 row-placed run row [] e h = absurd (h (ap (λ (x : List ℕ). get_or x 0 0) e))
 row-placed run row (t ∷ ts) e h = rw e
 
-pub row-not-placed : (a : List ℕ) (spot : ℕ → Place) (k : ℕ) (row : List ℕ) (ts : List Attribute) → first_of spot ts ≡ row_answer a spot k (get_or row 0 0) (get_or row 1 0)
+pub row-not-placed : (a : List ℕ) (spot : ℕ → Place) (k : ℕ) (row : List ℕ) (ts : List Attribute)
+    → first_of spot ts ≡ row_answer a spot k (get_or row 0 0) (get_or row 1 0)
     → get_or row 0 0 ≡ 0 → nothing ≡ place_words spot ts
 unfolding row_answer
 row-not-placed a spot k row ts e z = first-none spot ts (e ∙ rw z)

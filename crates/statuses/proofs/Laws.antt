@@ -55,7 +55,9 @@ module _ {A : Type 0} (f : Subject → A) (alike : (v w : Subject) → number_to
   unfolding number_too_high
   low who n = go (ltb 63 n) refl
     where
-      of : ltb 63 n ≡ true → (x y z : Bool) → f (cond x generally (cond y (standard_no 64) (cond z (user_no 64) (standard_no 64)))) ≡ f (cond x generally (cond y (standard_no n) (cond z (user_no n) (standard_no 64))))
+      of : ltb 63 n ≡ true → (x y z : Bool)
+          → f (cond x generally (cond y (standard_no 64) (cond z (user_no 64) (standard_no 64)))) ≡ f
+          (cond x generally (cond y (standard_no n) (cond z (user_no n) (standard_no 64))))
       of h true y z = refl
       of h false true z = alike (standard_no 64) (standard_no n) refl h
       of h false false true = alike (user_no 64) (user_no n) refl (let l = ltb-true 63 n h in lt-ltb 31 n (omega arith))
@@ -76,7 +78,8 @@ module _ (s : Source) (k : ℕ) where
   unfolding ask_words
   ask-words-low list who n = rw (asked_low list who n, value_low who n)
 
-  pub why-low : (f : Subject → Why) (who n : ℕ) → unless_ask_refused s (whom_of who (least n)) k (f (whom_of who (least n))) ≡ unless_ask_refused s (whom_of who n) k (f (whom_of who n))
+  pub why-low : (f : Subject → Why) (who n : ℕ)
+      → unless_ask_refused s (whom_of who (least n)) k (f (whom_of who (least n))) ≡ unless_ask_refused s (whom_of who n) k (f (whom_of who n))
   why-low f = low (λ v. unless_ask_refused s v k (f v)) (λ v w hv hw. why-high s k v w hv hw (f v) (f w))
 
   pub value-words-low : (who n : ℕ) → value_words s (whom_of who (least n)) k ≡ value_words s (whom_of who n) k

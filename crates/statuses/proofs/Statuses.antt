@@ -69,7 +69,8 @@ module _ (run : Run) (low : run_number run ≤ 2) (check : ℕ → ℕ → List 
   sound-once is_known seen (cut at ∷ es) = sound-fault 3 run at (omega arith) (omega arith) low
   sound-once is_known seen (element at t v ∷ es) =
       sound-then _ _ (sound at t v)
-      (sound-then _ _ (sound-cond (is_known t && member t seen) _ _ (sound-fault 8 run at (omega arith) (omega arith) low) passes) (sound-once is_known (t ∷ seen) es))
+      (sound-then _ _ (sound-cond (is_known t && member t seen) _ _ (sound-fault 8 run at (omega arith) (omega arith) low) passes)
+      (sound-once is_known (t ∷ seen) es))
 
 -- Faults 3 and 4 of a run.
 module _ (run : Run) (low : run_number run ≤ 2) (at : ℕ) where
@@ -122,7 +123,8 @@ unfolding link_verdict
 link-sound a b c =
     sound-then _ _ (sound-if _ 1 (omega arith) (omega arith))
     (sound-then _ _ (sound-if _ 2 (omega arith) (omega arith))
-    (sound-then _ _ (sound-faults run_a (omega arith) A.check_a a-element (elements 1 0 a)) (sound-faults run_b (omega arith) B.check_b b-element (elements 1 0 b))))
+    (sound-then _ _ (sound-faults run_a (omega arith) A.check_a a-element (elements 1 0 a))
+    (sound-faults run_b (omega arith) B.check_b b-element (elements 1 0 b))))
 
 r-inner : (at t : ℕ) (v : List ℕ) → Sound (L.check_inner at t v)
 unfolding L.check_inner
@@ -133,7 +135,8 @@ unfolding L.check_asla
 r-asla at v =
     sound-cond (ltb (length v) 4) _ _ (three run_bgp_ls (omega arith) at)
     (sound-cond (not (L.not_ignored v)) _ _ passes
-    (sound-cond (ltb (length v) (L.asla_header v)) _ _ (three run_bgp_ls (omega arith) at) (sound-once run_bgp_ls (omega arith) L.check_inner r-inner L.known_inside [] (L.inner_elements at v))))
+    (sound-cond (ltb (length v) (L.asla_header v)) _ _ (three run_bgp_ls (omega arith) at)
+    (sound-once run_bgp_ls (omega arith) L.check_inner r-inner L.known_inside [] (L.inner_elements at v))))
 
 r-element : (at t : ℕ) (v : List ℕ) → Sound (L.check_top at t v)
 unfolding L.check_top
@@ -179,7 +182,9 @@ known-srlgs : (ns list : List ℕ) → KnownReply (srlg_answer ns list).reply
 unfolding srlg_answer unwritten refused_if fault_of_call fault refusal_at place unless
 known-srlgs ns list = go (empty ns) (ltb (length list) (length ns))
   where
-    go : (b d : Bool) → KnownReply (cond b (unwritten list absent) (unless (refused_if d 5) (λ r. unwritten list (ask_refused r)) (record { reply = found (count (length ns)); list = put list 0 ns }))).reply
+    go : (b d : Bool) → KnownReply
+        (cond b (unwritten list absent)
+        (unless (refused_if d 5) (λ r. unwritten list (ask_refused r)) (record { reply = found (count (length ns)); list = put list 0 ns }))).reply
     go true d = tt
     go false true = (omega arith, omega arith, omega arith)
     go false false = tt
@@ -231,7 +236,8 @@ module _ (s : Source) (sound : Sound s.verdict) where
   known-ask whom k list = go (before_answer s whom k) (before-sound whom k) (eqb k 1096)
     where
       go : (v : Verdict) → Sound v → (b : Bool)
-          → KnownReply (unless v (λ r. unwritten list (ask_refused r)) (cond b (srlg_answer (srlgs (given s whom k)) list) (unwritten list (first_of s.spot (of_kind k (given s whom k)))))).reply
+          → KnownReply (unless v (λ r. unwritten list (ask_refused r))
+          (cond b (srlg_answer (srlgs (given s whom k)) list) (unwritten list (first_of s.spot (of_kind k (given s whom k)))))).reply
       go (refused r) (known p) b = p
       go accepted p true = known-srlgs (srlgs (given s whom k)) list
       go accepted p false = known-first s.spot (of_kind k (given s whom k))
@@ -259,9 +265,13 @@ module _ (s : Source) (sound : Sound s.verdict) where
 
 write-tells : (v : Verdict) → Sound v → (result buffer : List ℕ) → Tells 7 7 (length_words (write v result buffer).reply)
 unfolding write unless
-write-tells v sound result buffer = go (v then refused_if (ltb (length buffer) (length result)) 5) (sound-then v _ sound (sound-if _ 5 (omega arith) (omega arith)))
+write-tells v sound result buffer =
+    go (v then refused_if (ltb (length buffer) (length result)) 5) (sound-then v _ sound (sound-if _ 5 (omega arith) (omega arith)))
   where
-    go : (v : Verdict) → Sound v → Tells 7 7 (length_words (unless {A = Exported} v (λ r. record { reply = export_refused r; buffer = buffer }) (record { reply = bytes (length result); buffer = put buffer 0 result })).reply)
+    go : (v : Verdict) → Sound v
+        → Tells 7 7 (length_words
+        (unless {A = Exported} v (λ r. record { reply = export_refused r; buffer = buffer })
+        (record { reply = bytes (length result); buffer = put buffer 0 result })).reply)
     go (refused r) (known p) = inr (refusal-told r p)
     go accepted p = inl (omega arith, omega arith)
 
@@ -279,7 +289,8 @@ module _ (a b c : List ℕ) where
   unfolding link_why side_why
   link-why-tells whom k =
       why-tells (link_source a b c) sound-link whom k _
-      (ruled-cond (is_link_code k) _ _ (ruled-bandwidth k (stand_a a)) (ruled-subject k (stand_of a b c k) (rsvp_te_why k (stand_of a b c k)) (ruled-rsvp-te k (stand_of a b c k)) whom))
+      (ruled-cond (is_link_code k) _ _ (ruled-bandwidth k (stand_a a))
+      (ruled-subject k (stand_of a b c k) (rsvp_te_why k (stand_of a b c k)) (ruled-rsvp-te k (stand_of a b c k)) whom))
 
   pub link-named-tells : Tells 6 6 (named_words (list_named (link_source a b c)))
   link-named-tells = named-tells (link_source a b c) sound-link

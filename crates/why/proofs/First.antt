@@ -14,7 +14,8 @@ use Rattle.why.specs.Runs.{is_held}
 use Rattle.why.proofs.Has.{any_same, any-more, any-each, and-true, has-live}
 
 -- What a search answers is an advertisement or nothing.
-held_any : (p : Element → Bool) (f : Element → Holder) → ((e : Element) → is_held (f e) ≡ true) → (es : List Element) → is_held (lookup p f nowhere es) ≡ any p es
+held_any : (p : Element → Bool) (f : Element → Holder) → ((e : Element) → is_held (f e) ≡ true) → (es : List Element)
+    → is_held (lookup p f nowhere es) ≡ any p es
 unfolding lookup any is_held
 held_any p f h [] = refl
 held_any p f h (e ∷ es) = go (p e) (held_any p f h es)

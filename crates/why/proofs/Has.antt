@@ -102,7 +102,8 @@ srlg-some (t ∷ ts) = go (eqb 1096 t.code) (srlg-some ts)
     rest = keep (λ t. eqb 1096 t.code) ts
 
     go : (b : Bool) → not (empty (each (λ t. words t.value) rest)) ≡ any (λ t. eqb 1096 t.code && leb 4 (length t.value)) ts
-        → not (empty (each (λ t. words t.value) (cond b (t ∷ rest) rest))) ≡ (b && leb 4 (length t.value)) || any (λ t. eqb 1096 t.code && leb 4 (length t.value)) ts
+        → not (empty (each (λ t. words t.value) (cond b (t ∷ rest) rest))) ≡ (b && leb 4 (length t.value)) || any
+        (λ t. eqb 1096 t.code && leb 4 (length t.value)) ts
     go false h = h
     go true h = empty-append (words t.value) (each (λ t. words t.value) rest) ∙ ap₂ (λ (x y : Bool). x || y) (some-four t.value) h
 

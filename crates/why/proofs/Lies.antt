@@ -132,9 +132,11 @@ same-b ts = go (srlgs ts)
     go (w ∷ ws) = refl
 
 pub rsvp-te-agrees : (a b c : List ℕ) (k : ℕ) → link_verdict a b c ≡ accepted → is_code k ≡ true
-    → (s : Side) → s ≡ side_of a b c k → rsvp_te_kind k s ≡ cond (takes_general s) (general_set s) (cond (named_with_l 0 s || not (has k (of_live (names 0) s))) s.legacy (of_live (names 0) s))
+    → (s : Side) → s ≡ side_of a b c k
+    → rsvp_te_kind k s ≡ cond (takes_general s) (general_set s) (cond (named_with_l 0 s || not (has k (of_live (names 0) s))) s.legacy (of_live (names 0) s))
 unfolding rsvp_te_kind side_of selects
-rsvp-te-agrees a b c k ok known s e = ap (λ (x : Bool). cond (takes_general s) (general_set s) (cond (named_with_l 0 s || x) s.legacy (of_live (names 0) s))) (go (eqb k 1096) refl)
+rsvp-te-agrees a b c k ok known s e =
+    ap (λ (x : Bool). cond (takes_general s) (general_set s) (cond (named_with_l 0 s || x) s.legacy (of_live (names 0) s))) (go (eqb k 1096) refl)
   where
     go : (x : Bool) → eqb k 1096 ≡ x → empty (value_of k (of_live (names 0) s)) ≡ not (has k (of_live (names 0) s))
     go true i =

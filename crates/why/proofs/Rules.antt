@@ -323,7 +323,9 @@ module _ (k : ℕ) (s : Standing) where
     where
       go : (x : Bool) → named_with_l 0 s.side ≡ x → (y : Bool) → named 0 s.side ≡ y → (l : Bool)
           → why_by (cond x ByL (cond y NamingFirst (cond l Legacy General))) whom k s
-          ≡ cond (not (y || l)) (because W.unnamed (holder s k general)) (cond x (because W.by_l (first s (names_with_l 0))) (cond (has k (of_live (names 0) s.side)) (because W.by_name (holder s k (names 0))) (legacy_why s)))
+          ≡ cond (not (y || l)) (because W.unnamed (holder s k general))
+          (cond x (because W.by_l (first s (names_with_l 0)))
+          (cond (has k (of_live (names 0) s.side)) (because W.by_name (holder s k (names 0))) (legacy_why s)))
       go true e true f l = ap (λ (i : ℕ). because W.by_l (first s (names_with_l i))) z
       go true e false f l = absurd (never s.side e f)
       go false e true f l = refl
@@ -338,7 +340,8 @@ module _ (k : ℕ) (s : Standing) where
   subject-why (standard_no n) = go (eqb n 0) refl
     where
       go : (b : Bool) → eqb n 0 ≡ b
-          → why_by (cond b (rsvp_te_rule (named_with_l 0 s.side) (named 0 s.side) (has_legacy s.side)) (application_rule n (named_with_l n s.side) (named n s.side))) (standard_no n) k s ≡ cond b (rsvp_te_why k s) (application_why n k s)
+          → why_by (cond b (rsvp_te_rule (named_with_l 0 s.side) (named 0 s.side) (has_legacy s.side))
+          (application_rule n (named_with_l n s.side) (named n s.side))) (standard_no n) k s ≡ cond b (rsvp_te_why k s) (application_why n k s)
       go true e = rsvp-te-why (standard_no n) (eqb-true n 0 e) refl
       go false e = application-why (standard_no n) n refl refl
   subject-why (user_no n) = application-why (user_no n) (user n) refl refl

@@ -89,10 +89,12 @@ module _ (k t : ℕ) (known : is_code k ≡ true) (other : eqb k 1096 ≡ false)
   carries-a at v = rw (ne_eqb t 0 (λ i. some-type (ap code_of_type i ∙ no_zero.0))) (go (l_flag v))
     where
       go : (l : Bool)
-          → (not l && any (is_of t) (elements 1 0 (drop (header_length v) v))) ≡ has k (cond l [] (each I.attributes_of (elements 1 (at + 2 + header_length v) (drop (header_length v) v))))
+          → (not l && any (is_of t) (elements 1 0 (drop (header_length v) v))) ≡ has k
+          (cond l [] (each I.attributes_of (elements 1 (at + 2 + header_length v) (drop (header_length v) v))))
       go true = sym (has-list k t I.attributes_of same-a [])
       go false =
-          sym (has-list k t I.attributes_of same-a (elements 1 (at + 2 + header_length v) (drop (header_length v) v)) ∙ kind-moved t 1 (at + 2 + header_length v)
+          sym (has-list k t I.attributes_of same-a (elements 1 (at + 2 + header_length v) (drop (header_length v) v))
+          ∙ kind-moved t 1 (at + 2 + header_length v)
           (drop (header_length v) v))
 
 -- of a TLV 238
@@ -101,7 +103,8 @@ unfolding carries_b srlg_attribute any hit
 carries-b o v = go (l_flag v)
   where
     go : (l : Bool)
-        → (not l && leb 4 (length (srlg_values v))) ≡ has 1096 (cond l [] (record { code = 1096; at = o; len = length (srlg_values v); value = srlg_values v } ∷ []))
+        → (not l && leb 4 (length (srlg_values v))) ≡ has 1096
+        (cond l [] (record { code = 1096; at = o; len = length (srlg_values v); value = srlg_values v } ∷ []))
     go true = sym (has-is 1096 [])
     go false =
         sym (has-is 1096 (record { code = 1096; at = o; len = length (srlg_values v); value = srlg_values v } ∷ []) ∙ or-none (leb 4 (length (srlg_values v))))
@@ -139,7 +142,8 @@ module _ (test : Test) (k at t : ℕ) (v : List ℕ) (q : Advertisement → Bool
   pub such-a : check_a at t v ≡ accepted → carries_a k v ≡ q (advertisement v (each I.attributes_of (list_elements at v)))
       → such_in A test k (element at t v) ≡ any (λ d. passing test d && q d) (asla_advertisements (element at t v))
   unfolding such_in asla_advertisements stands live_asla
-  such-a ok i = one-such (stands v) (eqb t 16 && live_asla v) (carries_a k v) (passing test) q (advertisement v (each I.attributes_of (list_elements at v))) stand i
+  such-a ok i = one-such (stands v) (eqb t 16 && live_asla v) (carries_a k v) (passing test) q
+      (advertisement v (each I.attributes_of (list_elements at v))) stand i
     where
       stand : (eqb t 16 && live_asla v) && passing test (advertisement v (each I.attributes_of (list_elements at v))) ≡ true → stands v ≡ true
       stand e =
@@ -156,7 +160,8 @@ module _ (test : Test) (k at t : ℕ) (v : List ℕ) (q : Advertisement → Bool
       w : List ℕ
       w = after_neighbour v
 
-      stand : (eqb t 238 && live_srlg at (after_neighbour v)) && passing test (srlg_advertisement at (after_neighbour v)) ≡ true → stands (after_neighbour v) ≡ true
+      stand : (eqb t 238 && live_srlg at (after_neighbour v)) && passing test (srlg_advertisement at (after_neighbour v)) ≡ true
+          → stands (after_neighbour v) ≡ true
       stand e =
           let f = and_l (eqb t 238 && live_srlg at (after_neighbour v)) (passing test (srlg_advertisement at (after_neighbour v))) e in
           let i = eqb-true t 238 (and_l (eqb t 238) (live_srlg at (after_neighbour v)) f) in
