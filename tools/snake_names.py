@@ -8,7 +8,7 @@ comments and in the pages those that the crates have as names. Strings, upper ca
 
 Prints each name whose new spelling another word of the same file had already: `snake_names.py --check` only prints. Where
 that word is a lemma, LEMMAS gives it another name."""
-import glob, os, re, subprocess, sys
+import glob, os, re, sys
 
 os.chdir(os.path.join(os.path.dirname(os.path.abspath(__file__)), ".."))
 WORD = re.compile(r"(?<![A-Za-z0-9_'])[A-Za-z_][A-Za-z0-9_'′₀-₉-]*")
