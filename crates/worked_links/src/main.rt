@@ -229,6 +229,11 @@ fn starred_table(rt: &impl Print) -> io::Result<()> {
         "user 0, G",
         b"\x10\x08\x00\x01\x80\x12\x03\x00\x00\x14\x10\x07\x00\x00\x12\x03\x00\x00\x1e",
     )?;
+    starred_unread(rt)
+}
+
+// Its last rows, whose bytes are ignored or refused.
+fn starred_unread(rt: &impl Print) -> io::Result<()> {
     starred(
         rt,
         "a mask of nine bytes",
