@@ -14,7 +14,7 @@ ghost use Rattle.linkstate.specs.Questions.{number_too_high, srlg_answer};
 ghost use Rattle.answering.specs.Rows.{ReadableRow, row_answer};
 
 use kinds::{Form, Kind};
-use replies::{Answer, Checked, Place, Reading, Run, Subject};
+use replies::{Place, Reading, Reason, Refusal, Run, Subject};
 
 // The number of three or four bytes: a TE metric has three in IS-IS.
 fn read_number(s: &[u8], at: usize, len: usize) -> u32
@@ -55,70 +55,63 @@ pub fn is_code(code: usize) -> bool
     ensures { result ≡ is_code code }
 {
     let kind = kinds::classify_code(code).kind;
-    match kind {
-        Kind::Link(_) => true,
-        Kind::Application(_) => true,
-        Kind::Srlg => true,
-        Kind::Asla => false,
-        Kind::Unknown => false,
-    }
+    matches!(kind, Kind::Link(_) | Kind::Application(_) | Kind::Srlg)
 }
 
 // Whether a code is one of the link's three.
 pub fn is_link_code(code: usize) -> bool
     ensures { result ≡ is_link_code code }
 {
-    let kind = kinds::classify_code(code).kind;
-    match kind {
-        Kind::Link(_) => true,
-        Kind::Application(_) => false,
-        Kind::Srlg => false,
-        Kind::Asla => false,
-        Kind::Unknown => false,
-    }
+    matches!(kinds::classify_code(code).kind, Kind::Link(_))
 }
 
 // The refusals of a question for its own sake: 6, then 7.
-pub fn check_question(whom: Subject, code: usize) -> Checked
+pub fn check_question(whom: Subject, code: usize) -> Result<(), Refusal>
     ensures { told_checked result ≡ (refused_if (number_too_high (subject_of whom)) 6 then refused_if (not (is_code code)) 7) }
 {
     if replies::number_too_high(whom) {
-        return Checked::Refused(replies::refuse_call(6));
+        return Err(replies::refuse_call(Reason::NoApplication));
     }
     if !is_code(code) {
-        return Checked::Refused(replies::refuse_call(7));
+        return Err(replies::refuse_call(Reason::NoKind));
     }
-    Checked::Accepted
+    Ok(())
 }
 
 // The reply of a kind other than SRLG whose first value stands at a place of the run; place 0 says that there is none.
-pub fn answer_row(s: &[u8], run: Run, code: usize, place: usize, len: usize) -> Answer
+pub fn answer_row(
+    s: &[u8],
+    run: Run,
+    code: usize,
+    place: usize,
+    len: usize,
+) -> Result<Option<Reading>, Refusal>
     requires { ReadableRow (form_of code) (length s.now) place len }
     ensures { told_answer result ≡ row_answer s.now (told_spot run) code place len }
 {
     if place == 0 {
-        return Answer::Absent;
+        return Ok(None);
     }
     let form = kinds::form_of(code);
-    Answer::Found(read_value(s, run, form, place, len))
+    Ok(Some(read_value(s, run, form, place, len)))
 }
 
 // The reply of SRLG, from the different numbers, ascending: they go to the front of the lent list if they fit.
-pub fn answer_srlgs(ns: &[u32], list: &mut [u32]) -> Answer
+pub fn answer_srlgs(ns: &[u32], list: &mut [u32]) -> Result<Option<Reading>, Refusal>
     ensures { told_asked result list.new ≡ srlg_answer ns.now list.old }
 {
     if ns.len() == 0 {
-        return Answer::Absent;
+        return Ok(None);
     }
     if list.len() < ns.len() {
-        return Answer::Refused(replies::refuse_call(5));
+        return Err(replies::refuse_call(Reason::NoRoom));
     }
     srlg::copy_words(ns, list);
-    Answer::Found(Reading::Count(ns.len()))
+    Ok(Some(Reading::Count(ns.len())))
 }
 
 // The same from the first k numbers of a list.
-pub fn answer_front(ns: &[u32], k: usize, list: &mut [u32]) -> Answer
+pub fn answer_front(ns: &[u32], k: usize, list: &mut [u32]) -> Result<Option<Reading>, Refusal>
     requires { k ≤ length ns.now }
     ensures { told_asked result list.new ≡ srlg_answer (take k ns.now) list.old }
 {

@@ -1,14 +1,16 @@
-// The answers of every entry. What each case says in document 01's terms is `specs/Told.antt`.
+// The answers of every entry. What each case says in the definitions' terms is `specs/Told.antt`.
 
 #![tactic(auto)]
 
 ghost use Rattle.std.specs.Prelude.{◌≡◌};
-ghost use Rattle.replies.specs.Told.{told_run, told_refusal, subject_of};
+ghost use Rattle.replies.specs.Told.{number_of, told_run, told_refusal, subject_of};
 ghost use Rattle.linkstate.specs.Replies.{refusal_at, run_a};
 ghost use Rattle.linkstate.specs.Questions.{number_too_high};
 
+use std::fmt;
+
 // The lent runs that a place can lie in. C is there to be told as the run of legacy SRLGs; no value and no refusal has its place in it.
-#[derive(Clone, Copy)]
+#[derive(Clone, Copy, Debug, PartialEq, Eq)]
 pub enum Run {
     A,
     B,
@@ -17,22 +19,60 @@ pub enum Run {
 }
 
 // An offset in a run.
-#[derive(Clone, Copy)]
+#[derive(Clone, Copy, Debug, PartialEq, Eq)]
 pub struct Place {
     pub run: Run,
     pub offset: usize,
 }
 
-// Why a call was refused: document 01's number, and where.
-#[derive(Clone, Copy)]
+// The reasons of a refusal, in the order of their numbers, 1 to 8.
+#[derive(Clone, Copy, Debug, PartialEq, Eq)]
+pub enum Reason {
+    // a run is longer than it may be
+    TooLong,
+    // the length of run C is no multiple of 4
+    OddSrlgs,
+    // an element, a mask or a list runs past what holds it
+    Cut,
+    // a known kind or link identifier has a wrong length
+    Length,
+    // the result is longer than the lent room
+    NoRoom,
+    // the number of the application is too high
+    NoApplication,
+    // the code is none of the fourteen
+    NoKind,
+    // a known kind stands twice in a list
+    Twice,
+}
+
+impl From<Reason> for u8 {
+    ghost from_gives = { λ reason n. n ≡ number_of reason };
+
+    fn from(reason: Reason) -> u8 {
+        match reason {
+            Reason::TooLong => 1,
+            Reason::OddSrlgs => 2,
+            Reason::Cut => 3,
+            Reason::Length => 4,
+            Reason::NoRoom => 5,
+            Reason::NoApplication => 6,
+            Reason::NoKind => 7,
+            Reason::Twice => 8,
+        }
+    }
+}
+
+// Why a call was refused, and where.
+#[derive(Clone, Copy, Debug, PartialEq, Eq)]
 pub struct Refusal {
-    pub number: u8,
+    pub reason: Reason,
     pub place: Place,
 }
 
 // What a value reads as: a whole number, two numbers, a bandwidth, where the value stands and its length, or how many different SRLGs there are.
 // Left free: which NaN a Bandwidth is, where the four bytes are a pattern of one; the value entries hand back the bytes themselves.
-#[derive(Clone, Copy)]
+#[derive(Clone, Copy, Debug, PartialEq)]
 pub enum Reading {
     Number(u32),
     Pair(u32, u32),
@@ -41,31 +81,16 @@ pub enum Reading {
     Count(usize),
 }
 
-// The answer to a question.
-#[derive(Clone, Copy)]
-pub enum Answer {
-    Absent,
-    Found(Reading),
-    Refused(Refusal),
-}
-
 // The named applications other than RSVP-TE, application n as 2 to the n.
-#[derive(Clone, Copy)]
-pub enum Named {
-    Listed { standard: u64, user: u64 },
-    Refused(Refusal),
-}
-
-// The answer to an export: the length written.
-#[derive(Clone, Copy)]
-pub enum Written {
-    Bytes(usize),
-    Refused(Refusal),
+#[derive(Clone, Copy, Debug, PartialEq, Eq)]
+pub struct Named {
+    pub standard: u64,
+    pub user: u64,
 }
 
 // The rule that gave a subject its kind: an advertisement with L names the application; some name it; the general set was asked for; none names it,
 // so that the general set counts; legacy without an L-flag; an ASLA gives a bandwidth; the top level of a BGP-LS run.
-#[derive(Clone, Copy)]
+#[derive(Clone, Copy, Debug, PartialEq, Eq)]
 pub enum Rule {
     ByL,
     Named,
@@ -77,7 +102,7 @@ pub enum Rule {
 }
 
 // What decides or holds the value: an advertisement, told by the first byte of its element; legacy values, told by their run; or nothing that is told.
-#[derive(Clone, Copy)]
+#[derive(Clone, Copy, Debug, PartialEq, Eq)]
 pub enum Holder {
     At(Place),
     Legacy(Run),
@@ -85,21 +110,14 @@ pub enum Holder {
 }
 
 // Why a subject gets what it gets of a kind.
-#[derive(Clone, Copy)]
-pub enum Why {
-    Because { rule: Rule, holder: Holder },
-    Refused(Refusal),
-}
-
-// What the checks of a run found: nothing, or the first refusal.
-#[derive(Clone, Copy)]
-pub enum Checked {
-    Accepted,
-    Refused(Refusal),
+#[derive(Clone, Copy, Debug, PartialEq, Eq)]
+pub struct Why {
+    pub rule: Rule,
+    pub holder: Holder,
 }
 
 // Whom a question is about: the general set, or an application by its number.
-#[derive(Clone, Copy)]
+#[derive(Clone, Copy, Debug, PartialEq, Eq)]
 pub enum Subject {
     General,
     Standard(u32),
@@ -107,20 +125,20 @@ pub enum Subject {
 }
 
 // Every refusal is made here.
-pub fn refuse_at(number: u8, run: Run, offset: usize) -> Refusal
-    ensures { told_refusal result ≡ refusal_at number (told_run run) offset }
+pub fn refuse_at(reason: Reason, run: Run, offset: usize) -> Refusal
+    ensures { told_refusal result ≡ refusal_at (number_of reason) (told_run run) offset }
 {
     Refusal {
-        number,
+        reason,
         place: Place { run, offset },
     }
 }
 
 // A refusal that no element is to blame for: run A, offset 0.
-pub fn refuse_call(number: u8) -> Refusal
-    ensures { told_refusal result ≡ refusal_at number run_a 0 }
+pub fn refuse_call(reason: Reason) -> Refusal
+    ensures { told_refusal result ≡ refusal_at (number_of reason) run_a 0 }
 {
-    refuse_at(number, Run::A, 0)
+    refuse_at(reason, Run::A, 0)
 }
 
 // Whether the subject's application number is above 63, or that of a user application above 31.
@@ -131,5 +149,40 @@ pub fn number_too_high(whom: Subject) -> bool
         Subject::General => false,
         Subject::Standard(n) => 63 < n,
         Subject::User(n) => 31 < n,
+    }
+}
+
+impl fmt::Display for Run {
+    fn fmt<W: fmt::Write>(&self, f: &mut fmt::Formatter<W>) -> fmt::Result {
+        f.write_str(match self {
+            Run::A => "A",
+            Run::B => "B",
+            Run::C => "C",
+            Run::BgpLs => "BGP-LS",
+        })
+    }
+}
+
+// A refusal by its number, run and offset.
+impl fmt::Display for Refusal {
+    fn fmt<W: fmt::Write>(&self, f: &mut fmt::Formatter<W>) -> fmt::Result {
+        let number = u8::from(self.reason);
+        write!(
+            f,
+            "refused {number} at {} {}",
+            self.place.run, self.place.offset
+        )
+    }
+}
+
+impl fmt::Display for Reading {
+    fn fmt<W: fmt::Write>(&self, f: &mut fmt::Formatter<W>) -> fmt::Result {
+        match self {
+            Reading::Number(n) => write!(f, "{n}"),
+            Reading::Pair(m, n) => write!(f, "{m} and {n}"),
+            Reading::Bandwidth(_) => f.write_str("a bandwidth"),
+            Reading::Part { place, length } => write!(f, "bytes at {}, {length}", place.offset),
+            Reading::Count(n) => write!(f, "{n} SRLG"),
+        }
     }
 }

@@ -3,13 +3,16 @@ use mathlib.Core.Path.{◌≡◌, refl, sym, ap, ap₂, ◌∙◌, subst}
 use mathlib.Core.Bool.{Bool, true, false, ◌&&◌, ◌||◌}
 use mathlib.Core.List.{List, [], ◌∷◌, ◌++◌}
 use Prim.Native.Nat.{ℕ}
+use Rattle.std.specs.Prelude.{Result, Err}
 use Rattle.linkstate.specs.Lists.{any}
 use Rattle.linkstate.specs.Masks.{in_masks}
 use Rattle.linkstate.specs.Sides.{Advertisement, Side, names, named, named_with_l}
 use Rattle.linkstate.proofs.ListLaws.{any_append}
 use Rattle.rules.specs.declared.Names.{Names}
-use Rattle.linkstate.specs.Replies.{Verdict}
-use Rattle.rules.specs.declared.Checking.{Checking}
+use Rattle.linkstate.specs.Replies.{Verdict, refused, refusal_at, fault}
+use Rattle.replies.specs.declared.Refusal.{Refusal}
+use Rattle.replies.specs.declared.Run.{Run}
+use Rattle.replies.specs.Told.{told_refusal, told_run}
 use Rattle.rules.specs.Names.{advertised, Tells, Adds, Joins, Checks, ChecksBehind}
 use Rattle.masks.specs.declared.Applications.{Applications}
 use Rattle.masks.specs.Applications.{in_set, at_place}
@@ -128,11 +131,21 @@ adds-as m r ds es p q a =
 
 -- ---- the answer of checks
 
-pub checks-as : {v w : Verdict} {ds : List Advertisement} {r : Checking} → v ≡ w → Checks v ds r → Checks w ds r
+pub checks-as : {v w : Verdict} {ds : List Advertisement} {r : Result Names Refusal} → v ≡ w → Checks v ds r → Checks w ds r
 checks-as e h = record { told = h.told ∙ e; names = h.names }
 
-pub checks-for : {v : Verdict} {ds es : List Advertisement} {r : Checking} → ds ≡ es → Checks v ds r → Checks v es r
+pub checks-for : {v : Verdict} {ds es : List Advertisement} {r : Result Names Refusal} → ds ≡ es → Checks v ds r → Checks v es r
 checks-for {v} {ds} {es} {r} e h = subst (λ (l : List Advertisement). Checks v l r) e h
 
-pub behind-as : {m : Names} {v w : Verdict} {ds : List Advertisement} {r : Checking} → v ≡ w → ChecksBehind m v ds r → ChecksBehind m w ds r
+pub behind-as : {m : Names} {v w : Verdict} {ds : List Advertisement} {r : Result Names Refusal} → v ≡ w → ChecksBehind m v ds r → ChecksBehind m w ds r
 behind-as e h = record { told = h.told ∙ e; names = h.names }
+
+-- a refusal names nobody
+module _ (n : ℕ) (run : Run) (at : ℕ) (x : Refusal) (e : told_refusal x ≡ refusal_at n (told_run run) at) where
+  pub refuses : (ds : List Advertisement) → Checks (fault n (told_run run) at) ds (Err x)
+  unfolding fault
+  refuses ds = record { told = ap refused e; names = tt }
+
+  pub refuses-behind : (m : Names) (ds : List Advertisement) → ChecksBehind m (fault n (told_run run) at) ds (Err x)
+  unfolding fault
+  refuses-behind m ds = record { told = ap refused e; names = tt }

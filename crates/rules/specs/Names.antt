@@ -1,14 +1,12 @@
 -- What names tell of advertisements: who is named, and who with L (rules W2, W3), for every number.
-use Rattle.std.specs.Prelude.{◌≡◌, Bool, ◌&&◌, ◌||◌, List, [], ℕ, ◌+◌, take, drop}
+use Rattle.std.specs.Prelude.{◌≡◌, Bool, ◌&&◌, ◌||◌, List, [], ℕ, ◌+◌, take, drop, Result, Ok, Err}
 use Rattle.linkstate.specs.Lists.{any}
-use Rattle.linkstate.specs.Replies.{Verdict, accepted, refused}
+use Rattle.linkstate.specs.Replies.{Verdict}
 use Rattle.linkstate.specs.Sides.{Advertisement, Side, names, has_legacy}
-use Rattle.replies.specs.Told.{told_refusal}
+use Rattle.replies.specs.Told.{told_checked}
+use Rattle.replies.specs.declared.Refusal.{Refusal}
 use Rattle.rules.specs.declared.Names.{Names}
-use Rattle.rules.specs.declared.Checking.{Checking}
-use Rattle.rules.specs.declared.Checking.TheVariants.{Refused, Accepted}
-use Rattle.rules.specs.declared.SideChecked.{SideChecked}
-use Rattle.rules.specs.declared.SideChecked.TheVariants as Checked
+use Rattle.rules.specs.declared.SideNames.{SideNames}
 use Rattle.masks.specs.Applications.{in_set}
 
 -- The advertisement of an L-flag and two masks; whom it names does not depend on its attributes.
@@ -34,38 +32,26 @@ pub record Joins (x y r : Names) : Type 0 where
   pub named : (n : ℕ) → in_set r.named n ≡ in_set x.named n || in_set y.named n
   pub flagged : (n : ℕ) → in_set r.flagged n ≡ in_set x.flagged n || in_set y.flagged n
 
--- What an answer of checks says, and what its names tell.
-abbrev pub told_checking : Checking → Verdict
-told_checking (Refused r) = refused (told_refusal r)
-told_checking (Accepted m) = accepted
-
-abbrev pub Named : Checking → List Advertisement → Type 0
-Named (Refused r) ds = Unit {0}
-Named (Accepted m) ds = Tells ds m
+-- What is said of the names that checks give; nothing where they refuse.
+abbrev pub Given : {A : Type 0} → (A → Type 0) → Result A Refusal → Type 0
+Given P (Ok x) = P x
+Given P (Err r) = Unit {0}
 
 -- R9, W2, W3. The answer of the checks of bytes: their refusal, or whom their advertisements name.
-pub record Checks (v : Verdict) (ds : List Advertisement) (r : Checking) : Type 0 where
-  pub told : told_checking r ≡ v
-  pub names : Named r ds
+pub record Checks (v : Verdict) (ds : List Advertisement) (r : Result Names Refusal) : Type 0 where
+  pub told : told_checked r ≡ v
+  pub names : Given (Tells ds) r
+
+-- What the rule asks of a side: whom it names, and whether its legacy attributes have a value.
+abbrev pub TellsSide : Side → SideNames → Type 0
+TellsSide s m = Tells s.live m.names × (m.legacy ≡ has_legacy s)
 
 -- R9, W2, W3, E2a. The answer of the checks of a side: their refusal, or what the rule asks of the side.
-abbrev pub told_side : SideChecked → Verdict
-told_side (Checked.Refused r) = refused (told_refusal r)
-told_side (Checked.Accepted m legacy) = accepted
-
-abbrev pub Telling : SideChecked → Side → Type 0
-Telling (Checked.Refused r) s = Unit {0}
-Telling (Checked.Accepted m legacy) s = Tells s.live m × (legacy ≡ has_legacy s)
-
-pub record ChecksSide (v : Verdict) (s : Side) (r : SideChecked) : Type 0 where
-  pub told : told_side r ≡ v
-  pub tells : Telling r s
+pub record ChecksSide (v : Verdict) (s : Side) (r : Result SideNames Refusal) : Type 0 where
+  pub told : told_checked r ≡ v
+  pub tells : Given (TellsSide s) r
 
 -- The same of a part, behind bytes that name m: the refusal, or m with those that the part names.
-abbrev pub Added : Names → Checking → List Advertisement → Type 0
-Added m (Refused r) ds = Unit {0}
-Added m (Accepted r) ds = Adds m ds r
-
-pub record ChecksBehind (m : Names) (v : Verdict) (ds : List Advertisement) (r : Checking) : Type 0 where
-  pub told : told_checking r ≡ v
-  pub names : Added m r ds
+pub record ChecksBehind (m : Names) (v : Verdict) (ds : List Advertisement) (r : Result Names Refusal) : Type 0 where
+  pub told : told_checked r ≡ v
+  pub names : Given (Adds m ds) r

@@ -3,18 +3,17 @@
 
 #![tactic(auto)]
 
-ghost use Rattle.std.specs.Prelude.{◌≡◌, List, [], ◌∷◌, ◌+◌, ◌≤◌, ◌<◌, length, false};
-ghost use Rattle.linkstate.specs.Replies.{fault};
-ghost use Rattle.linkstate.specs.Sides.{Advertisement, Side, has_legacy};
-ghost use Rattle.replies.specs.Told.{told_run, subject_of};
-ghost use Rattle.rules.specs.Names.{advertised_at, Tells, Adds, Joins, Checks, ChecksBehind};
+ghost use Rattle.std.specs.Prelude.{◌≡◌, [], ◌∷◌, ◌+◌, ◌≤◌, ◌<◌, length, false};
+ghost use Rattle.linkstate.specs.Sides.{Side, has_legacy};
+ghost use Rattle.replies.specs.Told.{subject_of};
+ghost use Rattle.rules.specs.Names.{advertised_at, Tells, Adds, Joins};
 ghost use Rattle.masks.specs.Applications.{in_set};
 ghost use Rattle.rules.specs.declared.Names.{Names};
 ghost use Rattle.linkstate.specs.Questions.{number_too_high};
 ghost use Rattle.rules.specs.Rules.{application_rule, rsvp_te_rule, bandwidth_rule, subject_rule, rule_on, taken_by, given_on};
 
 use masks::Applications;
-use replies::{Refusal, Run, Subject};
+use replies::Subject;
 
 // The applications that are named, and those that are named with L.
 #[derive(Clone, Copy)]
@@ -23,75 +22,69 @@ pub struct Names {
     pub flagged: Applications,
 }
 
-// What the checks of a run found: the first refusal, or whom the run names.
+// What the rule asks of a side: whom it names, and whether its legacy attributes have a value of the kinds of applications.
 #[derive(Clone, Copy)]
-pub enum Checking {
-    Refused(Refusal),
-    Accepted(Names),
+pub struct SideNames {
+    pub names: Names,
+    pub legacy: bool,
 }
 
-// What the checks of a side found: the first refusal, or whom the side names, and whether its legacy attributes have a value of the kinds of applications.
-#[derive(Clone, Copy)]
-pub enum SideChecked {
-    Refused(Refusal),
-    Accepted { names: Names, legacy: bool },
-}
-
-pub fn nobody() -> Names
-    ensures { Tells [] result }
-{
-    let named = masks::nobody();
-    Names {
-        named,
-        flagged: named,
+impl Names {
+    pub fn nobody() -> Names
+        ensures { Tells [] result }
+    {
+        let named = masks::nobody();
+        Names {
+            named,
+            flagged: named,
+        }
     }
-}
 
-// Whom either names.
-pub fn both(x: Names, y: Names) -> Names
-    ensures { Joins x y result }
-{
-    let named = masks::join(x.named, y.named);
-    let flagged = masks::join(x.flagged, y.flagged);
-    Names { named, flagged }
-}
-
-// The names with those of an advertisement: its L-flag, and its masks, of so many bytes, that stand at a place of the run.
-pub fn names_with(names: Names, l: bool, standard: usize, user: usize, s: &[u8], at: usize) -> Names
-    requires { (standard ≤ 8) × (user ≤ 8) × (at + standard + user ≤ length s.now) × (length s.now < 4294967296) }
-    ensures { Adds names (advertised_at l standard user s.now at ∷ []) result }
-{
-    let m = masks::with_masks(masks::nobody(), s, at, standard, user);
-    let named = masks::join(names.named, m);
-    if l {
-        let flagged = masks::join(names.flagged, m);
-        return Names { named, flagged };
+    // Whom either names.
+    pub fn both(self, other: Names) -> Names
+        ensures { Joins self other result }
+    {
+        let named = masks::join(self.named, other.named);
+        let flagged = masks::join(self.flagged, other.flagged);
+        Names { named, flagged }
     }
-    let flagged = names.flagged;
-    Names { named, flagged }
-}
 
-// Whether application n is named, and whether it is so with L.
-pub fn is_named(m: Names, n: u32) -> bool
-    requires { n < 128 }
-    ensures { result ≡ in_set m.named n }
-{
-    masks::is_in(m.named, n)
-}
+    // The names with those of an advertisement: its L-flag, and its masks, of so many bytes, that stand at a place of the run.
+    pub fn with_advertisement(
+        self,
+        l: bool,
+        standard: usize,
+        user: usize,
+        s: &[u8],
+        at: usize,
+    ) -> Names
+        requires { (standard ≤ 8) × (user ≤ 8) × (at + standard + user ≤ length s.now) × (length s.now < 4294967296) }
+        ensures { Adds self (advertised_at l standard user s.now at ∷ []) result }
+    {
+        let m = masks::with_masks(masks::nobody(), s, at, standard, user);
+        let named = masks::join(self.named, m);
+        if l {
+            let flagged = masks::join(self.flagged, m);
+            return Names { named, flagged };
+        }
+        let flagged = self.flagged;
+        Names { named, flagged }
+    }
 
-pub fn is_named_with_l(m: Names, n: u32) -> bool
-    requires { n < 128 }
-    ensures { result ≡ in_set m.flagged n }
-{
-    masks::is_in(m.flagged, n)
-}
+    // Whether application n is named, and whether it is so with L.
+    pub fn is_named(self, n: u32) -> bool
+        requires { n < 128 }
+        ensures { result ≡ in_set self.named n }
+    {
+        masks::is_in(self.named, n)
+    }
 
-// A refusal for an element of a run.
-pub fn refuse(number: u8, run: Run, at: usize) -> Checking
-    ensures checks { (ds : List Advertisement) → Checks (fault number (told_run run) at) ds result }
-    ensures checks_behind { (m : Names) (ds : List Advertisement) → ChecksBehind m (fault number (told_run run) at) ds result }
-{
-    Checking::Refused(replies::refuse_at(number, run, at))
+    pub fn is_named_with_l(self, n: u32) -> bool
+        requires { n < 128 }
+        ensures { result ≡ in_set self.flagged n }
+    {
+        masks::is_in(self.flagged, n)
+    }
 }
 
 // Where a value is looked for.
@@ -160,24 +153,25 @@ fn bandwidth_rule(code: usize, l: bool, named: bool) -> Rule
 }
 
 // A subject, for a kind that is no bandwidth of the link.
-fn subject_rule(whom: Subject, m: Names, legacy: bool) -> Rule
+fn subject_rule(whom: Subject, side: SideNames) -> Rule
     requires { number_too_high (subject_of whom) ≡ false }
-    ensures { (s : Side) → Tells s.live m → legacy ≡ has_legacy s → result ≡ subject_rule (subject_of whom) s }
+    ensures { (s : Side) → Tells s.live side.names → side.legacy ≡ has_legacy s → result ≡ subject_rule (subject_of whom) s }
 {
+    let names = side.names;
     match whom {
         Subject::General => Rule::General,
         Subject::Standard(n) => {
-            let l = is_named_with_l(m, n);
-            let named = is_named(m, n);
+            let l = names.is_named_with_l(n);
+            let named = names.is_named(n);
             if n == 0 {
-                return rsvp_te_rule(l, named, legacy);
+                return rsvp_te_rule(l, named, side.legacy);
             }
             return application_rule(n, l, named);
         }
         Subject::User(n) => {
             let k = 64 + n;
-            let l = is_named_with_l(m, k);
-            let named = is_named(m, k);
+            let l = names.is_named_with_l(k);
+            let named = names.is_named(k);
             return application_rule(k, l, named);
         }
     }
@@ -185,15 +179,16 @@ fn subject_rule(whom: Subject, m: Names, legacy: bool) -> Rule
 
 // The rule by which a subject gets a kind on a side with these names, and with a legacy value of the kinds of applications or without; what it takes there is
 // what the subject gets.
-pub fn decide(whom: Subject, code: usize, m: Names, legacy: bool) -> Rule
+pub fn decide(whom: Subject, code: usize, side: SideNames) -> Rule
     requires { number_too_high (subject_of whom) ≡ false }
-    ensures s_value { (s : Side) → Tells s.live m → legacy ≡ has_legacy s → taken_by result code s ≡ given_on (subject_of whom) code s }
-    ensures value { (s : Side) → Tells s.live m → legacy ≡ has_legacy s → result ≡ rule_on (subject_of whom) code s }
+    ensures taken { (s : Side) → Tells s.live side.names → side.legacy ≡ has_legacy s → taken_by result code s ≡ given_on (subject_of whom) code s }
+    ensures rule { (s : Side) → Tells s.live side.names → side.legacy ≡ has_legacy s → result ≡ rule_on (subject_of whom) code s }
 {
     if answering::is_link_code(code) {
-        let l = is_named_with_l(m, 0);
-        let named = is_named(m, 0);
+        let names = side.names;
+        let l = names.is_named_with_l(0);
+        let named = names.is_named(0);
         return bandwidth_rule(code, l, named);
     }
-    subject_rule(whom, m, legacy)
+    subject_rule(whom, side)
 }

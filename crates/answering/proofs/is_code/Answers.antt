@@ -1,24 +1,12 @@
 -- A code is one of the fourteen exactly if its rule's kind is.
-use Rattle.answering.proofs.Laws.{known-by-kind}
-use Rattle.kinds.specs.Rules.{is_known}
+use mathlib.Core.Path.{refl, ◌∙◌}
+use Rattle.answering.proofs.Laws.{known-by-kind, known-of-three, unknown-else}
 use Rattle.answering.proofs.is_code.Goals as goal
 
 pub returns-in-Link : goal.returns-in-Link
-unfolding is_known
-returns-in-Link c = known-by-kind _ _ _ c.classify_code-kind.ensures c.in-Link.is
+returns-in-Link c = let r = c.classify_code-kind in known-of-three _ c.in-Link.is ∙ known-by-kind _ r.result _ r.ensures refl
 
-pub returns-in-Application : goal.returns-in-Application
-unfolding is_known
-returns-in-Application c = known-by-kind _ _ _ c.classify_code-kind.ensures c.in-Application.is
-
-pub returns-in-Srlg : goal.returns-in-Srlg
-unfolding is_known
-returns-in-Srlg c = known-by-kind _ _ _ c.classify_code-kind.ensures c.in-Srlg.is
-
-pub returns-in-Asla : goal.returns-in-Asla
-unfolding is_known
-returns-in-Asla c = known-by-kind _ _ _ c.classify_code-kind.ensures c.in-Asla.is
-
-pub returns-in-Unknown : goal.returns-in-Unknown
-unfolding is_known
-returns-in-Unknown c = known-by-kind _ _ _ c.classify_code-kind.ensures c.in-Unknown.is
+pub returns-in_default : goal.returns-in_default
+returns-in_default c =
+    let r = c.classify_code-kind in let n = c.in_default in
+    unknown-else _ n.not-Link n.not-Application n.not-Srlg ∙ known-by-kind _ r.result _ r.ensures refl
