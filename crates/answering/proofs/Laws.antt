@@ -11,9 +11,6 @@ use Rattle.linkstate.specs.Kinds.{Form, form_of, is_code, is_link_code}
 use Rattle.linkstate.specs.Replies.{accepted, refused, Refusal, refusal_at, fault, fault_of_call, refused_if, ◌then◌, unless, run_a, Reading, count, absent, found, ask_refused, Asked, Place}
 use Rattle.linkstate.specs.Attributes.{Attribute, reading_as, reading}
 use Rattle.linkstate.specs.Questions.{srlg_answer, unwritten, first_of}
-use mathlib.Core.Logic.{◌⊎◌, inl, inr}
-use Rattle.kinds.specs.declared.Kind.{Kind}
-use Rattle.kinds.specs.declared.Kind.TheVariants.{Link, Application, Srlg, Asla, Unknown}
 use Rattle.kinds.specs.declared.Rule.{Rule}
 use Rattle.kinds.specs.Rules.{rule_of_code, is_known, is_link}
 use Rattle.kinds.proofs.Laws.{code-known, code-link}
@@ -21,32 +18,11 @@ use Rattle.answering.specs.Standing.{standing}
 use Rattle.answering.specs.Rows.{row_answer}
 
 -- Whether a code is known is told by its rule's kind.
-pub known-by-kind : (c : ℕ) (r : Rule) (k : Kind) → r ≡ rule_of_code c → r.kind ≡ k → is_known k ≡ is_code c
-known-by-kind c r k e h = ap is_known (sym h) ∙ ap (λ (x : Rule). is_known x.kind) e ∙ sym (code-known c)
+pub known-by-kind : (c : ℕ) (r : Rule) → r ≡ rule_of_code c → is_known r.kind ≡ is_code c
+known-by-kind c r e = ap (λ (x : Rule). is_known x.kind) e ∙ sym (code-known c)
 
-pub link-by-kind : (c : ℕ) (r : Rule) (k : Kind) → r ≡ rule_of_code c → r.kind ≡ k → is_link k ≡ is_link_code c
-link-by-kind c r k e h = ap is_link (sym h) ∙ ap (λ (x : Rule). is_link x.kind) e ∙ sym (code-link c)
-
--- A match over kinds that takes the known ones together, or the link's alone.
-pub known-of-three : (k : Kind) → ((i : ℕ) × (k ≡ Link i)) ⊎ (((i : ℕ) × (k ≡ Application i)) ⊎ (k ≡ Srlg)) → true ≡ is_known k
-unfolding is_known
-known-of-three k h = elim h [ inl p ↦ rw p.1 | inr q ↦ elim q [ inl p ↦ rw p.1 | inr e ↦ rw e ] ]
-
-pub unknown-else : (k : Kind) → ((i : ℕ) → k ≡ Link i → ⊥) → ((i : ℕ) → k ≡ Application i → ⊥) → (k ≡ Srlg → ⊥) → false ≡ is_known k
-unfolding is_known
-unknown-else (Link i) l a s = absurd (l i refl)
-unknown-else (Application i) l a s = absurd (a i refl)
-unknown-else Srlg l a s = absurd (s refl)
-unknown-else Asla l a s = refl
-unknown-else Unknown l a s = refl
-
-pub no-link-else : (k : Kind) → ((i : ℕ) → k ≡ Link i → ⊥) → false ≡ is_link k
-unfolding is_link
-no-link-else (Link i) l = absurd (l i refl)
-no-link-else (Application i) l = refl
-no-link-else Srlg l = refl
-no-link-else Asla l = refl
-no-link-else Unknown l = refl
+pub link-by-kind : (c : ℕ) (r : Rule) → r ≡ rule_of_code c → is_link r.kind ≡ is_link_code c
+link-by-kind c r e = ap (λ (x : Rule). is_link x.kind) e ∙ sym (code-link c)
 
 -- 6, then 7, then nothing.
 module _ (high known : Bool) where

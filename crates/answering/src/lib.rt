@@ -13,7 +13,7 @@ ghost use Rattle.linkstate.specs.Replies.{refused_if, ◌then◌};
 ghost use Rattle.linkstate.specs.Questions.{number_too_high, srlg_answer};
 ghost use Rattle.answering.specs.Rows.{ReadableRow, row_answer};
 
-use kinds::{Form, Kind};
+use kinds::Form;
 use replies::{Place, Reading, Reason, Refusal, Run, Subject};
 
 // The number of three or four bytes: a TE metric has three in IS-IS.
@@ -55,14 +55,15 @@ pub fn is_code(code: usize) -> bool
     ensures { result ≡ is_code code }
 {
     let kind = kinds::classify_code(code).kind;
-    matches!(kind, Kind::Link(_) | Kind::Application(_) | Kind::Srlg)
+    kind.is_known()
 }
 
 // Whether a code is one of the link's three.
 pub fn is_link_code(code: usize) -> bool
     ensures { result ≡ is_link_code code }
 {
-    matches!(kinds::classify_code(code).kind, Kind::Link(_))
+    let kind = kinds::classify_code(code).kind;
+    kind.is_link()
 }
 
 // The refusals of a question for its own sake: 6, then 7.

@@ -20,13 +20,10 @@ use Rattle.linkstate.specs.Sides.{Advertisement, names}
 use Rattle.linkstate.proofs.ListLaws.{and_l, and_r, and-false, or_l, or_r}
 use Rattle.linkstate.proofs.WalkLaws.{left, type_at, type-one, each-end, each_turn}
 use Rattle.replies.specs.declared.Refusal.{Refusal as Fault}
-use Rattle.replies.specs.declared.Checked.{Checked}
-use Rattle.replies.specs.declared.Checked.TheVariants as Check
+use Rattle.std.specs.Prelude.{Result, Ok, Err}
 use Rattle.replies.specs.Told.{told_refusal, told_checked}
 use Rattle.rules.specs.declared.Names.{Names}
-use Rattle.rules.specs.declared.Checking.{Checking}
-use Rattle.rules.specs.declared.Checking.TheVariants.{Refused, Accepted}
-use Rattle.rules.specs.Names.{advertised, advertised_at, Tells, Adds, told_checking, Checks, Added, ChecksBehind}
+use Rattle.rules.specs.Names.{advertised, advertised_at, Tells, Adds, Checks, Given, ChecksBehind}
 use Rattle.rules.proofs.NameLaws.{Ahead, ahead-start, ahead-end, ahead-turn, adds_none, adds-as}
 use Rattle.frames.specs.declared.Frame.TheVariants as Frame
 use Rattle.frames.specs.Frames.{frame_in}
@@ -143,7 +140,7 @@ module _ (a : List ℕ) (at end : ℕ) (fits : end ≤ length a) (two : at + 2 +
   abbrev asla : List ℕ
   asla = value_in a at end
 
-  abbrev Answers : Names → Checking → Type 0
+  abbrev Answers : Names → Result Names Fault → Type 0
   Answers m r = ChecksBehind m (check_asla at asla) (asla_advertisements (element at 16 asla)) r
 
   header-in : h ≡ header_of asla
@@ -155,7 +152,7 @@ module _ (a : List ℕ) (at end : ℕ) (fits : end ≤ length a) (two : at + 2 +
   said : (x : Masks) → masks_in h (end - (at + 2)) ≡ x → Ends h (end - (at + 2)) asla header-in x
   said x e = masks-say h (end - (at + 2)) asla header-in x e
 
-  pub ignored-in : masks_in h (end - (at + 2)) ≡ Ignored → (m : Names) → Answers m (Accepted m)
+  pub ignored-in : masks_in h (end - (at + 2)) ≡ Ignored → (m : Names) → Answers m (Ok m)
   ignored-in e m = record { told = asla-ignored at asla (omega (arith, asla-length)) (said Ignored e); names = asla-none at asla (said Ignored e) m }
 
   pub past-in : masks_in h (end - (at + 2)) ≡ Past → fault 3 run_a at ≡ check_asla at asla
@@ -180,7 +177,7 @@ module _ (a : List ℕ) (at end : ℕ) (fits : end ≤ length a) (two : at + 2 +
       names_in : Adds m (asla_advertisements (element at 16 asla)) r
       names_in = asla-adds at asla short-in m r (adds-value a end fits (at + 2) h header-in (omega (arith, list-in, list-is)) m r adds)
 
-      pub flagged-in : h.l ≡ true → Answers m (Accepted r)
+      pub flagged-in : h.l ≡ true → Answers m (Ok r)
       flagged-in l =
           record {
             told = asla-l at asla (omega (arith, asla-length)) short-in list list-is (omega (arith, asla-length, list-in)) (sym (header-l h asla header-in) ∙ l);
@@ -188,17 +185,17 @@ module _ (a : List ℕ) (at end : ℕ) (fits : end ≤ length a) (two : at + 2 +
           }
 
       -- the list stands at the end of the run's front, which is lent
-      module _ (l : h.l ≡ false) (c : Checked) (told : told_checked c ≡ faults_once run_a known_type check_attribute [] (elements 1 (at + 2 + list) (drop (at + 2 + list) (take (end - 0) a)))) where
+      module _ (l : h.l ≡ false) (c : Result Unit Fault) (told : told_checked c ≡ faults_once run_a known_type check_attribute [] (elements 1 (at + 2 + list) (drop (at + 2 + list) (take (end - 0) a)))) where
         list-told : told_checked c ≡ check_asla at asla
         list-told =
             told
             ∙ ap (λ (s : List ℕ). faults_once run_a known_type check_attribute [] (elements 1 (at + 2 + list) s)) (ap (drop (at + 2 + list)) (front-is a end fits) ∙ sym (drop-drop list (at + 2) (take end a)))
             ∙ asla-list at asla (omega (arith, asla-length)) short-in list list-is (omega (arith, asla-length, list-in)) (sym (header-l h asla header-in) ∙ l)
 
-        pub listed_in : c ≡ Check.Accepted → Answers m (Accepted r)
-        listed_in g = record { told = ap told_checked (sym g) ∙ list-told; names = names_in }
+        pub listed_in : (u : Unit) → c ≡ Ok u → Answers m (Ok r)
+        listed_in u g = record { told = ap told_checked (sym g) ∙ list-told; names = names_in }
 
-        pub refused-in : (x : Fault) → c ≡ Check.Refused x → Answers m (Refused x)
+        pub refused-in : (x : Fault) → c ≡ Err x → Answers m (Err x)
         refused-in x g = record { told = ap told_checked (sym g) ∙ list-told; names = tt }
 
 pub other-nobody : (at t : ℕ) (v : List ℕ) → (t ≡ 16 → ⊥) → asla_advertisements (element at t v) ≡ []
@@ -213,14 +210,14 @@ module _ (run : Run) (check : ℕ → ℕ → List ℕ → Verdict) (f : Element
     pub verdict : faults run check (left 1 0 s at) ≡ faults run check (elements 1 0 s)
     pub ahead : Ahead (each f (left 1 0 s at)) (each f (elements 1 0 s)) m
 
-  abbrev Told : Checking → Type 0
+  abbrev Told : Result Names Fault → Type 0
   Told r = Checks (faults run check (elements 1 0 s)) (each f (elements 1 0 s)) r
 
   pub walked_start : (m : Names) → Tells [] m → Walked 0 m
   walked_start m t = record { verdict = refl; ahead = ahead-start (each f (elements 1 0 s)) m t }
 
   module _ (at : ℕ) (m : Names) (w : Walked at m) where
-    pub walked_end : frame_in 1 s at ≡ Frame.End → Told (Accepted m)
+    pub walked_end : frame_in 1 s at ≡ Frame.End → Told (Ok m)
     walked_end e =
         record {
           told = turn_end run check 1 (omega arith) 0 s at e ∙ w.verdict;
@@ -262,25 +259,25 @@ module _ (run : Run) (check : ℕ → ℕ → List ℕ → Verdict) (f : Element
           }
 
       -- one whose checks answer whom it names
-      module _ (r : Checking) (c : ChecksBehind m (check at (get_or s at 0) (value_in s at next)) (f (element at (get_or s at 0) (value_in s at next))) r) where
-        pub walked_on : (y : Names) → r ≡ Accepted y → Walked next y
+      module _ (r : Result Names Fault) (c : ChecksBehind m (check at (get_or s at 0) (value_in s at next)) (f (element at (get_or s at 0) (value_in s at next))) r) where
+        pub walked_on : (y : Names) → r ≡ Ok y → Walked next y
         walked_on y g =
             record {
-              verdict = passed (sym c.told ∙ ap told_checking g);
+              verdict = passed (sym c.told ∙ ap told_checked g);
               ahead =
                   ahead-turn (each f (left 1 0 s at)) (f (element at (get_or s at 0) (value_in s at next))) (each f (left 1 0 s next)) (each f (elements 1 0 s)) left-turn m w.ahead y
-                  (subst (λ (q : Checking). Added m q (f (element at (get_or s at 0) (value_in s at next)))) g c.names);
+                  (subst (λ (q : Result Names Fault). Given (Adds m (f (element at (get_or s at 0) (value_in s at next)))) q) g c.names);
             }
 
-        pub walked-refused : (x : Fault) → r ≡ Refused x → Told (Refused x)
-        walked-refused x g = record { told = walked_stop (told_refusal x) (sym c.told ∙ ap told_checking g); names = tt }
+        pub walked-refused : (x : Fault) → r ≡ Err x → Told (Err x)
+        walked-refused x g = record { told = walked_stop (told_refusal x) (sym c.told ∙ ap told_checked g); names = tt }
 
 -- ---- the turns of run A
 
-pub asla-checks : (at t : ℕ) (v : List ℕ) (m : Names) (r : Checking) → t ≡ 16 → ChecksBehind m (check_asla at v) (asla_advertisements (element at 16 v)) r
+pub asla-checks : (at t : ℕ) (v : List ℕ) (m : Names) (r : Result Names Fault) → t ≡ 16 → ChecksBehind m (check_asla at v) (asla_advertisements (element at 16 v)) r
     → ChecksBehind m (check_a at t v) (asla_advertisements (element at t v)) r
 asla-checks at t v m r e c =
-    record { told = c.told ∙ sub-tlv-asla at t v e; names = subst (λ (i : ℕ). Added m r (asla_advertisements (element at i v))) (sym e) c.names }
+    record { told = c.told ∙ sub-tlv-asla at t v e; names = subst (λ (i : ℕ). Given (Adds m (asla_advertisements (element at i v))) r) (sym e) c.names }
 
 module _ (a : List ℕ) (at : ℕ) (m : Names) (w : Walked run_a check_a asla_advertisements a at m) (n : ℕ) (whole : IsWhole 1 a at (get_or a at 0) n) (h : get_or a at 0 ≡ 16 → ⊥) where
   value-length : length (value_in a at (at + 2 + n)) ≡ n

@@ -10,7 +10,6 @@ use Rattle.masks.proofs.Steps.{every, every-at}
 use Rattle.isis.specs.Types.{wrong_in_a}
 use Rattle.isis.specs.RunA.{known_type}
 use Rattle.kinds.specs.declared.Kind.{Kind}
-use Rattle.kinds.specs.declared.Kind.TheVariants.{Link, Application, Srlg, Asla, Unknown}
 use Rattle.kinds.specs.declared.Rule.{Rule}
 use Rattle.kinds.specs.Rules.{is_known}
 use Rattle.isis_kinds.specs.Rules.{rule_of_type}
@@ -34,14 +33,6 @@ known_by r t k h e f =
     ap is_known (sym f) ∙ ap (λ (q : Rule). is_known q.kind) e
     ∙ agree (is_known (rule_of_type t).kind) (known_type t)
     (every-at (λ t. is_known (rule_of_type t).kind && known_type t || not (is_known (rule_of_type t).kind) && not (known_type t)) 256 tt t h)
-
-pub other-known : (k : Kind) → (k ≡ Asla → ⊥) → (k ≡ Unknown → ⊥) → true ≡ is_known k
-unfolding is_known
-other-known (Link i) p q = refl
-other-known (Application i) p q = refl
-other-known Srlg p q = refl
-other-known Asla p q = absurd (p refl)
-other-known Unknown p q = absurd (q refl)
 
 -- The types whose bits are not set are right in four bytes.
 pub four-fits : (bits : ℕ) → T (every (λ t. in_number bits (t % 64) || not (wrong_in_a t 4)) 256) → (t n : ℕ) → t < 256 → n ≡ 4 → in_number bits (t % 64) ≡ false → false ≡ wrong_in_a t n

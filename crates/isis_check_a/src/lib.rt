@@ -3,10 +3,10 @@
 #![tactic(auto)]
 
 ghost use Rattle.std.specs.Prelude.{◌≡◌, ◌&&◌, List, [], ◌∷◌, ℕ, ◌+◌, ◌≤◌, ◌<◌, length, drop};
-ghost use Rattle.linkstate.specs.Replies.{run_a, fault};
+ghost use Rattle.linkstate.specs.Replies.{run_a};
 ghost use Rattle.linkstate.specs.Lists.{member};
 ghost use Rattle.linkstate.specs.Elements.{element, elements, faults, faults_once};
-ghost use Rattle.replies.specs.Told.{told_run, told_checked};
+ghost use Rattle.replies.specs.Told.{told_checked};
 ghost use Rattle.rules.specs.Names.{ChecksBehind, ChecksSide};
 ghost use Rattle.isis.specs.Types.{wrong_in_a};
 ghost use Rattle.repeats.specs.Walked.{Walked};
@@ -15,9 +15,8 @@ ghost use Rattle.isis_check_a.specs.Legacy.{for_applications};
 ghost use Rattle.isis_check_a.specs.Headers.{header_of, too_long, for_nobody, bytes_before, masks_in, value_in};
 
 use frames::{Frame, frame_one};
-use kinds::Kind;
-use replies::{Checked, Run};
-use rules::{Checking, Names, SideChecked};
+use replies::{Reason, Refusal, Run, refuse_at};
+use rules::{Names, SideNames};
 
 // The first bytes of an ASLA, and of what follows the neighbour in a TLV 238: the L-flag, and how many bytes each mask has.
 #[derive(Clone, Copy)]
@@ -87,13 +86,6 @@ pub fn masks_within(h: Header, n: usize) -> Masks
     Masks::End(end)
 }
 
-// A refusal for an element of a run.
-pub fn refused(number: u8, run: Run, at: usize) -> Checked
-    ensures { told_checked result ≡ fault number (told_run run) at }
-{
-    Checked::Refused(replies::refuse_at(number, run, at))
-}
-
 // Whether the type is known and does not let a value have n bytes, by its rule.
 fn wrong_by_rule(t: u8, n: usize) -> bool
     ensures { result ≡ wrong_in_a t n }
@@ -130,11 +122,7 @@ fn is_known(t: u8) -> bool
     ensures { result ≡ known_type t }
 {
     let kind = isis_kinds::classify_type(t).kind;
-    match kind {
-        Kind::Asla => false,
-        Kind::Unknown => false,
-        _ => true,
-    }
+    kind.is_known()
 }
 
 // Whether the type is known and stands before a place in its list.
@@ -149,7 +137,7 @@ fn known_before(s: &[u8], from: usize, at: usize, t: u8) -> bool
 }
 
 // The attribute list that stands in run A from a place on, as far as s goes.
-fn check_list(s: &[u8], from: usize) -> Checked
+fn check_list(s: &[u8], from: usize) -> Result<(), Refusal>
     requires { from ≤ length s.now }
     ensures { told_checked result ≡ faults_once run_a known_type check_attribute [] (elements 1 from (drop from s.now)) }
 {
@@ -157,17 +145,17 @@ fn check_list(s: &[u8], from: usize) -> Checked
     let mut seen: u64 = 0;
     loop {
         match frame_one(s, at) {
-            Frame::End => return Checked::Accepted,
-            Frame::Cut => return refused(3, Run::A, at),
+            Frame::End => return Ok(()),
+            Frame::Cut => return Err(refuse_at(Reason::Cut, Run::A, at)),
             Frame::Whole { kind, len } => {
                 if wrong_length(s[at], len) {
-                    return refused(4, Run::A, at);
+                    return Err(refuse_at(Reason::Length, Run::A, at));
                 }
                 let doubt = repeats::may_have_stood(seen, kind);
                 seen = repeats::with_kind(seen, kind);
                 if doubt {
                     if known_before(s, from, at, s[at]) {
-                        return refused(8, Run::A, at);
+                        return Err(refuse_at(Reason::Twice, Run::A, at));
                     }
                 }
                 at = at + 2 + len;
@@ -177,28 +165,26 @@ fn check_list(s: &[u8], from: usize) -> Checked
 }
 
 // The ASLA sub-TLV that stands in run A from one place to another, behind elements that name `names`. With L its list is not read, whoever it names.
-fn check_asla(a: &[u8], at: usize, end: usize, names: Names) -> Checking
+fn check_asla(a: &[u8], at: usize, end: usize, names: Names) -> Result<Names, Refusal>
     requires { (at + 2 ≤ end) × (end ≤ length a.now) × (length a.now < 4294967296) }
     ensures { ChecksBehind names (check_asla at (value_in a.now at end)) (asla_advertisements (element at 16 (value_in a.now at end))) result }
 {
     let value = at + 2;
     if end < value + 2 {
-        return rules::refuse(3, Run::A, at);
+        return Err(refuse_at(Reason::Cut, Run::A, at));
     }
     let h = read_header(&a[value..end]);
     match masks_within(h, end - value) {
-        Masks::Ignored => return Checking::Accepted(names),
-        Masks::Past => return rules::refuse(3, Run::A, at),
+        Masks::Ignored => return Ok(names),
+        Masks::Past => return Err(refuse_at(Reason::Cut, Run::A, at)),
         Masks::End(list) => {
-            let all = rules::names_with(names, h.l, h.standard, h.user, a, value + 2);
+            let all = names.with_advertisement(h.l, h.standard, h.user, a, value + 2);
             let l = h.l;
             if l {
-                return Checking::Accepted(all);
+                return Ok(all);
             }
-            if let Checked::Refused(r) = check_list(&a[0..end], value + list) {
-                return Checking::Refused(r);
-            }
-            return Checking::Accepted(all);
+            check_list(&a[0..end], value + list)?;
+            return Ok(all);
         }
     }
 }
@@ -214,29 +200,24 @@ fn for_applications(t: u8) -> bool
 }
 
 // Run A whole: its refusal, or the applications that it names, those that it names with L, and whether a kind of applications stands outside its ASLA sub-TLVs.
-pub fn check_a(a: &[u8]) -> SideChecked
+pub fn check_a(a: &[u8]) -> Result<SideNames, Refusal>
     requires { length a.now < 4294967296 }
     ensures { ChecksSide (faults run_a check_a (elements 1 0 a.now)) (side_a a.now) result }
 {
-    let mut names = rules::nobody();
+    let mut names = Names::nobody();
     let mut legacy = false;
     let mut at = 0;
     loop {
         match frame_one(a, at) {
-            Frame::End => return SideChecked::Accepted { names, legacy },
-            Frame::Cut => return SideChecked::Refused(replies::refuse_at(3, Run::A, at)),
+            Frame::End => return Ok(SideNames { names, legacy }),
+            Frame::Cut => return Err(refuse_at(Reason::Cut, Run::A, at)),
             Frame::Whole { kind: _, len } => {
                 let next = at + 2 + len;
                 if a[at] == 16 {
-                    match check_asla(a, at, next, names) {
-                        Checking::Refused(r) => return SideChecked::Refused(r),
-                        Checking::Accepted(all) => {
-                            names = all;
-                        }
-                    }
+                    names = check_asla(a, at, next, names)?;
                 } else {
                     if wrong_length(a[at], len) {
-                        return SideChecked::Refused(replies::refuse_at(4, Run::A, at));
+                        return Err(refuse_at(Reason::Length, Run::A, at));
                     }
                     legacy = legacy | for_applications(a[at]);
                 }

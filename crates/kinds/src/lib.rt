@@ -4,7 +4,7 @@
 
 ghost use Rattle.std.specs.Prelude.{◌≡◌, cond};
 ghost use Rattle.linkstate.specs.Kinds.{form_of};
-ghost use Rattle.kinds.specs.Rules.{rule, rule_of_code, fits_in, told_form};
+ghost use Rattle.kinds.specs.Rules.{rule, rule_of_code, is_known, is_link, is_of_sets, fits_in, told_form};
 ghost use Rattle.kinds.specs.declared.Kind.TheVariants.{Application};
 ghost use Rattle.kinds.specs.declared.Size.TheVariants.{Exactly};
 
@@ -16,6 +16,41 @@ pub enum Kind {
     Srlg,
     Asla,
     Unknown,
+}
+
+impl Kind {
+    // Whether it is one of the fourteen that are asked for.
+    #[tactic(auto, unfolding(crate::specs::Rules::is_known))]
+    pub fn is_known(self) -> bool
+        ensures { result ≡ is_known self }
+    {
+        match self {
+            Kind::Link(_) | Kind::Application(_) | Kind::Srlg => true,
+            Kind::Asla | Kind::Unknown => false,
+        }
+    }
+
+    // Whether it is a bandwidth of the link.
+    #[tactic(auto, unfolding(crate::specs::Rules::is_link))]
+    pub fn is_link(self) -> bool
+        ensures { result ≡ is_link self }
+    {
+        match self {
+            Kind::Link(_) => true,
+            Kind::Application(_) | Kind::Srlg | Kind::Asla | Kind::Unknown => false,
+        }
+    }
+
+    // Whether it is one of the eleven of applications.
+    #[tactic(auto, unfolding(crate::specs::Rules::is_of_sets))]
+    pub fn is_of_applications(self) -> bool
+        ensures { result ≡ is_of_sets self }
+    {
+        match self {
+            Kind::Application(_) | Kind::Srlg => true,
+            Kind::Link(_) | Kind::Asla | Kind::Unknown => false,
+        }
+    }
 }
 
 // The lengths that a value may have.

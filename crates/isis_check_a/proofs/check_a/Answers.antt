@@ -5,6 +5,7 @@ use native.Mathlib.Omega.{arith}
 use lib.ListN.{get_or}
 use Rattle.linkstate.specs.Replies.{run_a, refused, fault}
 use Rattle.frames.proofs.Laws.{IsWhole, is-whole-one}
+use Rattle.replies.proofs.Laws.{passed_on}
 use Rattle.isis.specs.RunA.{check_a, asla_advertisements, side_a}
 use Rattle.isis_check_a.proofs.Naming.{walked_start, walked-cut, walked_end, walked_on, walked-refused, asla-checks, legacy-wrong, legacy-over}
 use Rattle.isis_check_a.proofs.Legacy.{met_start, met-end, met-on, met-asla, side-legacy}
@@ -41,11 +42,11 @@ bounds-a-at c = let f = whole (goal.at.bounds-a-at c).In-Whole in omega arith
 pub check_asla-requires : goal.check_asla-requires
 check_asla-requires c = let f = whole (goal.at.check_asla-requires c).In-Whole in (omega arith, omega arith, c.requires)
 
-pub returns-in-Refused : goal.returns-in-Refused
+pub returns-in_err-names-in-Whole : goal.returns-in_err-names-in-Whole
 unfolding side_a
-returns-in-Refused c = let w = walked-refused run_a check_a asla_advertisements _ _ _ c.loop-len.invariant.1 _ (whole (goal.at.returns-in-Refused c).In-Whole) _
-    (asla-checks _ _ _ _ _ (omega arith) c.check_asla.ensures) _ c.in-Refused.is in
-    record { told = w.told; tells = tt }
+returns-in_err-names-in-Whole c = let w = walked-refused run_a check_a asla_advertisements _ _ _ c.loop-len.invariant.1 _ (whole (goal.at.returns-in_err-names-in-Whole c).In-Whole) _
+    (asla-checks _ _ _ _ _ (omega arith) c.check_asla.ensures) _ c.in_err-names-in-Whole.was in
+    rw (passed_on _ _ c.from_residual.ensures.1) (record { told = w.told; tells = tt })
 
 pub bounds-a-at-else-a-at-eq16 : goal.bounds-a-at-else-a-at-eq16
 bounds-a-at-else-a-at-eq16 c = let f = whole (goal.at.bounds-a-at-else-a-at-eq16 c).In-Whole in omega arith
@@ -55,15 +56,15 @@ unfolding side_a fault
 returns-then-wrong_length c = let e = sym c.wrong_length.ensures ∙ c.if-wrong_length.true in
     record { told = ap refused c.refuse_at-then-wrong_length.ensures ∙ legacy-wrong _ _ _ c.loop-len.invariant.1 _ (whole (goal.at.returns-then-wrong_length c).In-Whole) (λ i. omega (arith, i)) e; tells = tt }
 
-pub loop-len-smaller-in-Accepted : goal.loop-len-smaller-in-Accepted
-loop-len-smaller-in-Accepted c = let f = whole (goal.at.loop-len-smaller-in-Accepted c).In-Whole in omega arith
+pub loop-len-smaller-in_ok-names-in-Whole : goal.loop-len-smaller-in_ok-names-in-Whole
+loop-len-smaller-in_ok-names-in-Whole c = let f = whole (goal.at.loop-len-smaller-in_ok-names-in-Whole c).In-Whole in omega arith
 
-pub loop-len-preserved-in-Accepted : goal.loop-len-preserved-in-Accepted
-loop-len-preserved-in-Accepted c = (
-  (whole (goal.at.loop-len-preserved-in-Accepted c).In-Whole).within,
-  walked_on run_a check_a asla_advertisements _ _ _ c.loop-len.invariant.1 _ (whole (goal.at.loop-len-preserved-in-Accepted c).In-Whole) _
-      (asla-checks _ _ _ _ _ (omega arith) c.check_asla.ensures) _ c.in-Accepted.is,
-  met-asla _ _ _ c.loop-len.invariant.2 _ (whole (goal.at.loop-len-preserved-in-Accepted c).In-Whole) (omega arith),
+pub loop-len-preserved-in_ok-names-in-Whole : goal.loop-len-preserved-in_ok-names-in-Whole
+loop-len-preserved-in_ok-names-in-Whole c = (
+  (whole (goal.at.loop-len-preserved-in_ok-names-in-Whole c).In-Whole).within,
+  walked_on run_a check_a asla_advertisements _ _ _ c.loop-len.invariant.1 _ (whole (goal.at.loop-len-preserved-in_ok-names-in-Whole c).In-Whole) _
+      (asla-checks _ _ _ _ _ (omega arith) c.check_asla.ensures) _ c.in_ok-names-in-Whole.was,
+  met-asla _ _ _ c.loop-len.invariant.2 _ (whole (goal.at.loop-len-preserved-in_ok-names-in-Whole c).In-Whole) (omega arith),
 )
 
 pub bounds-a-at-else-a-at-eq16-2 : goal.bounds-a-at-else-a-at-eq16-2

@@ -3,7 +3,7 @@ use mathlib.Core.Path.{sym, ap, ◌∙◌}
 use native.Mathlib.Omega.{arith}
 use native.Mathlib.Nat.{zero-add}
 use Rattle.linkstate.specs.Elements.{faults_once}
-use Rattle.linkstate.specs.Replies.{run_a, fault}
+use Rattle.linkstate.specs.Replies.{run_a, refused, fault}
 use Rattle.frames.proofs.Laws.{IsWhole, is_whole, from_place}
 use Rattle.repeats.proofs.Turns.{once-start, once-end, once-cut, once-wrong, once-twice, once-new, once-other}
 use Rattle.isis.specs.RunA.{check_attribute, known_type}
@@ -23,7 +23,8 @@ pub returns-in-End : goal.returns-in-End
 returns-in-End c = once-end run_a known_type check_attribute 1 one_byte 0 _ _ _ _ _ c.loop-kind.invariant.1 (sym c.frame_one.ensures ∙ c.in-End.is)
 
 pub returns-in-Cut : goal.returns-in-Cut
-returns-in-Cut c = c.refused.ensures
+unfolding fault
+returns-in-Cut c = ap refused c.refuse_at.ensures
     ∙ once-cut run_a known_type check_attribute 1 one_byte 0 _ _ _ _ _ c.loop-kind.invariant.1 _ (sym (zero-add c.loop-kind.at)) (sym c.frame_one.ensures ∙ c.in-Cut.is)
 
 pub bounds-s-at : goal.bounds-s-at
@@ -31,7 +32,7 @@ bounds-s-at c = let f = whole (goal.at.bounds-s-at c).In-Whole in omega arith
 
 pub returns-then-wrong_length : goal.returns-then-wrong_length
 unfolding fault
-returns-then-wrong_length c = c.refused-then-wrong_length.ensures
+returns-then-wrong_length c = ap refused c.refuse_at-then-wrong_length.ensures
     ∙ once-wrong run_a known_type check_attribute 1 one_byte 0 _ _ _ _ _ c.loop-kind.invariant.1 _ (sym (zero-add c.loop-kind.at)) _ _ (whole (goal.at.returns-then-wrong_length c).In-Whole) _
     (list-wrong _ _ _ _ (whole (goal.at.returns-then-wrong_length c).In-Whole) _ c.wrong_length.ensures c.if-wrong_length.true)
 
@@ -42,9 +43,10 @@ pub known_before-requires : goal.known_before-requires
 known_before-requires c = (c.loop-kind.invariant.1.order, c.loop-kind.invariant.1.walked)
 
 pub returns-then-known_before : goal.returns-then-known_before
+unfolding fault
 returns-then-known_before c = let o = c.loop-kind.invariant.1 in
     let w = c.wrong_length in
-    c.refused-then-known_before.ensures
+    ap refused c.refuse_at-then-known_before.ensures
     ∙ once-twice run_a known_type check_attribute 1 one_byte 0 _ _ _ _ _ o _ (sym (zero-add c.loop-kind.at)) _ _ (whole (goal.at.returns-then-known_before c).In-Whole)
     (list-fits _ _ _ _ (whole (goal.at.returns-then-known_before c).In-Whole) _ w.ensures c.if-wrong_length.false)
     _ (by-type _ _ _ _ (whole (goal.at.returns-then-known_before c).In-Whole) _ o.order (c.known_before.ensures o.order o.walked)) c.if-known_before.true
