@@ -15,11 +15,10 @@ use Rattle.linkstate.specs.Elements.{Element, element, elements, faults}
 use Rattle.linkstate.specs.Sides.{names}
 use Rattle.linkstate.proofs.ElementLaws.{none_left}
 use Rattle.replies.specs.declared.Refusal.{Refusal as Fault}
-use Rattle.replies.specs.Told.{told_refusal}
+use Rattle.std.specs.Prelude.{Result, Ok, Err}
+use Rattle.replies.specs.Told.{told_refusal, told_checked}
 use Rattle.rules.specs.declared.Names.{Names}
-use Rattle.rules.specs.declared.Checking.{Checking}
-use Rattle.rules.specs.declared.Checking.TheVariants.{Refused, Accepted}
-use Rattle.rules.specs.Names.{advertised_at, Adds, ChecksBehind}
+use Rattle.rules.specs.Names.{advertised_at, Adds, Given, ChecksBehind}
 use Rattle.rules.proofs.NameLaws.{adds_none}
 use Rattle.isis.specs.MaskHeader.{header_length, mask_too_long, l_for_nobody, advertisement}
 use Rattle.isis.specs.RunB.{identifier_bytes, identifiers, srlg_values, check_identifier, identifier, known_identifiers, times, repeats, identifies, ignored, live_srlg, check_srlg, check_b, after_neighbour, srlg_advertisement, srlg_advertisements}
@@ -28,14 +27,9 @@ use Rattle.isis_check_a.specs.declared.Masks.TheVariants as Masks
 use Rattle.isis_check_a.specs.Headers.{header_of, masks_in, value_in}
 use Rattle.isis_check_a.proofs.Laws.{rest-is, header-l, header-bytes, masks-say, front-is, lent_length, part_in, part-of-part, part-in-length}
 use Rattle.isis_check_a.proofs.Naming.{masks-small, adds-value, adds-read}
-use Rattle.isis_check.specs.declared.Judged.{Judged}
-use Rattle.isis_check.specs.declared.Judged.TheVariants as Judge
-use Rattle.isis_check.specs.declared.Judged.TheVariants.{Ignored, Live}
-use Rattle.isis_check.specs.declared.Listed.{Listed}
-use Rattle.isis_check.specs.declared.Listed.TheVariants as Listing
-use Rattle.isis_check.specs.Identifiers.{identified_in, once_and_paired, identifiers_in, told_listed, Tallied, Lists}
+use Rattle.isis_check.specs.Identifiers.{identified_in, once_and_paired, identifiers_in, tally_of, Lists}
 use Rattle.isis_check.proofs.LawsOfB.{tally-tells}
-use Rattle.isis_check.specs.Parts.{parts_verdict, behind_in, Within, told_judged, Lives, Judges}
+use Rattle.isis_check.specs.Parts.{parts_verdict, behind_in, Within, Lives, Judges}
 
 -- What repeats or does not identify is what does not identify once.
 judged : (r i b : Bool) → not r && i ≡ b → (r || not i) ≡ not b
@@ -119,19 +113,19 @@ module _ (b : List ℕ) (l : Bool) (from to end at : ℕ) (w : Within b l from t
     or-none true = refl
     or-none false = refl
 
-    pub parts-ignored : once_and_paired lent ≡ false → Judges (parts_verdict at v) at v Ignored
+    pub parts-ignored : once_and_paired lent ≡ false → Judges (parts_verdict at v) at v (Ok false)
     unfolding behind-lists live_srlg
     parts-ignored t =
         let i = decided false t ∙ or-true (l_for_nobody v) in
         record { told = sym (ap (λ (x : Bool). behind-lists x l (eqb ((end - to) % 4) 0)) i) ∙ parts_is (eqb ((end - to) % 4) 0) refl; lives = rw (w.readable, i) }
 
     module _ (t : once_and_paired lent ≡ true) where
-      alive : Lives Live at v
+      alive : Lives at v true
       unfolding live_srlg
       alive = (w.readable, header-inside, (rw (w.readable, decided true t ∙ or-none (l_for_nobody v))))
 
       -- a rest of whole values
-      pub parts-fours : (end - to) % 4 ≡ 0 → Judges (parts_verdict at v) at v Live
+      pub parts-fours : (end - to) % 4 ≡ 0 → Judges (parts_verdict at v) at v (Ok true)
       unfolding behind-lists
       parts-fours e = record { told = go (ignored v (identifiers at v)) l ∙ parts_is true (eq-eqb ((end - to) % 4) 0 e); lives = alive }
         where
@@ -141,7 +135,7 @@ module _ (b : List ℕ) (l : Bool) (from to end at : ℕ) (w : Within b l from t
           go false false = refl
 
       -- with L the values are not read
-      pub parts-l : l ≡ true → Judges (parts_verdict at v) at v Live
+      pub parts-l : l ≡ true → Judges (parts_verdict at v) at v (Ok true)
       unfolding behind-lists
       parts-l f = record { told = go (ignored v (identifiers at v)) l f ∙ parts_is (eqb ((end - to) % 4) 0) refl; lives = alive }
         where
@@ -157,32 +151,32 @@ module _ (b : List ℕ) (l : Bool) (from to end at : ℕ) (w : Within b l from t
           not-nobody = rw (sym w.flag ∙ f)
 
   -- by what reading the identifiers answered
-  module _ (x : Listed) (read : Lists (faults run_b check_identifier lent) lent x) where
-    abbrev Answers : Judged → Type 0
+  module _ (x : Result ℕ Fault) (read : Lists (faults run_b check_identifier lent) lent x) where
+    abbrev Answers : Result Bool Fault → Type 0
     Answers r = Judges (parts_verdict at v) at v r
 
-    pub unread-parts : (r : Fault) → x ≡ Listing.Refused r → Answers (Judge.Refused r)
-    unread-parts r e = record { told = parts-refused (told_refusal r) (sym (ap told_listed e) ∙ read.told); lives = tt }
+    pub unread-parts : (r : Fault) → x ≡ Err r → Answers (Err r)
+    unread-parts r e = record { told = parts-refused (told_refusal r) (sym (ap told_checked e) ∙ read.told); lives = tt }
 
-    module _ (n : ℕ) (e : x ≡ Listing.Tally n) where
+    module _ (n : ℕ) (e : x ≡ Ok n) where
       all-passed : accepted ≡ faults run_b check_identifier lent
-      all-passed = sym (ap told_listed e) ∙ read.told
+      all-passed = sym (ap told_checked e) ∙ read.told
 
       says : (t : Bool) → identified_in n ≡ t → once_and_paired lent ≡ t
       says t i =
-          sym (tally-tells (take (to - 0) b) from lent-short.1 lent-short.0 n (subst (λ (q : Listed). Tallied q lent) e read.tally)) ∙ i
+          sym (tally-tells (take (to - 0) b) from lent-short.1 lent-short.0 n (subst (λ (q : Result ℕ Fault). Given (λ k. k ≡ tally_of lent) q) e read.tally)) ∙ i
 
-      pub unidentified-parts : identified_in n ≡ false → Answers Ignored
+      pub unidentified-parts : identified_in n ≡ false → Answers (Ok false)
       unidentified-parts i = parts-ignored all-passed (says false i)
 
       module _ (i : identified_in n ≡ true) where
-        pub whole_parts : (end - to) % 4 ≡ 0 → Answers Live
+        pub whole_parts : (end - to) % 4 ≡ 0 → Answers (Ok true)
         whole_parts z = parts-fours all-passed (says true i) z
 
-        pub unmeasured-parts : l ≡ true → Answers Live
+        pub unmeasured-parts : l ≡ true → Answers (Ok true)
         unmeasured-parts f = parts-l all-passed (says true i) f
 
-        pub odd-parts : l ≡ false → ((end - to) % 4 ≡ 0 → ⊥) → (r : Fault) → told_refusal r ≡ refusal_at 4 run_b at → Answers (Judge.Refused r)
+        pub odd-parts : l ≡ false → ((end - to) % 4 ≡ 0 → ⊥) → (r : Fault) → told_refusal r ≡ refusal_at 4 run_b at → Answers (Err r)
         unfolding fault
         odd-parts f z r g = record { told = ap refused g ∙ parts-odd all-passed (says true i) f z; lives = tt }
 
@@ -257,7 +251,7 @@ module _ (b : List ℕ) (at end : ℕ) (fits : end ≤ length b) where
     nine : 9 ≤ length value
     nine = omega (arith, value-size (omega arith))
 
-    pub tlv-ignored : mask_too_long after ≡ true → Judges (check_b at 238 value) at after Ignored
+    pub tlv-ignored : mask_too_long after ≡ true → Judges (check_b at 238 value) at after (Ok false)
     unfolding live_srlg
     tlv-ignored m = record { told = srlg-ignored at value after nine m ∙ checked-as; lives = rw m }
 
@@ -272,7 +266,7 @@ module _ (b : List ℕ) (at end : ℕ) (fits : end ≤ length b) where
         pub tlv-past : end < at + 9 + header_length after + 1 + identifier_bytes after → fault 3 run_b at ≡ check_b at 238 value
         tlv-past q = srlg-past at value after nine m list-fits (omega (arith, after-size (omega arith))) ∙ checked-as
 
-        pub tlv-parts : at + 9 + header_length after + 1 + identifier_bytes after ≤ end → (r : Judged) → Judges (parts_verdict at after) at after r → Judges (check_b at 238 value) at after r
+        pub tlv-parts : at + 9 + header_length after + 1 + identifier_bytes after ≤ end → (r : Result Bool Fault) → Judges (parts_verdict at after) at after r → Judges (check_b at 238 value) at after r
         tlv-parts q r j = record { told = j.told ∙ srlg-parts at value after nine m list-fits (omega (arith, after-size (omega arith))) ∙ checked-as; lives = j.lives }
 
   -- by what its header says of its masks, in all but the last byte
@@ -280,14 +274,14 @@ module _ (b : List ℕ) (at end : ℕ) (fits : end ≤ length b) where
     abbrev room : ℕ
     room = end - (at + 9) - 1
 
-    refused-by : (r : Fault) → told_refusal r ≡ refusal_at 3 run_b at → fault 3 run_b at ≡ check_b at 238 value → Judges (check_b at 238 value) at after (Judge.Refused r)
+    refused-by : (r : Fault) → told_refusal r ≡ refusal_at 3 run_b at → fault 3 run_b at ≡ check_b at 238 value → Judges (check_b at 238 value) at after (Err r)
     unfolding fault
     refused-by r g e = record { told = ap refused g ∙ e; lives = tt }
 
-    pub ignored-srlg : masks_in x room ≡ Masks.Ignored → Judges (check_b at 238 value) at after Ignored
+    pub ignored-srlg : masks_in x room ≡ Masks.Ignored → Judges (check_b at 238 value) at after (Ok false)
     ignored-srlg e = tlv-ignored h (masks-say x room after is Masks.Ignored e)
 
-    pub past-srlg : masks_in x room ≡ Masks.Past → (r : Fault) → told_refusal r ≡ refusal_at 3 run_b at → Judges (check_b at 238 value) at after (Judge.Refused r)
+    pub past-srlg : masks_in x room ≡ Masks.Past → (r : Fault) → told_refusal r ≡ refusal_at 3 run_b at → Judges (check_b at 238 value) at after (Err r)
     past-srlg e r g = let s = masks-say x room after is Masks.Past e in refused-by r g (tlv-no-list h s.0 (omega (arith, s.1)))
 
     module _ (masks : ℕ) (e : masks_in x room ≡ Masks.End masks) where
@@ -305,7 +299,7 @@ module _ (b : List ℕ) (at end : ℕ) (fits : end ≤ length b) where
           sym (get_or-drop (at + 9) (take end b) masks 0 ∙ get_or-take end b (at + 9 + masks) 0 (omega (arith, masks-end-in))) ∙ length-byte after masks masks-are
 
       pub cut-srlg : end < at + 9 + masks + 1 + get_or b (at + 9 + masks) 0 → (r : Fault) → told_refusal r ≡ refusal_at 3 run_b at
-          → Judges (check_b at 238 value) at after (Judge.Refused r)
+          → Judges (check_b at 238 value) at after (Err r)
       cut-srlg q r g = refused-by r g (tlv-past h short-masks (omega (arith, masks-are, masks-end-in)) (omega (arith, masks-are, list-bytes)))
 
       module _ (q : at + 9 + masks + 1 + get_or b (at + 9 + masks) 0 ≤ end) where
@@ -322,36 +316,36 @@ module _ (b : List ℕ) (at end : ℕ) (fits : end ≤ length b) where
               small = omega arith;
             }
 
-        pub parts-srlg : (r : Judged) → Judges (parts_verdict at after) at after r → Judges (check_b at 238 value) at after r
+        pub parts-srlg : (r : Result Bool Fault) → Judges (parts_verdict at after) at after r → Judges (check_b at 238 value) at after r
         parts-srlg r j = tlv-parts h short-masks (omega (arith, masks-are, masks-end-in)) (omega (arith, masks-are, list-bytes)) r j
 
   -- whom it names, by the answer of its checks
-  module _ (r : Judged) (j : Judges (check_b at 238 value) at after r) (m : Names) where
-    abbrev Names-it : Checking → Type 0
+  module _ (r : Result Bool Fault) (j : Judges (check_b at 238 value) at after r) (m : Names) where
+    abbrev Names-it : Result Names Fault → Type 0
     Names-it x = ChecksBehind m (check_b at 238 value) (srlg_advertisements (element at 238 value)) x
 
-    pub refused-tlv : (x : Fault) → r ≡ Judge.Refused x → Names-it (Refused x)
-    refused-tlv x e = record { told = ap told_judged (sym e) ∙ j.told; names = tt }
+    pub refused-tlv : (x : Fault) → r ≡ Err x → Names-it (Err x)
+    refused-tlv x e = record { told = ap told_checked (sym e) ∙ j.told; names = tt }
 
-    pub ignored-tlv : r ≡ Judge.Ignored → Names-it (Accepted m)
+    pub ignored-tlv : r ≡ Ok false → Names-it (Ok m)
     unfolding srlg_advertisements
     ignored-tlv e =
-        let z : live_srlg at (after_neighbour value) ≡ false = ap (live_srlg at) after_is ∙ subst (λ (q : Judged). Lives q at after) e j.lives in
-        record { told = ap told_judged (sym e) ∙ j.told; names = rw z (adds_none m) }
+        let z : live_srlg at (after_neighbour value) ≡ false = ap (live_srlg at) after_is ∙ subst (λ (q : Result Bool Fault). Given (Lives at after) q) e j.lives in
+        record { told = ap told_checked (sym e) ∙ j.told; names = rw z (adds_none m) }
 
-    live-tlv : r ≡ Judge.Live → (x : Names) → Adds m (advertisement after [] ∷ []) x → Names-it (Accepted x)
+    live-tlv : r ≡ Ok true → (x : Names) → Adds m (advertisement after [] ∷ []) x → Names-it (Ok x)
     unfolding srlg_advertisements srlg_advertisement names advertisement
     live-tlv e x a =
-        let l = subst (λ (q : Judged). Lives q at after) e j.lives in
+        let l = subst (λ (q : Result Bool Fault). Given (Lives at after) q) e j.lives in
         record {
-          told = ap told_judged (sym e) ∙ j.told;
+          told = ap told_checked (sym e) ∙ j.told;
           names = rw (after_is, l.2) (adds-read after (srlg_advertisement at after) (λ n. refl) refl false refl m x a);
         }
 
     -- where it is live its masks can be read at their place
-    module _ (e : r ≡ Judge.Live) (h : at + 9 ≤ end) (x : Header) (is : x ≡ header_of after) where
-      alive-says : Lives Live at after
-      alive-says = subst (λ (q : Judged). Lives q at after) e j.lives
+    module _ (e : r ≡ Ok true) (h : at + 9 ≤ end) (x : Header) (is : x ≡ header_of after) where
+      alive-says : Lives at after true
+      alive-says = subst (λ (q : Result Bool Fault). Given (Lives at after) q) e j.lives
 
       masks-inside : at + 9 + header_length after ≤ end
       masks-inside = omega (arith, alive-says.1, after-size h)
@@ -361,7 +355,7 @@ module _ (b : List ℕ) (at end : ℕ) (fits : end ≤ length b) where
           let s = masks-small b end fits (at + 9) x is alive-says.0 in
           (s.0, s.1, omega (arith, masks-inside, header-bytes x after is))
 
-      pub named-tlv : (y : Names) → Adds m (advertised_at x.l x.standard x.user b (at + 9 + 2) ∷ []) y → Names-it (Accepted y)
+      pub named-tlv : (y : Names) → Adds m (advertised_at x.l x.standard x.user b (at + 9 + 2) ∷ []) y → Names-it (Ok y)
       named-tlv y a = live-tlv e y (adds-value b end fits (at + 9) x is masks-inside m y a)
 
 -- ---- a TLV of run B
@@ -371,7 +365,7 @@ module _ (at t : ℕ) (value : List ℕ) where
   unfolding check_b
   tlv-srlg e = rw e
 
-  pub tlv-checks : (m : Names) (r : Checking) → t ≡ 238 → ChecksBehind m (check_b at 238 value) (srlg_advertisements (element at 238 value)) r
+  pub tlv-checks : (m : Names) (r : Result Names Fault) → t ≡ 238 → ChecksBehind m (check_b at 238 value) (srlg_advertisements (element at 238 value)) r
       → ChecksBehind m (check_b at t value) (srlg_advertisements (element at t value)) r
   tlv-checks m r e c = subst (λ (i : ℕ). ChecksBehind m (check_b at i value) (srlg_advertisements (element at i value)) r) (sym e) c
 

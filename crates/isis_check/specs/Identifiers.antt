@@ -1,12 +1,12 @@
 -- What the code notes of a list of link identifiers: how often each of the five known types stands there, all in one number.
-use Rattle.std.specs.Prelude.{◌≡◌, Bool, cond, ◌&&◌, ◌||◌, not, List, ℕ, ◌+◌, ◌*◌, ◌/◌, ◌%◌, eqb, ltb, drop}
+use Rattle.std.specs.Prelude.{◌≡◌, Bool, cond, ◌&&◌, ◌||◌, not, List, ℕ, ◌+◌, ◌*◌, ◌/◌, ◌%◌, eqb, ltb, drop, Result}
 use Rattle.linkstate.specs.Elements.{Element, elements}
 use Rattle.isis.specs.RunB.{times, repeats, identifies}
-use Rattle.linkstate.specs.Replies.{Verdict, accepted, refused}
-use Rattle.replies.specs.Told.{told_refusal}
+use Rattle.linkstate.specs.Replies.{Verdict}
+use Rattle.replies.specs.declared.Refusal.{Refusal}
+use Rattle.replies.specs.Told.{told_checked}
+use Rattle.rules.specs.Names.{Given}
 use Rattle.isis_check.specs.declared.Known.{Known}
-use Rattle.isis_check.specs.declared.Listed.{Listed}
-use Rattle.isis_check.specs.declared.Listed.TheVariants.{Refused, Tally}
 
 abbrev pub known : ℕ → ℕ → Known
 known n w = record { length = n; weight = w }
@@ -41,14 +41,6 @@ abbrev pub identifiers_in : List ℕ → ℕ → List Element
 identifiers_in s from = elements 1 from (drop from s)
 
 -- What reading a list answers: its refusal, or its tally.
-abbrev pub told_listed : Listed → Verdict
-told_listed (Refused r) = refused (told_refusal r)
-told_listed (Tally n) = accepted
-
-abbrev pub Tallied : Listed → List Element → Type 0
-Tallied (Refused r) es = Unit {0}
-Tallied (Tally n) es = n ≡ tally_of es
-
-pub record Lists (v : Verdict) (es : List Element) (r : Listed) : Type 0 where
-  pub told : told_listed r ≡ v
-  pub tally : Tallied r es
+pub record Lists (v : Verdict) (es : List Element) (r : Result ℕ Refusal) : Type 0 where
+  pub told : told_checked r ≡ v
+  pub tally : Given (λ n. n ≡ tally_of es) r

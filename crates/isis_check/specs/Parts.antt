@@ -1,12 +1,12 @@
 -- A TLV 238 whose identifier list lies within it: what `check_srlg` says from there on.
-use Rattle.std.specs.Prelude.{Bool, false, cond, not, List, ◌≡◌, ℕ, ◌+◌, ◌%◌, ◌≤◌, ◌<◌, eqb, length, take, drop}
-use Rattle.linkstate.specs.Replies.{Verdict, accepted, refused, fault, ◌then◌, run_b}
+use Rattle.std.specs.Prelude.{Bool, true, false, cond, not, List, ◌≡◌, ℕ, ◌+◌, ◌%◌, ◌≤◌, ◌<◌, eqb, length, take, drop, Result}
+use Rattle.linkstate.specs.Replies.{Verdict, accepted, fault, ◌then◌, run_b}
 use Rattle.linkstate.specs.Elements.{faults}
-use Rattle.replies.specs.Told.{told_refusal}
+use Rattle.replies.specs.declared.Refusal.{Refusal}
+use Rattle.replies.specs.Told.{told_checked}
+use Rattle.rules.specs.Names.{Given}
 use Rattle.isis.specs.MaskHeader.{l_flag, header_length, mask_too_long, l_for_nobody}
 use Rattle.isis.specs.RunB.{identifiers, identifier_bytes, check_identifier, ignored, srlg_values, live_srlg}
-use Rattle.isis_check.specs.declared.Judged.{Judged}
-use Rattle.isis_check.specs.declared.Judged.TheVariants.{Refused, Ignored, Live}
 
 unfoldable pub parts_verdict : ℕ → List ℕ → Verdict
 parts_verdict at v =
@@ -28,17 +28,12 @@ pub record Within (b : List ℕ) (l : Bool) (from to end at : ℕ) : Type 0 wher
   pub fits : to ≤ end
   pub small : to < from + 256
 
--- What an answer says, and whether the TLV is live, v being what follows its neighbour bytes: L set for nobody is left to its masks, which name nobody.
-abbrev pub told_judged : Judged → Verdict
-told_judged (Refused r) = refused (told_refusal r)
-told_judged Ignored = accepted
-told_judged Live = accepted
+-- Whether the TLV is live, v being what follows its neighbour bytes: L set for nobody is left to its masks, which name nobody.
+abbrev pub Lives : ℕ → List ℕ → Bool → Type 0
+Lives at v false = live_srlg at v ≡ false
+Lives at v true = (mask_too_long v ≡ false) × (header_length v ≤ length v) × (live_srlg at v ≡ not (l_for_nobody v))
 
-abbrev pub Lives : Judged → ℕ → List ℕ → Type 0
-Lives (Refused r) at v = Unit {0}
-Lives Ignored at v = live_srlg at v ≡ false
-Lives Live at v = (mask_too_long v ≡ false) × (header_length v ≤ length v) × (live_srlg at v ≡ not (l_for_nobody v))
-
-pub record Judges (w : Verdict) (at : ℕ) (v : List ℕ) (r : Judged) : Type 0 where
-  pub told : told_judged r ≡ w
-  pub lives : Lives r at v
+-- What its checks answer: their refusal, or whether it is live.
+pub record Judges (w : Verdict) (at : ℕ) (v : List ℕ) (r : Result Bool Refusal) : Type 0 where
+  pub told : told_checked r ≡ w
+  pub lives : Given (Lives at v) r

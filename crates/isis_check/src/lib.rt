@@ -14,8 +14,8 @@ ghost use Rattle.isis_check.specs.Sides.{ChecksLink};
 
 use frames::{Frame, frame_one};
 use isis_check_a::{Header, Masks};
-use replies::{Refusal, Run};
-use rules::{Checking, Names, SideChecked};
+use replies::{Reason, Refusal, Run, refuse_at, refuse_call};
+use rules::{Names, SideNames};
 
 // A type of link identifier: the length of its value, and its weight in a tally of types, 0 where the type is none of the five known ones.
 #[derive(Clone, Copy)]
@@ -55,15 +55,9 @@ fn known_identifier(t: u8) -> Known
     }
 }
 
-// An identifier list: its first refusal, or how often each known type stands in it, a byte of the tally for each.
-#[derive(Clone, Copy)]
-pub enum Listed {
-    Refused(Refusal),
-    Tally(u64),
-}
-
-// The identifier list that stands in run B from a place on, as far as s goes, in one walk.
-fn read_identifiers(s: &[u8], from: usize) -> Listed
+// The identifier list that stands in run B from a place on, as far as s goes, in one walk: its first refusal, or how often each known type stands in it, a byte
+// of the tally for each.
+fn read_identifiers(s: &[u8], from: usize) -> Result<u64, Refusal>
     requires { (from ≤ length s.now) × (length s.now < from + 256) }
     ensures { Lists (faults run_b check_identifier (identifiers_in s.now from)) (identifiers_in s.now from) result }
 {
@@ -71,13 +65,13 @@ fn read_identifiers(s: &[u8], from: usize) -> Listed
     let mut at = from;
     loop {
         match frame_one(s, at) {
-            Frame::End => return Listed::Tally(tally),
-            Frame::Cut => return Listed::Refused(replies::refuse_at(3, Run::B, at)),
+            Frame::End => return Ok(tally),
+            Frame::Cut => return Err(refuse_at(Reason::Cut, Run::B, at)),
             Frame::Whole { kind: _, len } => {
                 let known = known_identifier(s[at]);
                 if known.weight != 0 {
                     if len != known.length {
-                        return Listed::Refused(replies::refuse_at(4, Run::B, at));
+                        return Err(refuse_at(Reason::Length, Run::B, at));
                     }
                 }
                 tally = tally + known.weight;
@@ -159,51 +153,46 @@ pub fn identifies_link(s: &[u8]) -> bool
     tally_identifies(tally_identifiers(s))
 }
 
-// What the checks of a TLV 238 find: a fault, that it is ignored, or that it is live unless it has L for nobody.
-#[derive(Clone, Copy)]
-pub enum Judged {
-    Refused(Refusal),
-    Ignored,
-    Live,
-}
-
 // The identifiers, then the SRLG values, of the TLV 238 that stands in run B from `at` to `end`; its identifiers stand from `list` to `values`.
-// An odd rest is a fault only without L, and where the identifiers identify the link.
-fn check_parts(b: &[u8], l: bool, list: usize, values: usize, end: usize, at: usize) -> Judged
+// An odd rest is a fault only without L, and where the identifiers identify the link. Where there is none: whether the TLV is live, unless it has L for nobody.
+fn check_parts(
+    b: &[u8],
+    l: bool,
+    list: usize,
+    values: usize,
+    end: usize,
+    at: usize,
+) -> Result<bool, Refusal>
     requires { Within b.now l list values end at × (length b.now < 4294967296) }
     ensures { Judges (parts_verdict at (behind_in b.now at end)) at (behind_in b.now at end) result }
 {
-    match read_identifiers(&b[0..values], list) {
-        Listed::Refused(r) => return Judged::Refused(r),
-        Listed::Tally(tally) => {
-            if !tally_identifies(tally) {
-                return Judged::Ignored;
-            }
-            if (end - values) % 4 == 0 {
-                return Judged::Live;
-            }
-            if l {
-                return Judged::Live;
-            }
-            return Judged::Refused(replies::refuse_at(4, Run::B, at));
-        }
+    let tally = read_identifiers(&b[0..values], list)?;
+    if !tally_identifies(tally) {
+        return Ok(false);
     }
+    if (end - values) % 4 == 0 {
+        return Ok(true);
+    }
+    if l {
+        return Ok(true);
+    }
+    Err(refuse_at(Reason::Length, Run::B, at))
 }
 
 // The TLV 238 that stands in run B from `at` to `end`, by its header.
-fn check_srlg(b: &[u8], h: Header, at: usize, end: usize) -> Judged
+fn check_srlg(b: &[u8], h: Header, at: usize, end: usize) -> Result<bool, Refusal>
     requires { (at + 11 ≤ end) × (end ≤ length b.now) × (length b.now < 4294967296) × (h ≡ header_of (behind_in b.now at end)) × (h.standard < 128) × (h.user < 128) }
     ensures { Judges (check_b at 238 (value_in b.now at end)) at (behind_in b.now at end) result }
 {
     let head = at + 9;
     match isis_check_a::masks_within(h, end - head - 1) {
-        Masks::Ignored => return Judged::Ignored,
-        Masks::Past => return Judged::Refused(replies::refuse_at(3, Run::B, at)),
+        Masks::Ignored => return Ok(false),
+        Masks::Past => return Err(refuse_at(Reason::Cut, Run::B, at)),
         Masks::End(masks) => {
             let list = head + masks + 1;
             let values = list + b[head + masks] as usize;
             if end < values {
-                return Judged::Refused(replies::refuse_at(3, Run::B, at));
+                return Err(refuse_at(Reason::Cut, Run::B, at));
             }
             let l = h.l;
             return check_parts(b, l, list, values, end, at);
@@ -212,49 +201,37 @@ fn check_srlg(b: &[u8], h: Header, at: usize, end: usize) -> Judged
 }
 
 // The same TLV, behind elements that name `names`.
-fn check_tlv(b: &[u8], at: usize, end: usize, names: Names) -> Checking
+fn check_tlv(b: &[u8], at: usize, end: usize, names: Names) -> Result<Names, Refusal>
     requires { (at + 2 ≤ end) × (end ≤ length b.now) × (length b.now < 4294967296) }
     ensures { ChecksBehind names (check_b at 238 (value_in b.now at end)) (srlg_advertisements (element at 238 (value_in b.now at end))) result }
 {
     let head = at + 9;
     if end < head + 2 {
-        return rules::refuse(3, Run::B, at);
+        return Err(refuse_at(Reason::Cut, Run::B, at));
     }
     let h = isis_check_a::read_header(&b[head..end]);
-    match check_srlg(b, h, at, end) {
-        Judged::Refused(r) => return Checking::Refused(r),
-        Judged::Ignored => return Checking::Accepted(names),
-        Judged::Live => return Checking::Accepted(rules::names_with(
-            names,
-            h.l,
-            h.standard,
-            h.user,
-            b,
-            head + 2,
-        )),
+    let live = check_srlg(b, h, at, end)?;
+    if !live {
+        return Ok(names);
     }
+    Ok(names.with_advertisement(h.l, h.standard, h.user, b, head + 2))
 }
 
 // Run B whole: its refusal, or the applications that it names, and those that it names with L.
-pub fn check_b(b: &[u8]) -> Checking
+pub fn check_b(b: &[u8]) -> Result<Names, Refusal>
     requires { length b.now < 4294967296 }
     ensures { (c : List ℕ) → Checks (faults run_b check_b (elements 1 0 b.now)) (side_b b.now c).live result }
 {
-    let mut names = rules::nobody();
+    let mut names = Names::nobody();
     let mut at = 0;
     loop {
         match frame_one(b, at) {
-            Frame::End => return Checking::Accepted(names),
-            Frame::Cut => return rules::refuse(3, Run::B, at),
+            Frame::End => return Ok(names),
+            Frame::Cut => return Err(refuse_at(Reason::Cut, Run::B, at)),
             Frame::Whole { kind: _, len } => {
                 let next = at + 2 + len;
                 if b[at] == 238 {
-                    match check_tlv(b, at, next, names) {
-                        Checking::Refused(r) => return Checking::Refused(r),
-                        Checking::Accepted(all) => {
-                            names = all;
-                        }
-                    }
+                    names = check_tlv(b, at, next, names)?;
                 }
                 at = next;
             }
@@ -309,26 +286,17 @@ fn too_long(a: usize, b: usize, c: usize) -> bool
 // Whom the two sides of a link name, and whether their legacy attributes have a value of the kinds of applications.
 #[derive(Clone, Copy)]
 pub struct Sides {
-    pub a: Names,
-    pub b: Names,
-    pub legacya: bool,
-    pub legacyb: bool,
-}
-
-// What the checks of a link found: the first refusal, or what the rule asks of its sides.
-#[derive(Clone, Copy)]
-pub enum LinkChecked {
-    Refused(Refusal),
-    Accepted(Sides),
+    pub a: SideNames,
+    pub b: SideNames,
 }
 
 // Side B: run B whole; most links have none.
-fn check_side_b(b: &[u8]) -> Checking
+fn check_side_b(b: &[u8]) -> Result<Names, Refusal>
     requires { length b.now < 4294967296 }
     ensures { (c : List ℕ) → Checks (faults run_b check_b (elements 1 0 b.now)) (side_b b.now c).live result }
 {
     if b.len() == 0 {
-        return Checking::Accepted(rules::nobody());
+        return Ok(Names::nobody());
     }
     check_b(b)
 }
@@ -339,25 +307,22 @@ fn check_side_b(b: &[u8]) -> Checking
 // before a value is looked for.
 // Refused: the first fault by its number, 1 a run too long, 2 run C no multiple of 4 bytes, 3 an element, mask or list cut off, 4 a wrong length;
 // 1 and 2 name run A and offset 0, 3 and 4 the run and the first byte of the innermost element at fault.
-pub fn check_sides(a: &[u8], b: &[u8], c: &[u8]) -> LinkChecked
+pub fn check_sides(a: &[u8], b: &[u8], c: &[u8]) -> Result<Sides, Refusal>
     ensures { ChecksLink a.now b.now c.now result }
 {
     if too_long(a.len(), b.len(), c.len()) {
-        return LinkChecked::Refused(replies::refuse_call(1));
+        return Err(refuse_call(Reason::TooLong));
     }
     if c.len() % 4 != 0 {
-        return LinkChecked::Refused(replies::refuse_call(2));
+        return Err(refuse_call(Reason::OddSrlgs));
     }
-    match isis_check_a::check_a(a) {
-        SideChecked::Refused(r) => return LinkChecked::Refused(r),
-        SideChecked::Accepted { names, legacy } => match check_side_b(b) {
-            Checking::Refused(r) => return LinkChecked::Refused(r),
-            Checking::Accepted(m) => return LinkChecked::Accepted(Sides {
-                a: names,
-                b: m,
-                legacya: legacy,
-                legacyb: c.len() != 0,
-            }),
+    let side_a = isis_check_a::check_a(a)?;
+    let names = check_side_b(b)?;
+    Ok(Sides {
+        a: side_a,
+        b: SideNames {
+            names,
+            legacy: c.len() != 0,
         },
-    }
+    })
 }

@@ -3,7 +3,9 @@ use mathlib.Core.Path.{sym, ◌∙◌}
 use native.Mathlib.Omega.{arith}
 use lib.ListN.{get_or}
 use Rattle.linkstate.specs.Replies.{run_b}
-use Rattle.rules.proofs.NameLaws.{checks-as}
+use Rattle.rules.proofs.NameLaws.{checks-as, refuses}
+use Rattle.replies.specs.declared.Run.TheVariants.{B}
+use Rattle.replies.proofs.Laws.{passed_on}
 use Rattle.frames.proofs.Laws.{IsWhole, is-whole-one}
 use Rattle.isis.specs.RunB.{check_b, srlg_advertisements, side_b}
 use Rattle.isis_check_a.proofs.Naming.{walked_start, walked-cut, walked_end, walked-over, walked_on, walked-refused}
@@ -25,7 +27,7 @@ returns-in-End c = λ d. walked_end run_b check_b srlg_advertisements _ _ _ c.lo
 pub returns-in-Cut : goal.returns-in-Cut
 unfolding side_b
 returns-in-Cut c = λ d. let e = sym c.frame_one.ensures ∙ c.in-Cut.is in
-    checks-as (walked-cut run_b check_b srlg_advertisements _ _ _ c.loop-len.invariant.1 e) (c.refuse.ensures.checks _)
+    checks-as (walked-cut run_b check_b srlg_advertisements _ _ _ c.loop-len.invariant.1 e) (refuses 3 B _ _ c.refuse_at.ensures _)
 
 pub overflow_add-next : goal.overflow_add-next
 overflow_add-next c = let f = whole (goal.at.overflow_add-next c).In-Whole in omega arith
@@ -39,19 +41,20 @@ bounds-b-at c = let f = whole (goal.at.bounds-b-at c).In-Whole in omega arith
 pub check_tlv-requires : goal.check_tlv-requires
 check_tlv-requires c = let f = whole (goal.at.check_tlv-requires c).In-Whole in (omega arith, omega arith, c.requires)
 
-pub returns-in-Refused : goal.returns-in-Refused
+pub returns-in_err-names-in-Whole : goal.returns-in_err-names-in-Whole
 unfolding side_b
-returns-in-Refused c = λ d. walked-refused run_b check_b srlg_advertisements _ _ _ c.loop-len.invariant.1 _ (whole (goal.at.returns-in-Refused c).In-Whole) _
-    (tlv-checks _ _ _ _ _ (omega arith) c.check_tlv.ensures) _ c.in-Refused.is
+returns-in_err-names-in-Whole c = λ d. rw (passed_on _ _ c.from_residual.ensures.1)
+    (walked-refused run_b check_b srlg_advertisements _ _ _ c.loop-len.invariant.1 _ (whole (goal.at.returns-in_err-names-in-Whole c).In-Whole) _
+    (tlv-checks _ _ _ _ _ (omega arith) c.check_tlv.ensures) _ c.in_err-names-in-Whole.was)
 
-pub loop-len-smaller-in-Accepted : goal.loop-len-smaller-in-Accepted
-loop-len-smaller-in-Accepted c = let f = whole (goal.at.loop-len-smaller-in-Accepted c).In-Whole in omega arith
+pub loop-len-smaller-in_ok-names-in-Whole : goal.loop-len-smaller-in_ok-names-in-Whole
+loop-len-smaller-in_ok-names-in-Whole c = let f = whole (goal.at.loop-len-smaller-in_ok-names-in-Whole c).In-Whole in omega arith
 
-pub loop-len-preserved-in-Accepted : goal.loop-len-preserved-in-Accepted
-loop-len-preserved-in-Accepted c = (
-  (whole (goal.at.loop-len-preserved-in-Accepted c).In-Whole).within,
-  walked_on run_b check_b srlg_advertisements _ _ _ c.loop-len.invariant.1 _ (whole (goal.at.loop-len-preserved-in-Accepted c).In-Whole) _
-      (tlv-checks _ _ _ _ _ (omega arith) c.check_tlv.ensures) _ c.in-Accepted.is,
+pub loop-len-preserved-in_ok-names-in-Whole : goal.loop-len-preserved-in_ok-names-in-Whole
+loop-len-preserved-in_ok-names-in-Whole c = (
+  (whole (goal.at.loop-len-preserved-in_ok-names-in-Whole c).In-Whole).within,
+  walked_on run_b check_b srlg_advertisements _ _ _ c.loop-len.invariant.1 _ (whole (goal.at.loop-len-preserved-in_ok-names-in-Whole c).In-Whole) _
+      (tlv-checks _ _ _ _ _ (omega arith) c.check_tlv.ensures) _ c.in_ok-names-in-Whole.was,
 )
 
 pub loop-len-smaller : goal.loop-len-smaller

@@ -2,6 +2,7 @@
 use mathlib.Core.Path.{refl, sym, ap, ◌∙◌}
 use native.Mathlib.Omega.{arith}
 use Rattle.linkstate.specs.Replies.{refused}
+use Rattle.replies.proofs.Laws.{passed_on}
 use Rattle.isis_check.proofs.Laws.{link-long, link-odd, link-short, refused-a, refused-b, accepted-both}
 use Rattle.isis_check.proofs.check_sides.Goals as goal
 
@@ -15,17 +16,19 @@ pub check_a-requires : goal.check_a-requires
 check_a-requires c = let q = c.args in
     let s = link-short q.a.now q.b.now q.c.now (sym c.too_long.ensures ∙ c.if-too_long.false) in omega (arith, s.0)
 
-pub returns-in-Refused : goal.returns-in-Refused
-returns-in-Refused c = refused-a _ _ _ (sym c.too_long.ensures ∙ c.if-too_long.false) (omega arith) _ c.check_a.ensures _ c.in-Refused.is
+pub returns-in_err-side_a : goal.returns-in_err-side_a
+returns-in_err-side_a c = rw (passed_on _ _ c.from_residual.ensures.1)
+    (refused-a _ _ _ (sym c.too_long.ensures ∙ c.if-too_long.false) (omega arith) _ c.check_a.ensures _ c.in_err-side_a.was)
 
 pub check_side_b-requires : goal.check_side_b-requires
 check_side_b-requires c = let q = c.args in
     let s = link-short q.a.now q.b.now q.c.now (sym c.too_long.ensures ∙ c.if-too_long.false) in omega (arith, s.1)
 
-pub returns-in-Refused-check_side_b : goal.returns-in-Refused-check_side_b
-returns-in-Refused-check_side_b c = refused-b _ _ _ (sym c.too_long.ensures ∙ c.if-too_long.false) (omega arith) _ c.check_a.ensures _ _ c.in-Accepted.is
-    _ (c.check_side_b.ensures _) _ c.in-Refused-check_side_b.is
+pub returns-in_err-names : goal.returns-in_err-names
+returns-in_err-names c = rw (passed_on _ _ c.from_residual-in_err-names.ensures.1)
+    (refused-b _ _ _ (sym c.too_long.ensures ∙ c.if-too_long.false) (omega arith) _ c.check_a.ensures _ c.in_ok-side_a.was
+    _ (c.check_side_b.ensures _) _ c.in_err-names.was)
 
-pub returns-in-Accepted-check_side_b : goal.returns-in-Accepted-check_side_b
-returns-in-Accepted-check_side_b c = accepted-both _ _ _ (sym c.too_long.ensures ∙ c.if-too_long.false) (omega arith) _ c.check_a.ensures _ _ c.in-Accepted.is
-    _ (c.check_side_b.ensures _) _ c.in-Accepted-check_side_b.is _ refl
+pub returns : goal.returns
+returns c = accepted-both _ _ _ (sym c.too_long.ensures ∙ c.if-too_long.false) (omega arith) _ c.check_a.ensures _ c.in_ok-side_a.was
+    _ (c.check_side_b.ensures _) _ c.in_ok-names.was _ refl
