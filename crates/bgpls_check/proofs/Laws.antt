@@ -1,6 +1,6 @@
 -- One law for each way in which a check of a BGP-LS run can go.
 use mathlib.Core.Path.{◌≡◌, refl, sym, ap, ap₂, ◌∙◌}
-use mathlib.Core.Bool.{Bool, true, false, ◌&&◌, ◌||◌, not, and-true, and-false, or-false}
+use mathlib.Core.Bool.{Bool, true, false, ◌&&◌, ◌||◌, not, and-true, and-false, or-false, false≢true}
 use mathlib.Core.List.{List, []}
 use Prim.Native.Nat.{ℕ, zero, suc, ◌+◌, ◌-◌, ◌%◌, ◌≤◌, ◌<◌}
 use native.Mathlib.Omega.{arith}
@@ -8,20 +8,18 @@ use borrow.Author.Tests.{lt-ltb, le-ltb, le-leb, lt-leb, eq-eqb, ne_eqb}
 use lib.Dec.{leb, eqb}
 use lib.ListN.{length, take, drop, length-drop}
 use lib.Seq.{take-length}
-use Rattle.linkstate.specs.Bytes.{bytes_at}
 use Rattle.linkstate.specs.Replies.{accepted, fault, fault_of_call, refused_if, ◌then◌, run_bgp_ls}
-use Rattle.linkstate.specs.Elements.{elements, faults, faults_once}
+use Rattle.linkstate.specs.Elements.{Element, elements, faults, faults_once}
 use Rattle.linkstate.specs.Lists.{keep}
 use Rattle.linkstate.specs.Kinds.{kinds, fits, has_code, is_applications, wrong_inside, wrong_at_top}
 use Rattle.linkstate.proofs.Computing.{computing}
 use Rattle.linkstate.specs.BgpLs.{sabm_length, udabm_length, asla_header, is_mask_length, not_ignored, inner_elements, check_inner, known_inside, check_asla, check_top, run_verdict}
-use Rattle.repeats.proofs.Turns.{Once}
-use Rattle.frames.proofs.Laws.{IsWhole, value-length}
+use Rattle.repeats.proofs.Once.{Once}
 use Rattle.kinds.specs.declared.Kind.{Kind}
 use Rattle.kinds.specs.declared.Kind.TheVariants.{Link, Application, Srlg, Asla, Unknown}
 use Rattle.kinds.specs.declared.Size.{Size}
 use Rattle.kinds.specs.declared.Rule.{Rule}
-use Rattle.kinds.specs.Rules.{rule_of_code, fits_in, wrong_inside_by, is_of_sets}
+use Rattle.kinds.specs.Rules.{rule_of_code, fits_in, wrong_inside_by, is_link, is_of_sets}
 use Rattle.kinds.proofs.Laws.{any-kept, wrong-inside, wrong-at-top, code-of-sets}
 
 -- ---- lengths
@@ -54,10 +52,18 @@ pub inside-by : (r : Rule) (c n : ℕ) (k : Kind) → r ≡ rule_of_code c → r
 inside-by r c n k e f =
     wrong-inside c n ∙ ap (λ (q : Rule). wrong_inside_by q.kind q.size n) (sym e) ∙ ap (λ (q : Kind). wrong_inside_by q r.size n) f
 
--- Of the five kinds only the first, one of the link's, is unknown there.
-pub inside-other : (k : Kind) (z : Size) (n : ℕ) → ((i : ℕ) → k ≡ Link i → ⊥) → not (fits_in z n) ≡ wrong_inside_by k z n
-unfolding wrong_inside_by
-inside-other (Link i) z n h = absurd (h i refl)
+-- A kind of the link is unknown there.
+pub inside-link : (k : Kind) (z : Size) (n : ℕ) → is_link k ≡ true → false ≡ wrong_inside_by k z n
+unfolding wrong_inside_by is_link
+inside-link (Link i) z n h = refl
+inside-link (Application i) z n h = absurd (false≢true h)
+inside-link Srlg z n h = absurd (false≢true h)
+inside-link Asla z n h = absurd (false≢true h)
+inside-link Unknown z n h = absurd (false≢true h)
+
+pub inside-other : (k : Kind) (z : Size) (n : ℕ) → is_link k ≡ false → not (fits_in z n) ≡ wrong_inside_by k z n
+unfolding wrong_inside_by is_link
+inside-other (Link i) z n h = absurd (false≢true (sym h))
 inside-other (Application i) z n h = refl
 inside-other Srlg z n h = refl
 inside-other Asla z n h = refl
@@ -72,43 +78,17 @@ module _ (o t : ℕ) (v : List ℕ) where
   unfolding check_inner
   inner-wrong h = rw h
 
--- an inner element that stands at a place
-module _ (o : ℕ) (s : List ℕ) (at t n : ℕ) (f : IsWhole 2 s at t n) (b : Bool) (e : b ≡ wrong_inside t n) where
-  judged : wrong_inside t (length (bytes_at s (at + 4) n)) ≡ b
-  judged = ap (wrong_inside t) (value-length 2 s at t n f) ∙ sym e
-
-  pub inner-fits : b ≡ false → check_inner o t (bytes_at s (at + 4) n) ≡ accepted
-  inner-fits h = inner-right o t _ (judged ∙ h)
-
-  pub inner-unfit : b ≡ true → check_inner o t (bytes_at s (at + 4) n) ≡ fault 4 run_bgp_ls o
-  inner-unfit h = inner-wrong o t _ (judged ∙ h)
-
 -- Known there by the kind of its rule.
 pub known_by : (r : Rule) (c : ℕ) (k : Kind) → r ≡ rule_of_code c → r.kind ≡ k → is_of_sets k ≡ known_inside c
 unfolding known_inside
 known_by r c k e f = sym (code-of-sets c ∙ ap (λ (q : Rule). is_of_sets q.kind) (sym e) ∙ ap is_of_sets f)
 
-pub not-of-sets : (k : Kind) → ((i : ℕ) → k ≡ Application i → ⊥) → (k ≡ Srlg → ⊥) → false ≡ is_of_sets k
-unfolding is_of_sets
-not-of-sets (Link i) g h = refl
-not-of-sets (Application i) g h = absurd (g i refl)
-not-of-sets Srlg g h = absurd (h refl)
-not-of-sets Asla g h = refl
-not-of-sets Unknown g h = refl
-
-pub known-and : (k m b : Bool) → k ≡ true → b ≡ m → b ≡ k && m
-known-and k m b e h = rw e h
-
-pub unknown-and : (k m : Bool) → k ≡ false → false ≡ k && m
-unknown-and k m e = rw e
-
--- A check of a list, at a place.
+-- A check of a list, with those that are left.
 pub two_bytes : 0 < 2
 two_bytes = omega arith
 
-abbrev pub Listed : ℕ → List ℕ → ℕ → ℕ → Type 0
-Listed base s seen at = Once run_bgp_ls known_inside check_inner 2 two_bytes base s 0
-    (faults_once run_bgp_ls known_inside check_inner [] (elements 2 base s)) seen at
+abbrev pub Listed : ℕ → List ℕ → ℕ → List Element → Type 0
+Listed base s = Once run_bgp_ls known_inside check_inner 2 two_bytes base s 0 (faults_once run_bgp_ls known_inside check_inner [] (elements 2 base s))
 
 -- ---- a 1122
 

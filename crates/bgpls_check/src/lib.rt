@@ -3,7 +3,7 @@
 #![tactic(auto)]
 
 ghost use Rattle.std.specs.Prelude.{◌≡◌, ◌&&◌, List, [], ℕ, ◌+◌, ◌≤◌, ◌<◌, length};
-ghost use Rattle.linkstate.specs.Replies.{fault, run_bgp_ls};
+ghost use Rattle.linkstate.specs.Replies.{run_bgp_ls};
 ghost use Rattle.linkstate.specs.Lists.{member};
 ghost use Rattle.linkstate.specs.Elements.{elements, faults_once};
 ghost use Rattle.linkstate.specs.Kinds.{wrong_inside, wrong_at_top};
@@ -11,16 +11,9 @@ ghost use Rattle.linkstate.specs.BgpLs.{sabm_length, udabm_length, is_mask_lengt
 ghost use Rattle.repeats.specs.Walked.{Walked};
 ghost use Rattle.replies.specs.Told.{told_checked};
 
-use frames::{Frame, frame_two};
-use kinds::{Kind, classify_code, fits};
-use replies::{Checked, Run, refuse_at, refuse_call};
-
-// A refusal at an element of the run.
-fn refuse(number: u8, offset: usize) -> Checked
-    ensures { told_checked result ≡ fault number run_bgp_ls offset }
-{
-    Checked::Refused(refuse_at(number, Run::BgpLs, offset))
-}
+use frames::{Element, Elements, Two};
+use kinds::{classify_code, fits};
+use replies::{Reason, Refusal, Run, refuse_at, refuse_call};
 
 // Whether a value of n bytes is wrong for its code inside a 1122, where the link's kinds are unknown. The rule is looked up where none of the commonest tests tells.
 fn wrong_inside(code: usize, n: usize) -> bool
@@ -38,10 +31,10 @@ fn wrong_inside(code: usize, n: usize) -> bool
     let rule = classify_code(code);
     let kind = rule.kind;
     let size = rule.size;
-    match kind {
-        Kind::Link(_) => false,
-        _ => !fits(size, n),
+    if kind.is_link() {
+        return false;
     }
+    !fits(size, n)
 }
 
 // The same at the top of a run.
@@ -60,11 +53,7 @@ fn is_known(code: usize) -> bool
     ensures { result ≡ known_inside code }
 {
     let kind = classify_code(code).kind;
-    match kind {
-        Kind::Application(_) => true,
-        Kind::Srlg => true,
-        _ => false,
-    }
+    kind.is_of_applications()
 }
 
 // Whether the code is known and stands before a place in its list.
@@ -72,39 +61,32 @@ fn known_before(s: &[u8], at: usize, code: usize) -> bool
     requires { (ts : List ℕ) × Walked 2 s.now at 0 ts }
     ensures { (ts : List ℕ) → Walked 2 s.now at 0 ts → result ≡ known_inside code && member code ts }
 {
-    if is_known(code) {
-        return repeats::stood_two(s, 0, at, code);
-    }
-    false
+    is_known(code) && repeats::stood::<Two>(s, 0, at, code)
 }
 
 // The inner elements of a 1122, the first of which is at the offset `base` of the run.
-pub fn check_inner(s: &[u8], base: usize) -> Checked
+pub fn check_inner(s: &[u8], base: usize) -> Result<(), Refusal>
     requires { base + length s.now ≤ 524288 }
     ensures { told_checked result ≡ faults_once run_bgp_ls known_inside check_inner [] (elements 2 base s.now) }
 {
-    let mut at = 0;
     let mut seen: u64 = 0;
-    loop {
-        let offset = base + at;
-        match frame_two(s, at) {
-            Frame::End => return Checked::Accepted,
-            Frame::Cut => return refuse(3, offset),
-            Frame::Whole { kind, len } => {
-                if wrong_inside(kind, len) {
-                    return refuse(4, offset);
-                }
-                let doubt = repeats::may_have_stood(seen, kind);
-                seen = repeats::with_kind(seen, kind);
-                if doubt {
-                    if known_before(s, at, kind) {
-                        return refuse(8, offset);
-                    }
-                }
-                at = at + 4 + len;
+    for e in Elements::<Two>::new(s, base) {
+        let Element { at, kind, value } = match e {
+            Ok(e) => e,
+            Err(cut) => return Err(refuse_at(Reason::Cut, Run::BgpLs, cut.at)),
+        };
+        if wrong_inside(kind, value.len()) {
+            return Err(refuse_at(Reason::Length, Run::BgpLs, at));
+        }
+        let doubt = repeats::may_have_stood(seen, kind);
+        seen = repeats::with_kind(seen, kind);
+        if doubt {
+            if known_before(s, at - base, kind) {
+                return Err(refuse_at(Reason::Twice, Run::BgpLs, at));
             }
         }
     }
+    Ok(())
 }
 
 // The lengths of the two masks of a 1122, as sent.
@@ -118,9 +100,10 @@ pub fn read_asla_header(v: &[u8]) -> AslaHeader
     requires { 4 ≤ length v.now }
     ensures { (result.standard ≡ sabm_length v.now) × (result.user ≡ udabm_length v.now) × (result.standard < 256) × (result.user < 256) }
 {
-    let standard = v[0] as usize;
-    let user = v[1] as usize;
-    AslaHeader { standard, user }
+    AslaHeader {
+        standard: usize::from(v[0]),
+        user: usize::from(v[1]),
+    }
 }
 
 // 0, 4 or 8.
@@ -138,26 +121,26 @@ pub fn not_ignored(h: AslaHeader) -> bool
 }
 
 // The value of a 1122 whose first byte is at the offset `at` of the run.
-pub fn check_asla(v: &[u8], at: usize) -> Checked
+pub fn check_asla(v: &[u8], at: usize) -> Result<(), Refusal>
     requires { at + 4 + length v.now ≤ 524288 }
     ensures { told_checked result ≡ check_asla at v.now }
 {
     if v.len() < 4 {
-        return refuse(3, at);
+        return Err(refuse_at(Reason::Cut, Run::BgpLs, at));
     }
     let h = read_asla_header(v);
     let first = 4 + h.standard + h.user;
     if !not_ignored(h) {
-        return Checked::Accepted;
+        return Ok(());
     }
     if v.len() < first {
-        return refuse(3, at);
+        return Err(refuse_at(Reason::Cut, Run::BgpLs, at));
     }
     check_inner(&v[first..], at + 4 + first)
 }
 
 // A top-level element by its type, its value and the offset of its first byte.
-fn check_top(v: &[u8], code: usize, at: usize) -> Checked
+fn check_top(v: &[u8], code: usize, at: usize) -> Result<(), Refusal>
     requires { at + 4 + length v.now ≤ 524288 }
     ensures { told_checked result ≡ check_top at code v.now }
 {
@@ -165,31 +148,23 @@ fn check_top(v: &[u8], code: usize, at: usize) -> Checked
         return check_asla(v, at);
     }
     if wrong_at_top(code, v.len()) {
-        return refuse(4, at);
+        return Err(refuse_at(Reason::Length, Run::BgpLs, at));
     }
-    Checked::Accepted
+    Ok(())
 }
 
 // A whole run.
-pub fn check_run(r: &[u8]) -> Checked
+pub fn check_run(r: &[u8]) -> Result<(), Refusal>
     ensures { told_checked result ≡ run_verdict r.now }
 {
     if 524288 < r.len() {
-        return Checked::Refused(refuse_call(1));
+        return Err(refuse_call(Reason::TooLong));
     }
-    let mut at = 0;
-    loop {
-        match frame_two(r, at) {
-            Frame::End => return Checked::Accepted,
-            Frame::Cut => return refuse(3, at),
-            Frame::Whole { kind, len } => {
-                let value = at + 4;
-                let next = value + len;
-                match check_top(&r[value..next], kind, at) {
-                    Checked::Accepted => at = next,
-                    Checked::Refused(x) => return Checked::Refused(x),
-                }
-            }
+    for e in Elements::<Two>::new(r, 0) {
+        match e {
+            Ok(e) => check_top(e.value, e.kind, e.at)?,
+            Err(cut) => return Err(refuse_at(Reason::Cut, Run::BgpLs, cut.at)),
         }
     }
+    Ok(())
 }

@@ -14,8 +14,21 @@ use Rattle.linkstate.specs.Elements.{Element, element, cut, length_of, size_of, 
 use Rattle.linkstate.proofs.ElementLaws.{Framed, done, short, step, framed, value-length}
 use Rattle.linkstate.proofs.WalkLaws.{type_at, length_at, left_end, left_cut, left-whole, then-passed, then-refused, then-first, then-second, not-accepted, once-faults}
 use Rattle.octets.proofs.Laws.{length-bytes_at}
+use Rattle.std.specs.Prelude.{Result}
+use Rattle.std.specs.declared.result.Result.TheVariants.{Ok, Err}
+use Rattle.frames.specs.declared.Element.{Element as Item}
+use Rattle.frames.specs.declared.Cut.{Cut}
+use Rattle.frames.specs.Left.{shown}
 use Rattle.frames.specs.Uncut.{left, Uncut}
 use Rattle.frames.proofs.Laws.{IsWhole}
+
+-- ---- what an item says of those that were left
+
+pub gave-whole : {es rest : List Element} {x : Result Item Cut} (e : Item) → x ≡ Ok e → es ≡ shown x ∷ rest → es ≡ element e.at e.kind e.value.now ∷ rest
+gave-whole {rest = rest} e i g = g ∙ ap (λ (x : Result Item Cut). shown x ∷ rest) i
+
+pub gave-cut : {es rest : List Element} {x : Result Item Cut} (c : Cut) → x ≡ Err c → es ≡ shown x ∷ rest → es ≡ cut c.at ∷ rest
+gave-cut {rest = rest} c i g = g ∙ ap (λ (x : Result Item Cut). shown x ∷ rest) i
 
 -- ---- a check of each element in turn
 
@@ -124,5 +137,5 @@ module _ (w : ℕ) (p : 0 < w) where
   framed-within {at} {s} end e (step h f) =
       (omega (arith, value-length w s h), framed-within end (omega (arith, length-drop (w + w + length_of w s) s)) f)
 
-  pub within : (at : ℕ) (s : List ℕ) → Within w (at + length s) (elements w at s)
-  within at s = framed-within (at + length s) refl (framed w p at s)
+  pub within : (at end : ℕ) (s : List ℕ) → at + length s ≡ end → Within w end (elements w at s)
+  within at end s e = framed-within end e (framed w p at s)

@@ -53,13 +53,6 @@ module _ (s : List ℕ) (at t n : ℕ) (f : IsWhole 1 s at t n) where
     pub list-wrong : b ≡ true → check_attribute at t (bytes_at s (at + 2) n) ≡ fault 4 run_a at
     list-wrong h = attribute-wrong _ _ _ n (value-length 1 s at t n f) (sym judged ∙ h)
 
--- Known and stood before, or not known.
-pub known-and : (k m b : Bool) → k ≡ true → b ≡ m → b ≡ k && m
-known-and k m b e h = rw e h
-
-pub unknown-and : (k m : Bool) → k ≡ false → false ≡ k && m
-unknown-and k m e = rw e
-
 -- A check of a list that began at `from`, at a place.
 pub one_byte : 0 < 1
 one_byte = omega arith

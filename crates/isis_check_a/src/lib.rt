@@ -14,7 +14,7 @@ ghost use Rattle.isis.specs.RunA.{check_attribute, known_type, check_asla, check
 ghost use Rattle.isis_check_a.specs.Legacy.{for_applications};
 ghost use Rattle.isis_check_a.specs.Headers.{header_of, too_long, for_nobody, bytes_before, masks_in, value_in};
 
-use frames::{Frame, frame_one};
+use frames::{Frame, One, frame_one};
 use replies::{Reason, Refusal, Run, refuse_at};
 use rules::{Names, SideNames};
 
@@ -130,10 +130,7 @@ fn known_before(s: &[u8], from: usize, at: usize, t: u8) -> bool
     requires { (ts : List ℕ) × Walked 1 s.now at from ts }
     ensures { (ts : List ℕ) → Walked 1 s.now at from ts → result ≡ known_type t && member t ts }
 {
-    if is_known(t) {
-        return repeats::stood_one(s, from, at, t as usize);
-    }
-    false
+    is_known(t) && repeats::stood::<One>(s, from, at, usize::from(t))
 }
 
 // The attribute list that stands in run A from a place on, as far as s goes.

@@ -1,16 +1,23 @@
 -- Elements that stood before: what a look at them finds, and one turn of a loop that checks a list in which no known type stands twice. Assumes nothing.
-use mathlib.Core.Path.{◌≡◌, refl, sym, ap, ◌∙◌}
+use mathlib.Core.Path.{◌≡◌, refl, sym, ap, ap₂, ◌∙◌, subst}
 use mathlib.Core.Bool.{Bool, true, false, ◌||◌, or-true, false≢true}
 use mathlib.Core.List.{List, [], ◌∷◌}
-use Prim.Native.Nat.{ℕ, ◌+◌, ◌%◌, ◌≤◌, ◌<◌}
+use Prim.Native.Nat.{ℕ, zero, suc, ◌+◌, ◌-◌, ◌%◌, ◌≤◌, ◌<◌}
 use native.Mathlib.Omega.{arith}
 use borrow.Author.Tests.{eq-eqb, ne_eqb, eqb-true}
 use lib.Dec.{eqb}
-use lib.ListN.{length, get_or}
+use lib.ListN.{length, take, drop, length-drop}
+use lib.Seq.{drop-drop}
+use Rattle.std.specs.List.{list_any}
+use Rattle.std.proofs.lemmas.List.{drop-take, take-take, length-take-le}
 use Rattle.linkstate.specs.Lists.{member}
 use Rattle.linkstate.specs.Masks.{in_number}
-use Rattle.linkstate.specs.Bytes.{number, bytes_at}
-use Rattle.linkstate.proofs.WalkLaws.{type_at, length_at, length-one, length_two}
+use Rattle.linkstate.specs.Bytes.{number}
+use Rattle.linkstate.specs.Elements.{Element, element, cut, type_of, length_of, size_of, elements}
+use Rattle.linkstate.proofs.ElementLaws.{none_left, first-whole}
+use Rattle.linkstate.proofs.ListLaws.{eqb-sym}
+use Rattle.linkstate.proofs.WalkLaws.{length_at}
+use Rattle.frames.specs.Uncut.{Uncut}
 use Rattle.repeats.specs.Walked.{Walked, Remembers}
 
 -- ---- a look at the elements before
@@ -27,59 +34,94 @@ pub member-none : (k : ℕ) → member k [] ≡ false
 unfolding member
 member-none k = refl
 
+-- A part that stands in the first m bytes.
+front-part : (d n m : ℕ) (s : List ℕ) → d + n ≤ m → take n (drop d (take m s)) ≡ take n (drop d s)
+front-part d n m s h =
+    let e : d + (m - d) ≡ m = omega arith in
+    ap (λ (i : ℕ). take n (drop d (take i s))) (sym e) ∙ ap (take n) (drop-take d (m - d) s) ∙ take-take n (m - d) (drop d s) (omega arith)
+
+front-type : (w m : ℕ) (s : List ℕ) → w ≤ m → type_of w (take m s) ≡ type_of w s
+unfolding type_of
+front-type w m s h = ap number (take-take w m s h)
+
+front-length : (w m : ℕ) (s : List ℕ) → w + w ≤ m → length_of w (take m s) ≡ length_of w s
+unfolding length_of
+front-length w m s h = ap number (front-part w w m s h)
+
+-- The first element of a list's front, which holds it and k bytes more, and those behind it.
+front-first : (w : ℕ) → 0 < w → (at k : ℕ) (s : List ℕ) → size_of w s + k ≤ length s
+    → ((v : List ℕ) × (elements w at (take (size_of w s + k) s) ≡ element at (type_of w s) v ∷ elements w (at + size_of w s) (take k (drop (size_of w s) s))))
+unfolding size_of
+front-first w p at k s h =
+    let m : ℕ = w + w + length_of w s + k in
+    let n : length_of w (take m s) ≡ length_of w s = front-length w m s (omega arith) in
+    let z : size_of w (take m s) ≡ size_of w s = ap (λ (i : ℕ). w + w + i) n in (
+      take (length_of w (take m s)) (drop (w + w) (take m s)),
+      first-whole w p at (take m s) (omega (arith, length-take-le m s h))
+          ∙ rw (z, front-type w m s (omega arith), drop-take (w + w + length_of w s) k s) refl,
+    )
+
+-- The element is of the type.
+abbrev pub is_of : ℕ → Element → Bool
+is_of k (element at t v) = eqb t k
+is_of k (cut at) = false
+
 module _ (w : ℕ) (p : 0 < w) (s : List ℕ) (end : ℕ) where
   walked_end : (at : ℕ) (ts : List ℕ) → Walked w s end at ts → at ≤ end
   walked_end at [] h = omega (arith, h)
   walked_end at (t ∷ ts) h = omega (arith, walked_end (at + (w + w) + length_at w s at) ts h.2)
 
-  -- The element at a place before the end is whole.
-  pub walked_whole : (at : ℕ) (ts : List ℕ) → Walked w s end at ts → at < end → at + (w + w) + length_at w s at ≤ length s
-  walked_whole at [] h l = absurd (omega (arith, h))
-  walked_whole at (t ∷ ts) h l = h.1
+  pub walked-none : (at k : ℕ) (ts : List ℕ) → Walked w s end at ts → at ≡ end → false ≡ member k ts
+  walked-none at k [] h e = sym (member-none k)
+  walked-none at k (t ∷ ts) h e = absurd (omega (arith, walked_end (at + (w + w) + length_at w s at) ts h.2))
 
-  pub walked-met : (at k : ℕ) (ts : List ℕ) → Walked w s end at ts → at < end → type_at w s at ≡ k → true ≡ member k ts
-  walked-met at k [] h l e = absurd (omega (arith, h))
-  walked-met at k (t ∷ ts) h l e = sym (member-head k t ts (sym e ∙ h.0))
+  -- Where one stood, the end is a place of the list.
+  pub walked-within : (at : ℕ) (ts : List ℕ) → Walked w s end at ts → (at ≡ end → ⊥) → (at ≤ end) × (end ≤ length s)
+  walked-within at [] h n = absurd (n h)
+  walked-within at (t ∷ ts) h n = (walked_end at (t ∷ ts) h, last at t ts h)
+    where
+      last : (at t : ℕ) (ts : List ℕ) → Walked w s end at (t ∷ ts) → end ≤ length s
+      last at t [] h = omega (arith, h.1, h.2)
+      last at t (u ∷ ts) h = last (at + (w + w) + length_at w s at) u ts h.2
 
-  pub walked-past : (at k : ℕ) (ts : List ℕ) → Walked w s end at ts → at < end → (type_at w s at ≡ k → ⊥) → (n : ℕ) → length_at w s at ≡ n
-      → ((rest : List ℕ) × Walked w s end (at + (w + w) + n) rest × (member k rest ≡ member k ts))
-  walked-past at k [] h l d n e = absurd (omega (arith, h))
-  walked-past at k (t ∷ ts) h l d n e = (ts, rw e at h.2, sym (member-tail k t ts (λ z. d (h.0 ∙ sym z))))
+  abbrev Shows : ℕ → List ℕ → List Element → Type 0
+  Shows k ts es = Uncut es × (list_any (is_of k) es ≡ member k ts)
 
-  pub walked_none : (at k : ℕ) (ts : List ℕ) → Walked w s end at ts → end ≤ at → false ≡ member k ts
-  walked_none at k [] h l = sym (member-none k)
-  walked_none at k (t ∷ ts) h l = absurd (omega (arith, walked_end (at + (w + w) + length_at w s at) ts h.2))
+  next-is : (at : ℕ) → at + size_of w (drop at s) ≡ at + (w + w) + length_at w s at
+  unfolding size_of
+  next-is at = omega arith
 
--- What a look that has come to a place has yet to find, whatever stood.
-abbrev pub Looks : ℕ → List ℕ → ℕ → ℕ → ℕ → ℕ → Type 0
-Looks w s from end k at = (ts : List ℕ) → Walked w s end from ts → ((rest : List ℕ) × Walked w s end at rest × (member k rest ≡ member k ts))
+  shows-step : (at n k t : ℕ) (ts : List ℕ) (next m : ℕ) → type_of w (drop at s) ≡ t → at + size_of w (drop at s) ≡ next → size_of w (drop at s) + m ≡ n → (v : List ℕ)
+      → elements w at (take (size_of w (drop at s) + m) (drop at s))
+      ≡ element at (type_of w (drop at s)) v ∷ elements w (at + size_of w (drop at s)) (take m (drop (size_of w (drop at s)) (drop at s)))
+      → Shows k ts (elements w next (take m (drop next s))) → Shows k (t ∷ ts) (elements w at (take n (drop at s)))
+  unfolding member
+  shows-step at n k t ts next m a z i v e r =
+      let d : drop (size_of w (drop at s)) (drop at s) ≡ drop next s = drop-drop (size_of w (drop at s)) at s ∙ ap (λ (j : ℕ). drop j s) z in
+      let g : elements w at (take n (drop at s)) ≡ element at t v ∷ elements w next (take m (drop next s)) =
+      ap (λ (j : ℕ). elements w at (take j (drop at s))) (sym i) ∙ e ∙ rw (a, z, d) refl in
+      rw g (r.0, ap₂ (λ (x y : Bool). x || y) (eqb-sym t k) r.1)
 
-pub looks-start : (w : ℕ) (s : List ℕ) (from end k : ℕ) → Looks w s from end k from
-looks-start w s from end k ts h = (ts, h, refl)
+  -- Those that stood, as elements: none is cut off, and one is of a type where that is among theirs.
+  walked-elements : (at n k : ℕ) (ts : List ℕ) → at + n ≡ end → Walked w s end at ts → Shows k ts (elements w at (take n (drop at s)))
+  walked-elements at zero k [] e h = rw (none_left w at) (refl, sym (member-none k))
+  walked-elements at (suc n) k [] e h = absurd (omega (arith, h))
+  walked-elements at n k (t ∷ ts) e h =
+      let next : ℕ = at + (w + w) + length_at w s at in
+      let z : at + size_of w (drop at s) ≡ next = next-is at in
+      let q : next ≤ end = walked_end next ts h.2 in
+      let b = walked-within at (t ∷ ts) h (λ d. omega (arith, q)) in
+      let i : size_of w (drop at s) + (end - next) ≡ n = omega arith in
+      let f = front-first w p at (end - next) (drop at s) (omega (arith, length-drop at s, b.1)) in
+      let r = walked-elements next (end - next) k ts (omega arith) h.2 in
+      shows-step at n k t ts next (end - next) h.0 z i f.0 f.1 r
 
-module _ (w : ℕ) (p : 0 < w) (s : List ℕ) (from end k at : ℕ) (looks : Looks w s from end k at) where
-  pub looks-whole : ((ts : List ℕ) × Walked w s end from ts) → at < end → at + (w + w) + length_at w s at ≤ length s
-  looks-whole h l = let r = looks h.0 h.1 in walked_whole w p s end at r.0 r.1 l
-
-  pub looks-met : at < end → type_at w s at ≡ k → (ts : List ℕ) → Walked w s end from ts → true ≡ member k ts
-  looks-met l e ts h = let r = looks ts h in walked-met w p s end at k r.0 r.1 l e ∙ r.2
-
-  pub looks-past : at < end → (type_at w s at ≡ k → ⊥) → (n : ℕ) → length_at w s at ≡ n → Looks w s from end k (at + (w + w) + n)
-  looks-past l d n e ts h =
-      let r = looks ts h in
-      let q = walked-past w p s end at k r.0 r.1 l d n e in
-      (q.0, q.1, q.2 ∙ r.2)
-
-  pub looks-none : end ≤ at → (ts : List ℕ) → Walked w s end from ts → false ≡ member k ts
-  looks-none l ts h = let r = looks ts h in walked_none w p s end at k r.0 r.1 l ∙ r.2
-
--- The same of one byte and of two.
-pub whole-one : (s : List ℕ) (from end k at : ℕ) → Looks 1 s from end k at → ((ts : List ℕ) × Walked 1 s end from ts) → at < end → at + 2 + get_or s (at + 1) 0 ≤ length s
-whole-one s from end k at looks h l = omega (arith, looks-whole 1 (omega arith) s from end k at looks h l, length-one s at)
-
-pub whole-two : (s : List ℕ) (from end k at : ℕ) → Looks 2 s from end k at → ((ts : List ℕ) × Walked 2 s end from ts) → at < end
-    → at + 4 + number (bytes_at s (at + 2) 2) ≤ length s
-whole-two s from end k at looks h l = omega (arith, looks-whole 2 (omega arith) s from end k at looks h l, length_two s at)
+  pub walked-list : (from k : ℕ) (ts : List ℕ) → Walked w s end from ts → Shows k ts (elements w from (drop from (take end s)))
+  walked-list from k ts h =
+      let q = walked_end from ts h in
+      let e : from + (end - from) ≡ end = omega arith in
+      subst (λ (l : List ℕ). Shows k ts (elements w from l)) (sym (drop-take from (end - from) s) ∙ ap (λ (i : ℕ). drop from (take i s)) e)
+      (walked-elements from (end - from) k ts e h)
 
 -- ---- the bits
 

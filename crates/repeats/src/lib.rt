@@ -7,6 +7,8 @@ ghost use Rattle.linkstate.specs.Lists.{member};
 ghost use Rattle.linkstate.specs.Masks.{in_number};
 ghost use Rattle.repeats.specs.Walked.{Walked, Remembers};
 
+use frames::{Whole, Width};
+
 // The types that stood in a list, each by its last six bits: where the bit of a type is not set, it did not stand.
 pub fn may_have_stood(seen: u64, kind: usize) -> bool
     ensures { result ≡ in_number seen (kind % 64) }
@@ -23,41 +25,13 @@ pub fn with_kind(seen: u64, kind: usize) -> u64
     seen | (1 << n)
 }
 
-// A byte as a number.
-fn wide(x: u8) -> usize
-    ensures { (result ≡ x) × (result < 256) }
+// Whether an element of the type begins in s between two places.
+pub fn stood<W: Width>(s: &[u8], from: usize, at: usize, kind: usize) -> bool
+    requires { (ts : List ℕ) × Walked W.BYTES s.now at from ts }
+    ensures { (ts : List ℕ) → Walked W.BYTES s.now at from ts → result ≡ member kind ts }
 {
-    x as usize
-}
-
-// Whether an element of the type begins in s between two places, where a type has one byte, and a length one.
-pub fn stood_one(s: &[u8], from: usize, at: usize, kind: usize) -> bool
-    requires { (ts : List ℕ) × Walked 1 s.now at from ts }
-    ensures { (ts : List ℕ) → Walked 1 s.now at from ts → result ≡ member kind ts }
-{
-    let mut i = from;
-    while i < at {
-        if wide(s[i]) == kind {
-            return true;
-        }
-        let len = wide(s[i + 1]);
-        i = i + 2 + len;
+    if from == at {
+        return false;
     }
-    false
-}
-
-// The same where each has two.
-pub fn stood_two(s: &[u8], from: usize, at: usize, kind: usize) -> bool
-    requires { (ts : List ℕ) × Walked 2 s.now at from ts }
-    ensures { (ts : List ℕ) → Walked 2 s.now at from ts → result ≡ member kind ts }
-{
-    let mut i = from;
-    while i < at {
-        if octets::read16(s, i) == kind {
-            return true;
-        }
-        let len = octets::read16(s, i + 2);
-        i = i + 4 + len;
-    }
-    false
+    Whole::<W>::behind(&s[..at], from).any(|e| e.kind == kind)
 }
