@@ -1,19 +1,18 @@
 -- One law for each way in which a check of a BGP-LS run can go.
-use mathlib.Core.Path.{◌≡◌, refl, sym, ap, ap₂, ◌∙◌}
-use mathlib.Core.Bool.{Bool, true, false, ◌&&◌, ◌||◌, not, and-true, and-false, or-false, false≢true}
+use mathlib.Core.Path.{◌≡◌, refl, sym, ap, ◌∙◌}
+use mathlib.Core.Bool.{Bool, true, false, ◌&&◌, ◌||◌, not, and-true, or-false, false≢true}
 use mathlib.Core.List.{List, []}
-use Prim.Native.Nat.{ℕ, zero, suc, ◌+◌, ◌-◌, ◌%◌, ◌≤◌, ◌<◌}
+use Prim.Native.Nat.{ℕ, ◌%◌, ◌≤◌, ◌<◌}
 use native.Mathlib.Omega.{arith}
-use borrow.Author.Tests.{lt-ltb, le-ltb, le-leb, lt-leb, eq-eqb, ne_eqb}
+use borrow.Author.Tests.{lt-ltb, le-ltb, le-leb}
 use lib.Dec.{leb, eqb}
-use lib.ListN.{length, take, drop, length-drop}
-use lib.Seq.{take-length}
+use lib.ListN.{length}
 use Rattle.linkstate.specs.Replies.{accepted, fault, fault_of_call, refused_if, ◌then◌, run_bgp_ls}
 use Rattle.linkstate.specs.Elements.{Element, elements, faults, faults_once}
 use Rattle.linkstate.specs.Lists.{keep}
 use Rattle.linkstate.specs.Kinds.{kinds, fits, has_code, is_applications, wrong_inside, wrong_at_top}
 use Rattle.linkstate.proofs.Computing.{computing}
-use Rattle.linkstate.specs.BgpLs.{sabm_length, udabm_length, asla_header, is_mask_length, not_ignored, inner_elements, check_inner, known_inside, check_asla, check_top, run_verdict}
+use Rattle.linkstate.specs.BgpLs.{check_inner, known_inside, check_top, run_verdict}
 use Rattle.repeats.proofs.Once.{Once}
 use Rattle.kinds.specs.declared.Kind.{Kind}
 use Rattle.kinds.specs.declared.Kind.TheVariants.{Link, Application, Srlg, Asla, Unknown}
@@ -90,78 +89,11 @@ two_bytes = omega arith
 abbrev pub Listed : ℕ → List ℕ → ℕ → List Element → Type 0
 Listed base s = Once run_bgp_ls known_inside check_inner 2 two_bytes base s 0 (faults_once run_bgp_ls known_inside check_inner [] (elements 2 base s))
 
--- ---- a 1122
-
--- A mask has a multiple of four bytes, at most eight.
-pub mask-length : (n : ℕ) → eqb (n % 4) 0 && leb n 8 ≡ is_mask_length n
-unfolding is_mask_length
-mask-length zero = refl
-mask-length (suc zero) = refl
-mask-length (suc (suc zero)) = refl
-mask-length (suc (suc (suc zero))) = refl
-mask-length (suc (suc (suc (suc zero)))) = refl
-mask-length (suc (suc (suc (suc (suc zero))))) = refl
-mask-length (suc (suc (suc (suc (suc (suc zero)))))) = refl
-mask-length (suc (suc (suc (suc (suc (suc (suc zero))))))) = refl
-mask-length (suc (suc (suc (suc (suc (suc (suc (suc zero)))))))) = refl
-mask-length (suc (suc (suc (suc (suc (suc (suc (suc (suc k))))))))) = above (suc (suc (suc (suc (suc (suc (suc (suc (suc k))))))))) (omega arith)
-  where
-    above : (m : ℕ) → 8 < m → eqb (m % 4) 0 && leb m 8 ≡ eqb m 0 || eqb m 4 || eqb m 8
-    above m h = rw (lt-leb m 8 h, ne_eqb m 0 (λ e. omega arith), ne_eqb m 4 (λ e. omega arith), ne_eqb m 8 (λ e. omega arith)) (and-false (eqb (m % 4) 0))
-
--- By the mask lengths s and u that stand in its first two bytes.
-module _ (v : List ℕ) (s u : ℕ) (e : s ≡ sabm_length v) (f : u ≡ udabm_length v) where
-  pub header-live : is_mask_length s && is_mask_length u ≡ not_ignored v
-  unfolding not_ignored
-  header-live = ap₂ (λ (x y : ℕ). is_mask_length x && is_mask_length y) e f
-
-  pub header-size : 4 + s + u ≡ asla_header v
-  unfolding asla_header
-  header-size = ap₂ (λ (x y : ℕ). 4 + x + y) e f
-
-module _ (at : ℕ) (v : List ℕ) where
-  pub asla-short : length v < 4 → fault 3 run_bgp_ls at ≡ check_asla at v
-  unfolding check_asla
-  asla-short h = rw (lt-ltb (length v) 4 h)
-
-  module _ (long : 4 ≤ length v) where
-    pub asla-ignored : not_ignored v ≡ false → accepted ≡ check_asla at v
-    unfolding check_asla
-    asla-ignored p = rw (le-ltb (length v) 4 long, p)
-
-    module _ (p : not_ignored v ≡ true) where
-      pub asla-past : length v < asla_header v → fault 3 run_bgp_ls at ≡ check_asla at v
-      unfolding check_asla
-      asla-past h = rw (le-ltb (length v) 4 long, p, lt-ltb (length v) (asla_header v) h)
-
-      -- the list of the code's slice from n on
-      pub asla-inner : (n : ℕ) → n ≡ asla_header v → n ≤ length v
-          → faults_once run_bgp_ls known_inside check_inner [] (elements 2 (at + 4 + n) (take (length v - n) (drop n v))) ≡ check_asla at v
-      unfolding check_asla inner_elements
-      asla-inner n e h =
-          ap (λ (l : List ℕ). faults_once run_bgp_ls known_inside check_inner [] (elements 2 (at + 4 + n) l))
-          (ap (λ (k : ℕ). take k (drop n v)) (sym (length-drop n v)) ∙ take-length (drop n v))
-          ∙ rw (le-ltb (length v) 4 long, p, le-ltb (length v) (asla_header v) (omega arith))
-          (ap (λ (k : ℕ). faults_once run_bgp_ls known_inside check_inner [] (elements 2 (at + 4 + k) (drop k v))) e)
-
 -- ---- a top-level element
 
 -- By the rule of its code.
 pub top-by : (r : Rule) (c n : ℕ) → r ≡ rule_of_code c → wrong_at_top c n ≡ not (fits_in r.size n)
 top-by r c n e = wrong-at-top c n ∙ ap (λ (q : Rule). not (fits_in q.size n)) (sym e)
-
-module _ (at t : ℕ) (v : List ℕ) where
-  pub top-asla : t ≡ 1122 → check_asla at v ≡ check_top at t v
-  unfolding check_top
-  top-asla e = rw (eq-eqb t 1122 e)
-
-  pub top_right : (t ≡ 1122 → ⊥) → wrong_at_top t (length v) ≡ false → accepted ≡ check_top at t v
-  unfolding check_top
-  top_right h w = rw (ne_eqb t 1122 h, w)
-
-  pub top-wrong : (t ≡ 1122 → ⊥) → wrong_at_top t (length v) ≡ true → fault 4 run_bgp_ls at ≡ check_top at t v
-  unfolding check_top
-  top-wrong h w = rw (ne_eqb t 1122 h, w)
 
 -- ---- a run
 

@@ -96,6 +96,7 @@ pub struct AslaHeader {
     pub user: usize,
 }
 
+#[tactic(auto, unfolding(linkstate::specs::BgpLs::sabm_length, linkstate::specs::BgpLs::udabm_length))]
 pub fn read_asla_header(v: &[u8]) -> AslaHeader
     requires { 4 ≤ length v.now }
     ensures { (result.standard ≡ sabm_length v.now) × (result.user ≡ udabm_length v.now) × (result.standard < 256) × (result.user < 256) }
@@ -107,10 +108,11 @@ pub fn read_asla_header(v: &[u8]) -> AslaHeader
 }
 
 // 0, 4 or 8.
+#[tactic(auto, unfolding(linkstate::specs::BgpLs::is_mask_length))]
 fn is_mask_length(n: usize) -> bool
     ensures { result ≡ is_mask_length n }
 {
-    (n % 4 == 0) & (n <= 8)
+    matches!(n, 0 | 4 | 8)
 }
 
 // Whether a 1122 with these mask lengths is not ignored.
@@ -121,6 +123,7 @@ pub fn not_ignored(h: AslaHeader) -> bool
 }
 
 // The value of a 1122 whose first byte is at the offset `at` of the run.
+#[tactic(auto, unfolding(linkstate::specs::BgpLs::check_asla, linkstate::specs::BgpLs::not_ignored, linkstate::specs::BgpLs::asla_header, linkstate::specs::BgpLs::inner_elements, linkstate::specs::Replies::fault))]
 pub fn check_asla(v: &[u8], at: usize) -> Result<(), Refusal>
     requires { at + 4 + length v.now ≤ 524288 }
     ensures { told_checked result ≡ check_asla at v.now }
@@ -140,6 +143,7 @@ pub fn check_asla(v: &[u8], at: usize) -> Result<(), Refusal>
 }
 
 // A top-level element by its type, its value and the offset of its first byte.
+#[tactic(auto, unfolding(linkstate::specs::BgpLs::check_top, linkstate::specs::Replies::fault))]
 fn check_top(v: &[u8], code: usize, at: usize) -> Result<(), Refusal>
     requires { at + 4 + length v.now ≤ 524288 }
     ensures { told_checked result ≡ check_top at code v.now }
