@@ -123,7 +123,6 @@ pub fn not_ignored(h: AslaHeader) -> bool
 }
 
 // The value of a 1122 whose first byte is at the offset `at` of the run.
-#[tactic(auto, unfolding(linkstate::specs::BgpLs::check_asla, linkstate::specs::BgpLs::not_ignored, linkstate::specs::BgpLs::asla_header, linkstate::specs::BgpLs::inner_elements, linkstate::specs::Replies::fault))]
 pub fn check_asla(v: &[u8], at: usize) -> Result<(), Refusal>
     requires { at + 4 + length v.now ≤ 524288 }
     ensures { told_checked result ≡ check_asla at v.now }
