@@ -15,7 +15,8 @@ use frames::{Element, Elements, Two};
 use kinds::{classify_code, fits};
 use replies::{Reason, Refusal, Run, refuse_at, refuse_call};
 
-// Whether a value of n bytes is wrong for its code inside a 1122, where the link's kinds are unknown. The rule is looked up where none of the commonest tests tells.
+// Whether a value of n bytes is wrong for its code inside a 1122, where the link's kinds are unknown.
+// The rule is looked up where none of the commonest tests tells.
 fn wrong_inside(code: usize, n: usize) -> bool
     ensures { result ≡ wrong_inside code n }
 {

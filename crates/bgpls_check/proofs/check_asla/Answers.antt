@@ -1,5 +1,7 @@
 -- By the value's length and the lengths of its masks.
+use native.Mathlib.Omega.{arith}
 use borrow.Author.Rules.{rules}
+use Rattle.std.proofs.lemmas.Grind.{common_steps}
 use Rattle.linkstate.specs.BgpLs.{check_asla, not_ignored, asla_header, inner_elements}
 use Rattle.linkstate.specs.Replies.{fault}
 use Rattle.bgpls_check.proofs.check_asla.Goals as goal
@@ -18,4 +20,4 @@ returns-then-v-first c = search rules
 
 pub returns : goal.returns
 unfolding check_asla not_ignored asla_header inner_elements fault
-returns c = search rules
+returns c = grind (arith, common_steps)
