@@ -121,7 +121,7 @@ pub same-all : (p : ℕ → Bool) (ys xs : List ℕ) → Same ys xs → all p xs
 same-all p ys xs h e = all-count p ys ∙ ap (λ (n : ℕ). not (positive n)) (h (λ x. not (p x))) ∙ sym (all-count p xs) ∙ e
 
 -- What the ranks of sorted keys say of the keys as they were.
-pub ordered : (keys sorted values : List ℕ) (r : ℕ) (rows after : List (List ℕ)) → r ≤ length values → Sorted keys sorted → Ranked sorted values r rows after → Ordered keys values r rows after
+pub ordered : (keys sorted values : List ℕ) (r : ℕ) (rows after : List (List ℕ)) → r ≤ length values → Sorted number keys sorted → Ranked sorted values r rows after → Ordered keys values r rows after
 ordered keys sorted values r rows after room s k =
     record {
       few = omega (arith, k.few, same_length sorted keys s.same);
@@ -133,23 +133,23 @@ ordered keys sorted values r rows after room s k =
     }
 
 -- The part that was sorted, of the list that it stands in.
-pub sorted_part : (keys part behind : List ℕ) (m : ℕ) → m ≤ length keys → length part ≡ length (take (m - 0) (drop 0 keys)) → Sorted (take (m - 0) (drop 0 keys)) part
-    → Sorted (take m keys) (take m (part ++ behind))
+pub sorted_part : (keys part behind : List ℕ) (m : ℕ) → m ≤ length keys → length part ≡ length (take (m - 0) (drop 0 keys)) → Sorted number (take (m - 0) (drop 0 keys)) part
+    → Sorted number (take m keys) (take m (part ++ behind))
 sorted_part keys part behind m h e s =
     let z : m - 0 ≡ m = sub-zero m in
     rw (take_at part behind m (e ∙ length-take (m - 0) keys ∙ (let n : min (m - 0) (length keys) ≡ m = omega arith in n))) (rw z at s)
 
 -- The front of a list that was sorted, as it is lent.
 module _ (keys after : List ℕ) (m : ℕ) where
-  pub first-climbs : Sorted (take m keys) (take m after) → Climbs number (take (m - 0) after)
+  pub first-climbs : Sorted number (take m keys) (take m after) → Climbs number (take (m - 0) after)
   first-climbs s = rw (sub-zero m) s.climbs
 
-  pub first-length : m ≤ length keys → Sorted (take m keys) (take m after) → length (take (m - 0) after) ≡ m
+  pub first-length : m ≤ length keys → Sorted number (take m keys) (take m after) → length (take (m - 0) after) ≡ m
   first-length h s = rw (sub-zero m) (same_length (take m after) (take m keys) s.same ∙ length-take m keys ∙ (let n : min m (length keys) ≡ m = omega arith in n))
 
-pub first_rows : (n : ℕ) (keys after : List ℕ) (m : ℕ) → Sorted (take m keys) (take m after) → all (in_rows n) (take m keys) ≡ true → all (in_rows n) (take (m - 0) after) ≡ true
+pub first_rows : (n : ℕ) (keys after : List ℕ) (m : ℕ) → Sorted number (take m keys) (take m after) → all (in_rows n) (take m keys) ≡ true → all (in_rows n) (take (m - 0) after) ≡ true
 first_rows n keys after m s e = rw (sub-zero m) (same-all (in_rows n) (take m after) (take m keys) s.same e)
 
-pub first-ordered : (keys after : List ℕ) (m : ℕ) (values : List ℕ) (r : ℕ) (rows rows' : List (List ℕ)) → r ≤ length values → Sorted (take m keys) (take m after)
+pub first-ordered : (keys after : List ℕ) (m : ℕ) (values : List ℕ) (r : ℕ) (rows rows' : List (List ℕ)) → r ≤ length values → Sorted number (take m keys) (take m after)
     → Ranked (take (m - 0) after) values r rows rows' → Ordered (take m keys) values r rows rows'
 first-ordered keys after m values r rows rows' h s k = ordered (take m keys) (take m after) values r rows rows' h s (rw (sub-zero m) at k)

@@ -15,7 +15,7 @@ use Rattle.srlg.proofs.Laws.{Order, less, more, same, order}
 use Rattle.srlg_ranks.specs.Ranks.{in_words}
 use Rattle.srlg_ranks.proofs.Members.{member-distinct, member-append, same_place}
 use Rattle.key_sort.specs.Keys.{number, group, Climbs}
-use Rattle.key_sort.proofs.Numbers.{Numbered, numbered-ascending, numbered-new, numbered-again, numbered-all, below_new, again-some}
+use Rattle.key_sort.proofs.Numbers.{Numbered, numbered-ascending, numbered-new, numbered-again, numbered-all, below_new}
 use Rattle.srlg_sources.specs.Sources.{source_of, numbers_of, Marked, Ranked}
 use Rattle.srlg_sources.proofs.Keying.{of-keys}
 
@@ -48,18 +48,18 @@ numbers-next ks t j w h =
     one false = refl
 
 -- A turn's numbers: those of one key more, the last of them the key's own; and the bits so far say the same over the new list.
-pub record Turned (ks values values' : List ℕ) (t n n' last' : ℕ) : Type 0 where
-  pub numbered : Numbered ks values' (t + 1) n' last'
+pub record Turned (ks values values' : List ℕ) (t n n' : ℕ) : Type 0 where
+  pub numbered : Numbered ks values' (t + 1) n'
   pub some : 0 < n'
-  pub latest : last' ≡ number (get_or ks t 0)
+  pub latest : get_or values' (n' - 1) 0 ≡ number (get_or ks t 0)
   pub size : length values' ≡ length values
   pub kept : (j i : ℕ) → (ltb i n && member (get_or values i 0) (numbers_of j (take t ks))) ≡ ltb i n' && member (get_or values' i 0) (numbers_of j (take t ks))
 
-module _ (ks values values' : List ℕ) (t n n' last last' : ℕ) (so : Numbered ks values t n last) (inside : t < length ks) (climbs : Climbs number ks) where
+module _ (ks values values' : List ℕ) (t n n' : ℕ) (so : Numbered ks values t n) (inside : t < length ks) (climbs : Climbs number ks) where
   abbrev v : ℕ
   v = number (get_or ks t 0)
 
-  kept_new : n < length values → (v ≡ last → ⊥) → (j i : ℕ)
+  kept_new : n < length values → (0 < n → v ≡ get_or values (n - 1) 0 → ⊥) → (j i : ℕ)
       → (ltb i n && member (get_or values i 0) (numbers_of j (take t ks))) ≡ ltb i (n + 1) && member (get_or (set values n v) i 0) (numbers_of j (take t ks))
   kept_new room new j i = go (order i n)
     where
@@ -67,37 +67,38 @@ module _ (ks values values' : List ℕ) (t n n' last last' : ℕ) (so : Numbered
       absent false e = refl
       absent true e =
           let f : member v (take n values) ≡ true = ap (member v) so.numbers ∙ member-distinct v (map number (take t ks)) ∙ of-keys v j (take t ks) e in
-          absurd (omega (arith, below_new ks values t n last so inside climbs v refl (omega arith) new v f))
+          absurd (omega (arith, below_new ks values t n so inside climbs v refl (omega arith) new v f))
 
       go : Order i n → (ltb i n && member (get_or values i 0) (numbers_of j (take t ks))) ≡ ltb i (n + 1) && member (get_or (set values n v) i 0) (numbers_of j (take t ks))
       go (less h) = rw (lt-ltb i n h, lt-ltb i (n + 1) (omega arith), get_or-set_other values n i v 0 (λ e. omega arith))
       go (more h) = rw (le-ltb i n (omega arith), le-ltb i (n + 1) (omega arith))
       go (same e) = rw (e, le-ltb n n (omega arith), lt-ltb n (n + 1) (omega arith), get_or-set_same values n v 0 room) (sym (absent (member v (numbers_of j (take t ks))) refl))
 
-  pub turned-new : n < length values → (v ≡ last → ⊥) → values' ≡ set values n v → n' ≡ n + 1 → last' ≡ v → Turned ks values values' t n n' last'
-  turned-new room new e f g =
-      rw (e, f, g)
+  pub turned-new : n < length values → (0 < n → v ≡ get_or values (n - 1) 0 → ⊥) → values' ≡ set values n v → n' ≡ n + 1 → Turned ks values values' t n n'
+  turned-new room new e f =
+      let z : n + 1 - 1 ≡ n = omega arith in
+      rw (e, f)
       record {
-        numbered = numbered-new ks values t n last so inside climbs v refl room new;
+        numbered = numbered-new ks values t n so inside climbs v refl room new;
         some = omega arith;
-        latest = refl;
+        latest = rw z (get_or-set_same values n v 0 room);
         size = length-set values n v;
         kept = kept_new room new;
       }
 
-  pub turned-again : n ≤ length values → v ≡ last → values' ≡ values → n' ≡ n → last' ≡ last → Turned ks values values' t n n' last'
-  turned-again room again e f g =
-      rw (e, f, g)
+  pub turned-again : 0 < n → n ≤ length values → v ≡ get_or values (n - 1) 0 → values' ≡ values → n' ≡ n → Turned ks values values' t n n'
+  turned-again some room again e f =
+      rw (e, f)
       record {
-        numbered = numbered-again ks values t n last so inside climbs v refl room again;
-        some = again-some ks values t n last so inside climbs v refl again;
+        numbered = numbered-again ks values t n so inside climbs v refl some room again;
+        some = some;
         latest = sym again;
         size = refl;
         kept = λ j i. refl;
       }
 
   -- The row of the key's source with the bit of its number.
-  module _ (turn : Turned ks values values' t n n' last') (room : n' ≤ length values') (s : ℕ) (of : s ≡ source_of (get_or ks t 0)) (rows₀ rows rows' : List (List ℕ)) where
+  module _ (turn : Turned ks values values' t n n') (room : n' ≤ length values') (s : ℕ) (of : s ≡ source_of (get_or ks t 0)) (rows₀ rows rows' : List (List ℕ)) where
     place : (i : ℕ) → eqb i (n' - 1) ≡ ltb i n' && eqb (get_or values' i 0) v
     place i = go (ltb i n') refl
       where
@@ -108,8 +109,8 @@ module _ (ks values values' : List ℕ) (t n n' last last' : ℕ) (so : Numbered
         go true e =
             let h = ltb-true i n' e in
             let some = turn.some in
-            sym (same_place l i (n' - 1) (numbered-ascending ks values' (t + 1) n' last' turn.numbered) (omega (arith, length-take n' values')) (omega (arith, length-take n' values')))
-            ∙ ap₂ eqb (get_or-take n' values' i 0 h) (get_or-take n' values' (n' - 1) 0 (omega arith) ∙ turn.numbered.latest some ∙ turn.latest)
+            sym (same_place l i (n' - 1) (numbered-ascending ks values' (t + 1) n' turn.numbered) (omega (arith, length-take n' values')) (omega (arith, length-take n' values')))
+            ∙ ap₂ eqb (get_or-take n' values' i 0 h) (get_or-take n' values' (n' - 1) 0 (omega arith) ∙ turn.latest)
         go false e = ne_eqb i (n' - 1) (λ f. omega (arith, turn.some, ltb-false i n' e))
 
     join : (r a b c d : Bool) → (r || (c && a)) || (b && (c && d)) ≡ r || (c && (a || (b && d)))
@@ -133,11 +134,11 @@ module _ (ks values values' : List ℕ) (t n n' last last' : ℕ) (so : Numbered
           masks = λ j k h. m.masks j k h ∙ was.masks j k h;
         }
 
-pub ranked : (ks values : List ℕ) (rows₀ rows : List (List ℕ)) (t n last : ℕ) → t ≡ length ks → Numbered ks values t n last → Noted ks values rows₀ rows t n → Ranked ks values n rows₀ rows
-ranked ks values rows₀ rows t n last e so was =
+pub ranked : (ks values : List ℕ) (rows₀ rows : List (List ℕ)) (t n : ℕ) → t ≡ length ks → Numbered ks values t n → Noted ks values rows₀ rows t n → Ranked ks values n rows₀ rows
+ranked ks values rows₀ rows t n e so was =
     record {
       few = omega (arith, so.few);
-      numbers = numbered-all ks values t n last (omega arith) so;
+      numbers = numbered-all ks values t n (omega arith) so;
       wide = was.wide;
       bits = λ j i w h. was.bits j i w h ∙ ap (λ (l : List ℕ). in_words (get_or rows₀ j []) i || (ltb i n && member (get_or values i 0) (numbers_of j l))) (take_all t ks (omega arith));
       masks = was.masks;

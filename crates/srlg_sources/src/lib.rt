@@ -10,6 +10,8 @@ ghost use Rattle.key_sort.specs.Keys.{number, Climbs, Sorted};
 ghost use Rattle.srlg_sources.specs.Classes.{in_class, has_source};
 ghost use Rattle.srlg_sources.specs.Sources.{Small, key_of, in_rows, source_row, Marked, Ranked, Ordered, InRows, in_some};
 
+use key_sort::Key;
+
 // How many keys there are, and how many sources.
 #[derive(Clone, Copy)]
 pub struct Keys {
@@ -82,15 +84,13 @@ pub fn rank(keys: &[u64], values: &mut [u64], rows: &mut [[u64; 18]]) -> usize
     ensures { Ranked keys.now values.new result rows.old rows.new }
 {
     let mut count = 0;
-    let mut last: u64 = 4294967296;
-    for i in 0..keys.len() {
-        let v = keys[i] % 4294967296;
-        if v != last {
+    for key in keys {
+        let v = u64::from(key.number());
+        if count == 0 || values[count - 1] != v {
             values[count] = v;
             count += 1;
-            last = v;
         }
-        let source = (keys[i] / 4294967296) as usize;
+        let source = (*key / 4294967296) as usize;
         mark(rows, source, count - 1);
     }
     count
@@ -99,7 +99,7 @@ pub fn rank(keys: &[u64], values: &mut [u64], rows: &mut [[u64; 18]]) -> usize
 // The first m keys sorted; the list of values is room to work in.
 fn sort_first(keys: &mut [u64], values: &mut [u64], m: usize)
     requires { (m ≤ length keys.old) × (m ≤ length values.old) }
-    ensures { Sorted (take m keys.old) (take m keys.new) }
+    ensures { Sorted number (take m keys.old) (take m keys.new) }
 {
     key_sort::sort_keys(&mut keys[0..m], &mut values[0..m]);
 }

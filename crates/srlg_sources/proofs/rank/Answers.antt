@@ -1,66 +1,55 @@
--- `srlg_sources::rank` meets its contract: the numbers of the first i keys, and their bits. Assumes nothing.
-use mathlib.Core.Path.{refl, ◌∙◌}
-use lib.ListN.{length, get_or}
-use native.Mathlib.Omega.{arith}
+use Rattle.std.proofs.Common.{arith, ◌≡◌, ◌∙◌, sym, refl, length, get_or}
 use borrow.Author.Tests.{ltb-true}
 use Rattle.key_sort.specs.Keys.{number}
 use Rattle.key_sort.proofs.Numbers.{numbered-none, all-at}
 use Rattle.srlg_sources.specs.Sources.{source_of, in_rows}
 use Rattle.srlg_sources.proofs.Rankings.{Turned, noted-none, turned-new, turned-again, noted-next, ranked}
 use Rattle.srlg_sources.proofs.rank.Goals as goal
-use Rattle.srlg_sources.proofs.rank.Goals.{Joined-v-last, then-v-last, else-v-last}
+use Rattle.srlg_sources.proofs.rank.Goals.{Joined-count-eq0, then-count-eq0, then-count-eq0-via-then-count-eq0, then-count-eq0-via-else-count-eq0+then-values-count, else-count-eq0+else-values-count}
 
--- the numbers after the test
-turned : (c : Joined-v-last) → let l = c.loop-i in Turned c.args.keys.now l.values c.if-v-last.values l.i l.count c.if-v-last.count c.if-v-last.last
-unfolding number
+-- The numbers after the test.
+turned : (c : Joined-count-eq0) → Turned c.args.keys.now c.loop-key.values c.if-count-eq0.values c.loop-key.key-index c.loop-key.count c.if-count-eq0.count
 turned c =
-    let l = c.loop-i in
+    let l = c.loop-key in
     let k = c.args.keys.now in
-    let so = l.invariant.4 in
-    elim c.if-v-last.branch [
-      | then-v-last w ↦ turned-new k l.values c.if-v-last.values l.i l.count c.if-v-last.count l.last c.if-v-last.last so (omega arith) c.requires.0
-          (omega (arith, so.few)) w.if-v-last.true w.values-is w.count-is w.last-is
-      | else-v-last w ↦ turned-again k l.values c.if-v-last.values l.i l.count c.if-v-last.count l.last c.if-v-last.last so (omega arith) c.requires.0
-          (omega (arith, so.few)) w.if-v-last.false w.values-is w.count-is w.last-is
+    let so = l.invariant.3 in
+    let is : c.from-v.result ≡ number (get_or k l.key-index 0) = c.from-v.ensures ∙ c.number.ensures in
+    elim c.if-count-eq0.branch [
+      | then-count-eq0 w ↦ elim w.then-count-eq0.branch [
+        | then-count-eq0-via-then-count-eq0 u ↦ turned-new k l.values c.if-count-eq0.values l.key-index l.count c.if-count-eq0.count so (omega arith) c.requires.0
+            (omega (arith, so.few)) (λ h e. omega (arith, u.if-count-eq0.true)) (rw is at w.values-is) w.count-is
+        | then-count-eq0-via-else-count-eq0+then-values-count u ↦ turned-new k l.values c.if-count-eq0.values l.key-index l.count c.if-count-eq0.count so (omega arith) c.requires.0
+            (omega (arith, so.few)) (λ h e. u.if-values-count.true (sym e ∙ sym is)) (rw is at w.values-is) w.count-is
+      ]
+      | else-count-eq0+else-values-count w ↦ turned-again k l.values c.if-count-eq0.values l.key-index l.count c.if-count-eq0.count so (omega arith) c.requires.0
+          (omega (arith, w.if-count-eq0.false)) (omega (arith, so.few)) (sym is ∙ sym w.if-values-count.false) w.values-is w.count-is
     ]
 
-pub loop-i-init : goal.loop-i-init
-loop-i-init c = (omega arith, refl, refl, refl, numbered-none c.args.keys.now c.args.values.now, noted-none c.args.keys.now c.args.values.now c.args.rows.now)
-
-pub bounds-values-count : goal.bounds-values-count
-bounds-values-count c = omega (arith, c.loop-i.invariant.4.few)
-
-pub overflow_sub-count : goal.overflow_sub-count
-overflow_sub-count c = omega (arith, (turned (goal.at.overflow_sub-count c).Joined-v-last).some)
+pub loop-key-init : goal.loop-key-init
+loop-key-init c = (omega arith, refl, refl, numbered-none c.args.keys.now c.args.values.now, noted-none c.args.keys.now c.args.values.now c.args.rows.now)
 
 pub mark-requires : goal.mark-requires
 unfolding in_rows source_of
-mark-requires c = let l = c.loop-i in
+mark-requires c = let l = c.loop-key in
     let k = c.args.keys.now in
-    let i = ltb-true (source_of (get_or k l.i 0)) (length c.args.rows.now) (all-at (in_rows (length c.args.rows.now)) k l.i c.requires.3 (omega arith)) in (
-      omega (arith, l.invariant.3),
-      omega (
-        arith,
-        (turned (goal.at.mark-requires c).Joined-v-last).some,
-        (turned (goal.at.mark-requires c).Joined-v-last).numbered.few,
-      ),
-    )
+    let i = ltb-true (source_of (get_or k l.key-index 0)) (length c.args.rows.now) (all-at (in_rows (length c.args.rows.now)) k l.key-index c.requires.3 (omega arith)) in
+    let t = turned (goal.at.mark-requires c).Joined-count-eq0 in
+    (omega (arith, l.invariant.2), omega (arith, t.some, t.numbered.few))
 
-pub loop-i-preserved : goal.loop-i-preserved
+pub loop-key-preserved : goal.loop-key-preserved
 unfolding source_of
-loop-i-preserved c = let l = c.loop-i in
+loop-key-preserved c = let l = c.loop-key in
     let k = c.args.keys.now in
     let w = c.mark in
-    let t = turned (goal.at.loop-i-preserved c).Joined-v-last in (
+    let t = turned (goal.at.loop-key-preserved c).Joined-count-eq0 in (
       omega arith,
-      refl,
-      t.size ∙ l.invariant.2,
-      w.auto.rows ∙ l.invariant.3,
+      t.size ∙ l.invariant.1,
+      w.auto.rows ∙ l.invariant.2,
       t.numbered,
-      noted-next k l.values c.if-v-last.values l.i l.count c.if-v-last.count l.last c.if-v-last.last l.invariant.4 (omega arith) c.requires.0 t
-          (omega (arith, t.size, l.invariant.2, t.numbered.few)) _ refl c.args.rows.now l.rows _ w.ensures l.invariant.5,
+      noted-next k l.values c.if-count-eq0.values l.key-index l.count c.if-count-eq0.count l.invariant.3 (omega arith) c.requires.0 t
+          (omega (arith, t.size, l.invariant.1, t.numbered.few)) _ refl c.args.rows.now l.rows _ w.ensures l.invariant.4,
     )
 
 pub returns : goal.returns
-returns c = let l = c.loop-i in
-    ranked c.args.keys.now l.values c.args.rows.now l.rows l.i l.count l.last (omega arith) l.invariant.4 l.invariant.5
+returns c = let l = c.loop-key in
+    ranked c.args.keys.now l.values c.args.rows.now l.rows l.key-index l.count (omega arith) l.invariant.3 l.invariant.4
