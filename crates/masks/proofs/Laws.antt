@@ -18,7 +18,6 @@ use Rattle.linkstate.specs.Lists.{keep, numbers}
 use Rattle.linkstate.specs.Masks.{bit, one, powers_below, as_number, in_number, Last, none, last, last_below, bytes_to_hold, mask_size, mask_byte, mask}
 use Rattle.linkstate.proofs.ListLaws.{get_d-numbers}
 use Rattle.linkstate.proofs.MaskLaws.{ones, bit_byte, length-mask, bit_mask, powers-same, number_same}
-use Rattle.masks.specs.Sets.{IsNext}
 
 -- what holds of each number below k, and of k, holds of each below suc k
 pub below_suc : (P : ℕ → Type 0) (k : ℕ) → ((n : ℕ) → n < k → P n) → P k → (n : ℕ) → n < suc k → P n
@@ -292,13 +291,11 @@ module _ (p : ℕ → Bool) where
       rw (e, f, h from (omega arith) (omega arith)) (skip d (suc from) n (λ j a b. h j (omega arith) (omega arith)))
 
   -- up to the next member there is none
-  pub walk-next : (k from n : ℕ) → IsNext k p from n → keep p (numbers from (k - from)) ≡ keep p (numbers n (k - n))
-  walk-next k from n r =
-      let a = r.low in
-      let b = r.high in
+  pub walk-next : (k from n : ℕ) → from ≤ n → n ≤ k → ((j : ℕ) → from ≤ j → j < n → p j ≡ false) → keep p (numbers from (k - from)) ≡ keep p (numbers n (k - n))
+  walk-next k from n a b skips =
       let e : k - from ≡ k - n + (n - from) = omega arith in
       let f : from + (n - from) ≡ n = omega arith in
-      ap (λ (i : ℕ). keep p (numbers from i)) e ∙ skip (n - from) from (k - n) (λ j c d. r.skips j c (omega arith)) ∙ ap (λ (i : ℕ). keep p (numbers i (k - n))) f
+      ap (λ (i : ℕ). keep p (numbers from i)) e ∙ skip (n - from) from (k - n) (λ j c d. skips j c (omega arith)) ∙ ap (λ (i : ℕ). keep p (numbers i (k - n))) f
 
   -- and behind a member come those from one further on
   pub walk-member : (k n : ℕ) → n < k → p n ≡ true → keep p (numbers n (k - n)) ≡ n ∷ keep p (numbers (n + 1) (k - (n + 1)))

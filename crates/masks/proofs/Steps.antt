@@ -1,23 +1,26 @@
 -- What the proofs of the functions cite: the members of a number under the operations of the code. Assumes nothing.
-use mathlib.Core.Path.{◌≡◌, refl, sym, ap, ap₂, subst, ◌∙◌}
+use mathlib.Core.Path.{◌≡◌, refl, sym, ap, ap₂, ◌∙◌}
 use mathlib.Core.Bool.{Bool, true, false, cond, ◌||◌, ◌&&◌, not, false≢true}
 use mathlib.Core.List.{List, [], ◌∷◌, ◌++◌}
-use Prim.Native.Nat.{ℕ, zero, suc, ◌+◌, ◌-◌, ◌*◌, ◌/◌, ◌%◌, ◌^◌, ◌≤◌, ◌<◌, zero-le}
+use Prim.Native.Nat.{ℕ, zero, suc, ◌+◌, ◌-◌, ◌*◌, ◌/◌, ◌%◌, ◌^◌, ◌≤◌, ◌<◌}
 use native.Mathlib.Nat.{pow-suc, mul_assoc, add_comm, zero-add, zero-div, div-eq_of_lt, div-eq_of_lt-le, le_trans, lt_of_lt_of_le, lt_irrefl, lt_of_not-le}
 use native.Mathlib.Omega.{arith}
 use borrow.Author.Tests.{ltb-true, ltb-false, leb-true, leb-false, lt-ltb, le-ltb}
 use lib.Dec.{T, eqb, ltb, leb, eqb→eq, ltb→lt}
 use lib.Arith.{digits_lt, digits_div}
-use lib.Pow.{pow_mono, pow-add, split, low, field, shr-shr, shr_lt, shl-shr}
+use lib.Pow.{pow_mono, pow-add, split, low, field, shr-shr, shl-shr}
 use lib.Bits.{bit_or, bit_and, bit_xor, or_shr, or_mod, and_shr, and_mod, xor_shr, xor_mod}
-use lib.Count.{count_leading_zeros, leading_top, count_trailing_zeros, under}
-use lib.ListN.{length, get_or, set, take, drop, length-drop, length-set}
-use lib.Seq.{drop-cons, drop-drop, drop-length, get_or-drop, length-take-le, take-add, take_all}
+use lib.Count.{leading_top}
+use borrow.Rule.Slice.PartMut.{put_mid}
+use lib.ListN.{length, get_or, set, take, drop, length-append, length-drop, length-set}
+use lib.Seq.{get_or-append_seam, get_or-drop, length-take-le, take_all}
+use Rattle.std.proofs.lemmas.List.{append_assoc, append-nil, get_or-append-add, take-append-drop, take-take}
+use Rattle.std.proofs.lemmas.Slice.{put_mid-paste}
 use Rattle.linkstate.specs.Lists.{numbers, put}
 use Rattle.linkstate.specs.Masks.{bit, one, as_number, in_number, last, last_below, bytes_to_hold, mask_size, mask_byte, mask}
-use Rattle.masks.specs.Sets.{last_of, IsNext, little_endian, turned_place, in_sent, four_bytes, exchanged}
-use Rattle.masks.specs.declared.LastBit.{LastBit}
-use Rattle.masks.specs.declared.LastBit.TheVariants.{None, At}
+use Rattle.std.specs.Int.{w32, w64, from_le_bytes, to_le_bytes}
+use Rattle.masks.specs.Sets.{last_of, little_endian, turned_place, in_sent, four_bytes, exchanged}
+use Rattle.std.specs.Prelude.{Option, Some, None, IfNone, IfSome}
 use Rattle.masks.proofs.Laws.{below_suc, low_digit, digit-one, is_number, IsLast, last_some, last-is, none_is, byte-is, IsSize, size-cases, size_holds, size-least}
 use Rattle.octets.proofs.Laws.{put-nil, put_then, set-two}
 
@@ -204,51 +207,58 @@ little-lt zero (b ∷ bs) small h = absurd (omega arith)
 little-lt (suc k) [] small h = rw (pow-suc 256 k) (omega (arith, little-lt k [] small (omega arith)))
 little-lt (suc k) (b ∷ bs) small h = rw (pow-suc 256 k) (digits_lt (little-lt k bs (λ i. small (suc i)) (omega arith)) (small 0))
 
--- from the last byte to the first, m is the number of the bytes from i on
-pub little-none : (s : List ℕ) → 0 ≡ little_endian (drop (length s) s)
+-- From the last byte to the first, m is the number of those passed.
+pub record Passed (s rest : List ℕ) (m : ℕ) : Type 0 where
+  pub tail : List ℕ
+  pub whole : rest ++ tail ≡ s
+  pub number : m ≡ little_endian tail
+
+pub passed-none : (s : List ℕ) → Passed s s 0
 unfolding little_endian
-little-none s = rw drop-length
+passed-none s = record { tail = []; whole = append-nil s; number = refl }
 
-module _ (s : List ℕ) (i m : ℕ) (so : m ≡ little_endian (drop i s)) where
-  pub little-room : ((j : ℕ) → get_or s j 0 < 256) → 0 < i → length s ≤ 8 → m < 256 ^ 7
-  little-room small h l = rw so (little-lt 7 (drop i s) (λ j. rw get_or-drop (small (i + j))) (rw length-drop (omega arith)))
-
-  pub little-next : 0 < i → i ≤ length s → m * 256 + get_or s (i - 1) 0 ≡ little_endian (drop (i - 1) s)
+module _ (s rest : List ℕ) (m : ℕ) (p : Passed s rest m) where
+  pub passed-next : (next : List ℕ) (b : ℕ) → rest ≡ next ++ (b ∷ []) → Passed s next (m * 256 + b)
   unfolding little_endian
-  little-next h l = let k : i ≡ suc (i - 1) = omega arith in cc (ap little_endian (drop-cons s (i - 1) 0 (omega arith)))
+  passed-next next b e = record {
+    tail = b ∷ p.tail;
+    whole = sym (append_assoc next (b ∷ []) p.tail) ∙ ap (λ (l : List ℕ). l ++ p.tail) (sym e) ∙ p.whole;
+    number = ap (λ (x : ℕ). x * 256 + b) p.number;
+  }
 
-  pub little-all : i ≤ 0 → m ≡ little_endian s
-  little-all h = so ∙ ap (λ (j : ℕ). little_endian (drop j s)) (let e : i ≡ 0 = omega arith in e)
+  pub passed-all : rest ≡ [] → m ≡ little_endian s
+  passed-all e = p.number ∙ ap little_endian (ap (λ (l : List ℕ). l ++ p.tail) (sym e) ∙ p.whole)
+
+  pub passed-room : ((j : ℕ) → get_or s j 0 < 256) → length s ≤ 8 → (next : List ℕ) (b : ℕ) → rest ≡ next ++ (b ∷ []) → (m < 256 ^ 7) × (b < 256)
+  passed-room small l next b e = (
+    rw p.number (
+        little-lt 7 p.tail (λ j. rw (sym (get_or-append-add rest p.tail j 0), p.whole) (small (length rest + j)))
+        (omega (arith, length-append rest p.tail, ap length p.whole, ap length e, length-append next (b ∷ [])))),
+    let w : next ++ (b ∷ p.tail) ≡ s = sym (append_assoc next (b ∷ []) p.tail) ∙ ap (λ (l : List ℕ). l ++ p.tail) (sym e) ∙ p.whole in rw (sym (get_or-append_seam next b p.tail 0), w) (small (length next)),
+  )
 
 -- four and eight bytes at once
-two_bytes : (s : List ℕ) (at : ℕ) → at + 1 < length s → drop at s ≡ get_or s at 0 ∷ get_or s (at + 1) 0 ∷ drop (at + 2) s
-two_bytes s at h =
-    let e : suc at ≡ at + 1 = omega arith in
-    let f : suc (at + 1) ≡ at + 2 = omega arith in
-    drop-cons s at 0 (omega arith) ∙ rw (e, drop-cons s (at + 1) 0 h, f)
-
-pub four-at : (s : List ℕ) (at a b c d : ℕ) → at + 4 ≤ length s → a ≡ get_or s at 0 → b ≡ get_or s (at + 1) 0 → c ≡ get_or s (at + 2) 0 → d ≡ get_or s (at + 3) 0
-    → ((d * 256 + c) * 256 + b) * 256 + a ≡ little_endian (take 4 (drop at s))
+pub four-all : (s : List ℕ) → length s ≡ 4 → from_le_bytes w32 s ≡ little_endian s
 unfolding little_endian
-four-at s at a b c d h p q r t =
-    let e : at + 2 + 1 ≡ at + 3 = omega arith in
-    rw (two_bytes s at (omega arith), two_bytes s (at + 2) (omega arith), e) (omega arith)
+four-all (a ∷ b ∷ c ∷ d ∷ []) l = omega arith
+four-all [] l = absurd (omega arith)
+four-all (a ∷ []) l = absurd (omega arith)
+four-all (a ∷ b ∷ []) l = absurd (omega arith)
+four-all (a ∷ b ∷ c ∷ []) l = absurd (omega arith)
+four-all (a ∷ b ∷ c ∷ d ∷ x ∷ s) l = absurd (omega arith)
 
-pub four-all : (s : List ℕ) → length s ≡ 4 → little_endian (take 4 (drop 0 s)) ≡ little_endian s
-four-all s h = ap little_endian (take_all 4 s (omega arith))
-
-pub eight-all : (s : List ℕ) → length s ≡ 8 → little_endian (take 4 (drop 4 s)) * 4294967296 + little_endian (take 4 (drop 0 s)) ≡ little_endian s
+pub eight-all : (s : List ℕ) → length s ≡ 8 → from_le_bytes w64 s ≡ little_endian s
 unfolding little_endian
 eight-all (a ∷ b ∷ c ∷ d ∷ e ∷ f ∷ g ∷ h ∷ []) l = omega arith
-eight-all [] l = let z : ⊥ = omega arith in absurd z
-eight-all (a ∷ []) l = let z : ⊥ = omega arith in absurd z
-eight-all (a ∷ b ∷ []) l = let z : ⊥ = omega arith in absurd z
-eight-all (a ∷ b ∷ c ∷ []) l = let z : ⊥ = omega arith in absurd z
-eight-all (a ∷ b ∷ c ∷ d ∷ []) l = let z : ⊥ = omega arith in absurd z
-eight-all (a ∷ b ∷ c ∷ d ∷ e ∷ []) l = let z : ⊥ = omega arith in absurd z
-eight-all (a ∷ b ∷ c ∷ d ∷ e ∷ f ∷ []) l = let z : ⊥ = omega arith in absurd z
-eight-all (a ∷ b ∷ c ∷ d ∷ e ∷ f ∷ g ∷ []) l = let z : ⊥ = omega arith in absurd z
-eight-all (a ∷ b ∷ c ∷ d ∷ e ∷ f ∷ g ∷ h ∷ x ∷ s) l = let z : ⊥ = omega arith in absurd z
+eight-all [] l = absurd (omega arith)
+eight-all (a ∷ []) l = absurd (omega arith)
+eight-all (a ∷ b ∷ []) l = absurd (omega arith)
+eight-all (a ∷ b ∷ c ∷ []) l = absurd (omega arith)
+eight-all (a ∷ b ∷ c ∷ d ∷ []) l = absurd (omega arith)
+eight-all (a ∷ b ∷ c ∷ d ∷ e ∷ []) l = absurd (omega arith)
+eight-all (a ∷ b ∷ c ∷ d ∷ e ∷ f ∷ []) l = absurd (omega arith)
+eight-all (a ∷ b ∷ c ∷ d ∷ e ∷ f ∷ g ∷ []) l = absurd (omega arith)
+eight-all (a ∷ b ∷ c ∷ d ∷ e ∷ f ∷ g ∷ h ∷ x ∷ s) l = absurd (omega arith)
 
 -- the bytes in front are the low digits
 little-append : (xs ys : List ℕ) → little_endian (xs ++ ys) ≡ little_endian ys * 2 ^ (8 * length xs) + little_endian xs
@@ -276,30 +286,19 @@ small-take (suc n) [] all i = all i
 small-take (suc n) (b ∷ s) all zero = all 0
 small-take (suc n) (b ∷ s) all (suc i) = small-take n s (λ j. all (suc j)) i
 
-module _ (s : List ℕ) (small : (i : ℕ) → get_or s i 0 < 256) (at : ℕ) where
-  pub small-part : (n i : ℕ) → get_or (take n (drop at s)) i 0 < 256
-  small-part n = small-take n (drop at s) (λ i. rw (get_or-drop at s i 0) (small (at + i)))
+pub small-part : (s : List ℕ) → ((i : ℕ) → get_or s i 0 < 256) → (at n i : ℕ) → get_or (take n (drop at s)) i 0 < 256
+small-part s small at n = small-take n (drop at s) (λ i. rw (get_or-drop at s i 0) (small (at + i)))
 
-  module _ (h : at + 8 ≤ length s) (lo hi : ℕ) (p : lo ≡ little_endian (take 4 (drop at s))) (q : hi ≡ little_endian (take 4 (drop (at + 4) s))) where
-    eight-at : hi * 4294967296 + lo ≡ little_endian (take 8 (drop at s))
-    eight-at =
-        let l : length (take 4 (drop at s)) ≡ 4 = length-take-le 4 (drop at s) (rw length-drop (omega arith)) in
-        let e : take 8 (drop at s) ≡ take 4 (drop at s) ++ take 4 (drop (at + 4) s) = take-add 4 4 (drop at s) ∙ ap (λ (x : List ℕ). take 4 (drop at s) ++ take 4 x) (drop-drop 4 at s) in
-        let f : little_endian (take 4 (drop at s) ++ take 4 (drop (at + 4) s)) ≡ hi * 2 ^ 32 + lo
-        = little-append (take 4 (drop at s)) (take 4 (drop (at + 4) s)) ∙ rw (l, sym p, sym q) in
-        sym (ap little_endian e ∙ f)
-
-    -- eight bytes shifted up and down again: the first n of them
-    pub front_at : (n k : ℕ) → n ≤ 8 → k ≡ 64 - 8 * n → (hi * 4294967296 + lo) * 2 ^ k % 2 ^ 64 / 2 ^ k ≡ little_endian (take n (drop at s))
-    front_at n k g e =
-        let j : 64 ≡ 8 * n + k = omega arith in
-        let l : length (take n (drop at s)) ≡ n = length-take-le n (drop at s) (rw length-drop (omega arith)) in
-        let m : n + (8 - n) ≡ 8 = omega arith in
-        let x = hi * 4294967296 + lo in
-        let c : take 8 (drop at s) ≡ take n (drop at s) ++ take (8 - n) (drop n (drop at s)) = ap (λ (i : ℕ). take i (drop at s)) (sym m) ∙ take-add n (8 - n) (drop at s) in
-        ap (λ (i : ℕ). x * 2 ^ k % 2 ^ i / 2 ^ k) j ∙ field (x * 2 ^ k) (8 * n) k ∙ ap (λ (i : ℕ). i % 2 ^ (8 * n)) (shl-shr x k ∙ eight-at ∙ ap little_endian c)
-        ∙ ap (λ (i : ℕ). little_endian (take n (drop at s) ++ take (8 - n) (drop n (drop at s))) % 2 ^ (8 * i)) (sym l)
-        ∙ little-front (take n (drop at s)) (take (8 - n) (drop n (drop at s))) (small-part n)
+-- eight bytes shifted up and down again: the first n of them
+pub front_all : (s : List ℕ) (x n : ℕ) → ((i : ℕ) → get_or s i 0 < 256) → length s ≡ 8 → x ≡ little_endian s → n ≤ 8 → x * 2 ^ (64 - 8 * n) % 2 ^ 64 / 2 ^ (64 - 8 * n) ≡ little_endian (take n s)
+front_all s x n small is e g =
+    let k = 64 - 8 * n in
+    let j : 64 ≡ 8 * n + k = omega arith in
+    let l : length (take n s) ≡ n = length-take-le n s (omega arith) in
+    ap (λ (i : ℕ). x * 2 ^ k % 2 ^ i / 2 ^ k) j ∙ field (x * 2 ^ k) (8 * n) k
+    ∙ ap (λ (i : ℕ). i % 2 ^ (8 * n)) (shl-shr x k ∙ e ∙ ap little_endian (sym (take-append-drop n s)))
+    ∙ ap (λ (i : ℕ). little_endian (take n s ++ drop n s) % 2 ^ (8 * i)) (sym l)
+    ∙ little-front (take n s) (drop n s) (small-take n s small)
 
 -- the applications of a mask, by its bytes' number
 pub sent-bit : (s : List ℕ) (m : ℕ) → ((i : ℕ) → get_or s i 0 < 256) → m ≡ little_endian s → (n : ℕ) → in_number m (turned_place n) ≡ bit s n
@@ -343,15 +342,14 @@ module _ (m j : ℕ) (low : 2 ^ j ≤ m) (top : m < 2 ^ suc j) where
   pub number-last : (k : ℕ) → j < k → last_below k (in_number m) ≡ last j
   number-last k h = last-is k (in_number m) j (record { below = h; member = top-member; later = λ i l g. top-later i l })
 
-pub last-top : (m : ℕ) → 0 < m → m < 2 ^ 64 → (count_leading_zeros 64 m ≤ 63) × (last (63 - count_leading_zeros 64 m) ≡ last_below 64 (in_number m))
-last-top m h l =
-    let (j, e, a, b) = leading_top 64 m h l in
-    let f : 63 - count_leading_zeros 64 m ≡ j = omega arith in
-    (omega arith, ap last f ∙ sym (number-last m j a b 64 (omega arith)))
-
 pub zero-none : (n : ℕ) → in_number 0 n ≡ false
 unfolding in_number
 zero-none n = rw zero-div
+
+-- the greatest power of two that is not above a number
+pub last-power : (m : ℕ) (r : Option ℕ) → IfNone r (m ≡ 0) → IfSome r (λ k. 2 ^ k ≤ m) → IfSome r (λ k. m < 2 * 2 ^ k) → IfSome r (λ k. k < 64) → last_of r ≡ last_below 64 (in_number m)
+last-power m None z a b h = sym (ap (λ (x : ℕ). last_below 64 (in_number x)) z ∙ none_is 64 (in_number 0) (λ j l. zero-none j))
+last-power m (Some k) z a b h = sym (number-last m k a (omega (arith, pow-suc 2 k)) 64 h)
 
 pub size-zero : mask_size (in_number 0) ≡ 0
 unfolding mask_size bytes_to_hold
@@ -428,22 +426,22 @@ same_byte m i j e f =
         go true g = absurd (false≢true (sym (r.later k (ltb-true n k g) l) ∙ h))
         go false g = ltb-false n k g
 
-module _ (m : ℕ) (r : LastBit) (e : last_of r ≡ last_below 64 (in_number m)) where
+module _ (m : ℕ) (r : Option ℕ) (e : last_of r ≡ last_below 64 (in_number m)) where
   from_last : bytes_to_hold (last_of r) ≡ mask_size (in_sent m)
   unfolding mask_size
   from_last = ap bytes_to_hold e ∙ sym (size-sent m)
 
   pub size_none : r ≡ None → 0 ≡ mask_size (in_sent m)
   unfolding bytes_to_hold
-  size_none f = sym (ap (λ (x : LastBit). bytes_to_hold (last_of x)) f) ∙ from_last
+  size_none f = sym (ap (λ (x : Option ℕ). bytes_to_hold (last_of x)) f) ∙ from_last
 
-  pub size_low : (n : ℕ) → r ≡ At n → n < 32 → 4 ≡ mask_size (in_sent m)
+  pub size_low : (n : ℕ) → r ≡ Some n → n < 32 → 4 ≡ mask_size (in_sent m)
   unfolding bytes_to_hold
-  size_low n f h = sym (ap (λ (x : LastBit). bytes_to_hold (last_of x)) f ∙ rw (lt-ltb n 32 h)) ∙ from_last
+  size_low n f h = sym (ap (λ (x : Option ℕ). bytes_to_hold (last_of x)) f ∙ rw (lt-ltb n 32 h)) ∙ from_last
 
-  pub size-high : (n : ℕ) → r ≡ At n → 32 ≤ n → 8 ≡ mask_size (in_sent m)
+  pub size-high : (n : ℕ) → r ≡ Some n → 32 ≤ n → 8 ≡ mask_size (in_sent m)
   unfolding bytes_to_hold
-  size-high n f h = sym (ap (λ (x : LastBit). bytes_to_hold (last_of x)) f ∙ rw (le-ltb n 32 h)) ∙ from_last
+  size-high n f h = sym (ap (λ (x : Option ℕ). bytes_to_hold (last_of x)) f ∙ rw (le-ltb n 32 h)) ∙ from_last
 
 -- a byte of it
 sent-byte : (m i : ℕ) → m / 2 ^ (8 * i) % 256 ≡ mask_byte (in_sent m) (8 * i)
@@ -523,75 +521,23 @@ module _ (m : ℕ) (fits : m < 2 ^ 64) (d : List ℕ) (at : ℕ) where
         put_then d x o at (four_bytes m) (at + 4) (four_bytes (m / 4294967296)) e f refl (omega arith) ∙ ap (put d at) (sym (mask-eight m z)),
       )
 
--- ---- the first member
+-- a part of a list written over
+pub put-part : (d vs : List ℕ) (at k : ℕ) → k ≡ length vs → put_mid at k d vs ≡ put d at vs
+unfolding put
+put-part d vs at k e = put_mid-paste at k d vs vs k refl refl e ∙ rw (e, take_all (length vs) vs (omega arith))
 
-first-odd : (m d : ℕ) → m % 2 ≡ suc d → in_number m 0 ≡ true
-unfolding in_number
-first-odd m d h = let e : m / 1 % 2 ≡ 1 = omega arith in rw e
+-- the four low bytes of a number
+pub four-low : (m : ℕ) → to_le_bytes w32 (m % 4294967296) ≡ four_bytes m
+unfolding four_bytes
+four-low m =
+    let a : m % 4294967296 % 256 ≡ m % 256 = omega arith in
+    let b : m % 4294967296 / 256 % 256 ≡ m / 256 % 256 = omega arith in
+    let c : m % 4294967296 / 65536 % 256 ≡ m / 65536 % 256 = omega arith in
+    let d : m % 4294967296 / 16777216 % 256 ≡ m / 16777216 % 256 = omega arith in
+    cc
 
-first-even : (m : ℕ) → m % 2 ≡ 0 → in_number m 0 ≡ false
-unfolding in_number
-first-even m h = let e : m / 1 % 2 ≡ 0 = omega arith in rw e
-
--- above its lowest digit, a number has the members of its half
-half_in : (m n : ℕ) → in_number m (suc n) ≡ in_number (m / 2) n
-half_in m n = ap (in_number m) (omega arith) ∙ sym (shifted m 1 n)
-
--- the zeros below the lowest of the k digits that is set
-trailing-next : (k m : ℕ) → IsNext k (in_number m) 0 (count_trailing_zeros k m)
-unfolding count_trailing_zeros
-trailing-next zero m = record { low = zero-le; high = zero-le; skips = λ j a b. absurd (omega arith); there = λ a. absurd (omega arith) }
-trailing-next (suc k) m = go (m % 2) refl (trailing-next k (m / 2))
-  where
-    skip : (t : ℕ) → m % 2 ≡ 0 → ((j : ℕ) → 0 ≤ j → j < t → in_number (m / 2) j ≡ false) → (j : ℕ) → j < suc t → in_number m j ≡ false
-    skip t e h zero b = first-even m e
-    skip t e h (suc j) b = half_in m j ∙ h j zero-le (omega arith)
-
-    go : (d : ℕ) → m % 2 ≡ d → IsNext k (in_number (m / 2)) 0 (count_trailing_zeros k (m / 2)) → IsNext (suc k) (in_number m) 0 (under d (count_trailing_zeros k (m / 2)))
-    go zero e ih =
-        let l = ih.high in
-        record {
-          low = zero-le;
-          high = omega arith;
-          skips = λ j a b. skip (count_trailing_zeros k (m / 2)) e ih.skips j b;
-          there = λ a. half_in m (count_trailing_zeros k (m / 2)) ∙ ih.there (omega arith);
-        }
-    go (suc d) e ih = record { low = zero-le; high = zero-le; skips = λ j a b. absurd (omega arith); there = λ a. first-odd m d e }
-
-pub next-end : (p : ℕ → Bool) (from : ℕ) → from ≡ 64 → IsNext 64 p from 64
-next-end p from e = record { low = omega arith; high = omega arith; skips = λ j a b. absurd (omega arith); there = λ a. absurd (omega arith) }
-
--- the first member from a place on is the first of the number shifted down
-module _ (m from : ℕ) where
-  from_in : (j : ℕ) → from ≤ j → in_number m j ≡ in_number (m / 2 ^ from) (j - from)
-  from_in j h = ap (in_number m) (omega arith) ∙ sym (shifted m from (j - from))
-
-  pub next-none : from ≤ 64 → m / 2 ^ from ≡ 0 → IsNext 64 (in_number m) from 64
-  next-none h e =
-      record {
-        low = h;
-        high = omega arith;
-        skips = λ j a b. from_in j a ∙ ap (λ (x : ℕ). in_number x (j - from)) e ∙ zero-none (j - from);
-        there = λ a. absurd (omega arith);
-      }
-
-  next-below : (t : ℕ) → from < 64 → m < 2 ^ 64 → 0 < m / 2 ^ from → IsNext 64 (in_number (m / 2 ^ from)) 0 t → from + t < 64
-  next-below t h f s r =
-      let g : 64 ≡ 64 - from + from = omega arith in
-      let (j, e, a, b) = leading_top (64 - from) (m / 2 ^ from) s (shr_lt (64 - from) from (subst (λ (k : ℕ). m < 2 ^ k) g f)) in
-      go j (omega arith) (top-member (m / 2 ^ from) j a b) (ltb j t) refl
-    where
-      go : (j : ℕ) → j + from < 64 → in_number (m / 2 ^ from) j ≡ true → (b : Bool) → ltb j t ≡ b → from + t < 64
-      go j l i true e = absurd (false≢true (sym (r.skips j zero-le (ltb-true j t e)) ∙ i))
-      go j l i false e = omega (arith, ltb-false j t e)
-
-  pub next-some : from < 64 → m < 2 ^ 64 → 0 < m / 2 ^ from → IsNext 64 (in_number m) from (from + count_trailing_zeros 64 (m / 2 ^ from))
-  next-some h f s =
-      let r = trailing-next 64 (m / 2 ^ from) in
-      let l = next-below (count_trailing_zeros 64 (m / 2 ^ from)) h f s r in
-      record {
-        low = omega arith;
-        high = omega arith;
-        skips = λ j a b. from_in j a ∙ r.skips (j - from) zero-le (omega arith);
-        there = λ a. sym (shifted m from (count_trailing_zeros 64 (m / 2 ^ from))) ∙ r.there (omega arith);
-      }
+-- the first n of eight bytes that stand at the front of a part
+pub front-part : (s eight : List ℕ) (at n : ℕ) → n ≤ 8 → eight ≡ take 8 (take (length s - at) (drop at s)) → take n eight ≡ take n (drop at s)
+front-part s eight at n h e =
+    let f : take (length s - at) (drop at s) ≡ drop at s = take_all (length s - at) (drop at s) (omega (arith, length-drop at s)) in
+    rw (e, f) (take-take n 8 (drop at s) h)

@@ -1,19 +1,22 @@
 -- What the functions on sets of applications answer.
-use Rattle.std.specs.Prelude.{◌≡◌, Bool, true, false, ◌&&◌, ◌||◌, List, [], ◌∷◌, ℕ, ◌+◌, ◌-◌, ◌*◌, ◌/◌, ◌%◌, ◌≤◌, ◌<◌, leb}
+use Rattle.std.specs.Prelude.{◌≡◌, Option, Some, None, MatchOption, Bool, true, false, ◌&&◌, ◌||◌, List, [], ◌∷◌, ℕ, ◌+◌, ◌-◌, ◌*◌, ◌/◌, ◌%◌, ◌<◌, leb, eqb, not}
 use Rattle.linkstate.specs.Masks.{Last, none, last, in_number}
-use Rattle.masks.specs.declared.LastBit.{LastBit}
-use Rattle.masks.specs.declared.LastBit.TheVariants.{None, At}
+use Rattle.masks.specs.declared.Bits.{Bits}
 
-abbrev pub last_of : LastBit → Last
+abbrev pub last_of : Option ℕ → Last
 last_of None = none
-last_of (At n) = last n
+last_of (Some n) = last n
 
--- n is the first number from `from` on that passes the test, or k where none below k does.
-pub record IsNext (k : ℕ) (p : ℕ → Bool) (from n : ℕ) : Type 0 where
-  pub low : from ≤ n
-  pub high : n ≤ k
-  pub skips : (j : ℕ) → from ≤ j → j < n → p j ≡ false
-  pub there : n < k → p n ≡ true
+-- t is the lowest of the k bits of x that are set, and rest is x without it.
+pub record Lowest (k x t rest : ℕ) : Type 0 where
+  pub inside : t < k
+  pub none : (j : ℕ) → j < t → in_number x j ≡ false
+  pub there : in_number x t ≡ true
+  pub cleared : (j : ℕ) → in_number rest j ≡ in_number x j && not (eqb j t)
+
+-- A turn of a walk over the set bits of a word: it takes the lowest, where there is one.
+abbrev pub Takes : Bits → Option ℕ → Bits → Type 0
+Takes s r after = MatchOption r ((s.0 ≡ 0) × (after.0 ≡ 0)) (λ t. Lowest 64 s.0 t after.0)
 
 -- The number whose bytes these are, the first the lowest.
 unfoldable pub little_endian : List ℕ → ℕ

@@ -5,7 +5,8 @@
 ghost use Rattle.std.specs.Prelude.{◌≡◌, false, ◌||◌, ◌&&◌, not, ℕ, ◌+◌, ◌≤◌, ◌<◌, length, take, drop};
 ghost use Rattle.linkstate.specs.Lists.{any, put};
 ghost use Rattle.linkstate.specs.Masks.{bit, in_masks, others, as_number, in_number, last_below, mask_size, mask};
-ghost use Rattle.masks.specs.Sets.{last_of, IsNext, little_endian, in_sent, turned_place, four_bytes, exchanged};
+ghost use Rattle.std.specs.Iterator.{at_most};
+ghost use Rattle.masks.specs.Sets.{last_of, Takes, little_endian, in_sent, turned_place, four_bytes, exchanged};
 ghost use Rattle.masks.specs.Applications.{in_set, at_place, user_bytes};
 
 // A set of applications, standard and user, as masks have them: the number of a mask's bytes, the first the lowest.
@@ -40,36 +41,14 @@ pub fn turned_place(n: usize) -> usize
     n ^ 7
 }
 
-// A byte as a number.
-fn wide(b: u8) -> u64
-    ensures { (result ≡ b) × (result < 256) }
-{
-    b as u64
-}
-
-// The number of the four bytes from a place on, the first the lowest.
-fn four_bytes(s: &[u8], at: usize) -> u64
-    requires { at + 4 ≤ length s.now }
-    ensures { (result ≡ little_endian (take 4 (drop at s.now))) × (result < 4294967296) }
-{
-    let a = wide(s[at]);
-    let b = wide(s[at + 1]);
-    let c = wide(s[at + 2]);
-    let d = wide(s[at + 3]);
-    ((d * 256 + c) * 256 + b) * 256 + a
-}
-
 // The number whose bytes these are, the first the lowest.
 fn few_bytes(s: &[u8]) -> u64
     requires { length s.now ≤ 8 }
     ensures { result ≡ little_endian s.now }
 {
-    let mut i = s.len();
-    let mut m: u64 = 0;
-    while 0 < i {
-        i -= 1;
-        let b = s[i] as u64;
-        m = m * 256 + b;
+    let mut m = 0;
+    for b in s.iter().rev() {
+        m = m * 256 + u64::from(*b);
     }
     m
 }
@@ -79,27 +58,20 @@ fn little_endian(s: &[u8]) -> u64
     requires { length s.now ≤ 8 }
     ensures { result ≡ little_endian s.now }
 {
-    if s.len() == 4 {
-        return four_bytes(s, 0);
+    match s {
+        [a, b, c, d] => u64::from(u32::from_le_bytes([*a, *b, *c, *d])),
+        [a, b, c, d, e, f, g, h] => u64::from_le_bytes([*a, *b, *c, *d, *e, *f, *g, *h]),
+        _ => few_bytes(s),
     }
-    if s.len() == 8 {
-        let low = four_bytes(s, 0);
-        let high = four_bytes(s, 4);
-        return high * 4294967296 + low;
-    }
-    few_bytes(s)
 }
 
-// The number of the n bytes from a place on, where eight can be read at once.
-fn front_bytes(s: &[u8], at: usize, n: usize) -> u64
-    requires { (at + 8 ≤ length s.now) × (0 < n) × (n ≤ 8) }
-    ensures { result ≡ little_endian (take n (drop at s.now)) }
+// The number of the first n of eight bytes, which are read at once.
+fn front_bytes(s: &[u8; 8], n: usize) -> u64
+    requires { (0 < n) × (n ≤ 8) }
+    ensures { result ≡ little_endian (take n s.now) }
 {
-    let low = four_bytes(s, at);
-    let high = four_bytes(s, at + 4);
-    let all = high * 4294967296 + low;
     let unused = (64 - 8 * n) as u32;
-    (all << unused) >> unused
+    (u64::from_le_bytes(*s) << unused) >> unused
 }
 
 // A set in the order of a mask's bytes, with the applications of the mask of n bytes at a place of a run. Eight bytes are read where the run has them.
@@ -110,8 +82,8 @@ fn with_sent(m: u64, s: &[u8], at: usize, n: usize) -> u64
     if n == 0 {
         return m;
     }
-    if at + 8 <= s.len() {
-        return joined(m, front_bytes(s, at, n));
+    if let Some(eight) = s[at..].first_chunk() {
+        return joined(m, front_bytes(eight, n));
     }
     joined(m, few_bytes(&s[at..at + n]))
 }
@@ -258,34 +230,31 @@ pub fn with_masks(
 }
 
 // The last application of a set, if any.
-#[derive(Clone, Copy)]
-pub enum LastBit {
-    None,
-    At(u32),
-}
-
-pub fn last_bit(m: u64) -> LastBit
+pub fn last_bit(m: u64) -> Option<u32>
     ensures { last_of result ≡ last_below 64 (in_number m) }
 {
-    if m == 0 {
-        return LastBit::None;
-    }
-    LastBit::At(63 - u64::leading_zeros(m))
+    m.checked_ilog2()
 }
 
-// The first application of a set from `from` on, or 64: a walk over a set goes from each to the next.
-pub fn next_bit(m: u64, from: u32) -> u32
-    requires { from ≤ 64 }
-    ensures { IsNext 64 (in_number m) from result }
-{
-    if from == 64 {
-        return 64;
+// A walk over the places of a word's set bits, the lowest first: `for t in Bits(m)`.
+#[derive(Clone, Copy, Drop)]
+pub struct Bits(pub u64);
+
+impl Iterator for Bits {
+    type Item = usize;
+
+    ghost next_gives = { Takes };
+
+    ghost remaining = { λ s. at_most s.0 };
+
+    fn next(&mut self) -> Option<usize> {
+        if self.0 == 0 {
+            return None;
+        }
+        let t = self.0.trailing_zeros() as usize;
+        self.0 = self.0 & (self.0 - 1);
+        Some(t)
     }
-    let rest = m >> from;
-    if rest == 0 {
-        return 64;
-    }
-    from + u64::trailing_zeros(rest)
 }
 
 // The applications of either set.
@@ -307,13 +276,8 @@ pub fn mask_size(m: u64) -> usize
     ensures { (result ≡ mask_size (in_sent m)) × (result ≤ 8) }
 {
     match last_bit(m) {
-        LastBit::None => 0,
-        LastBit::At(n) => {
-            if n < 32 {
-                return 4;
-            }
-            8
-        }
+        None => 0,
+        Some(n) => if n < 32 { 4 } else { 8 },
     }
 }
 
@@ -322,10 +286,8 @@ fn write_four(m: u64, out: &mut [u8], at: usize)
     requires { at + 4 ≤ length out.old }
     ensures { out.new ≡ put out.old at (four_bytes m) }
 {
-    out[at] = (m % 256) as u8;
-    out[at + 1] = (m / 256 % 256) as u8;
-    out[at + 2] = (m / 65536 % 256) as u8;
-    out[at + 3] = (m / 16777216 % 256) as u8;
+    let low = (m % 4294967296) as u32;
+    out[at..at + 4].copy_from_slice(&low.to_le_bytes());
 }
 
 // A mask as sent, written at a place of a buffer; the place after it.

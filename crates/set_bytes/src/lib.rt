@@ -17,6 +17,7 @@ ghost use Rattle.set_bytes.specs.Sets.{extended_codes, middle_codes, Among, Writ
 
 use grids::Row;
 use kinds::Kind;
+use masks::Bits;
 
 // The SRLGs of a class, by how many there are.
 #[derive(Clone, Copy)]
@@ -52,14 +53,10 @@ fn write_word(values: &[u64], base: usize, bits: u64, out: &mut [u8], at: usize)
     requires { (base ≤ length values.now) × Inside (drop base values.now) bits × ((i : ℕ) → get_or values.now i 0 < 4294967296) × (at + 4 * length (keep_from (in_number bits) 0 (take 64 (drop base values.now))) ≤ length out.old) }
     ensures { Wrote out.old at (bytes_of_words (keep_from (in_number bits) 0 (take 64 (drop base values.now)))) result out.new }
 {
-    let mut x = bits;
     let mut k = at;
-    while x != 0 {
-        let t = u64::trailing_zeros(x) as usize;
-        let v = values[base + t];
-        octets::write32(out, k, v as u32);
+    for t in Bits(bits) {
+        octets::write32(out, k, values[base + t] as u32);
         k += 4;
-        x = x & (x - 1);
     }
     k
 }

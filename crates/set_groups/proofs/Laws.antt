@@ -1,13 +1,14 @@
 -- Laws of the table of groups: a member more, equal sets, the search by buckets, and what is left when an application has joined. Assumes nothing.
+use Rattle.std.specs.Prelude.{Some, None}
 use mathlib.Core.Path.{◌≡◌, refl, sym, ◌∙◌, ap, ap₂, fun_ext, subst}
 use mathlib.Core.Bool.{Bool, true, false, cond, ◌&&◌, ◌||◌, false≢true}
 use mathlib.Core.List.{List, [], ◌∷◌, map}
-use Prim.Native.Nat.{ℕ, zero, suc, ◌+◌, ◌-◌, ◌*◌, ◌%◌, ◌^◌, ◌≤◌, ◌<◌}
+use Prim.Native.Nat.{ℕ, zero, suc, ◌+◌, ◌-◌, ◌*◌, ◌/◌, ◌%◌, ◌^◌, ◌≤◌, ◌<◌}
 use native.Mathlib.Nat.{add-zero}
 use native.Mathlib.Omega.{arith}
-use borrow.Author.Tests.{eq-eqb, ne_eqb, eqb-true, eqb-false}
+use borrow.Author.Tests.{eq-eqb, ne_eqb, eqb-true, eqb-false, ltb-true, ltb-false}
 use lib.Bits.{bit_or, or_lt}
-use lib.Dec.{eqb}
+use lib.Dec.{eqb, ltb}
 use lib.ListN.{length, get_or, set, length-set}
 use lib.Seq.{get_or-set_same, get_or-set_other}
 use Rattle.linkstate.specs.Lists.{numbers, same_bytes, same_rows}
@@ -53,13 +54,13 @@ module _ (m n : ℕ) (small : m < 2 ^ 64) (t : ℕ → ℕ) where
   bit-none e = is_number m (λ i. in_number m i || eqb (t i) n) small (λ i h. sym (ap (λ (b : Bool). in_number m i || b) (e i h) ∙ or-false (in_number m i)))
 
 module _ (m n : ℕ) (small : m < 2 ^ 64) where
-  pub standard-more : n < 64 → (j : ℕ) → j ≡ turned_place n → bit_or m ((1 * 2 ^ j) % 2 ^ 64) ≡ as_number (λ k. in_number m k || eqb (turned_place k) n)
+  standard-more : n < 64 → (j : ℕ) → j ≡ turned_place n → bit_or m ((1 * 2 ^ j) % 2 ^ 64) ≡ as_number (λ k. in_number m k || eqb (turned_place k) n)
   standard-more h j e = rw e (bit-more m n small turned_place (turned_place n) (turned-below n h) (λ i l. turned-eqb i n))
 
-  pub standard-none : 64 ≤ n → m ≡ as_number (λ k. in_number m k || eqb (turned_place k) n)
+  standard-none : 64 ≤ n → m ≡ as_number (λ k. in_number m k || eqb (turned_place k) n)
   standard-none h = bit-none m n small turned_place (λ i l. ne_eqb (turned_place i) n (λ z. omega (arith, turned-below i l)))
 
-  pub user-more : 64 ≤ n → n < 128 → (j : ℕ) → j ≡ turned_place (n - 64) → bit_or m ((1 * 2 ^ j) % 2 ^ 64) ≡ as_number (λ k. in_number m k || eqb (user (turned_place k)) n)
+  user-more : 64 ≤ n → n < 128 → (j : ℕ) → j ≡ turned_place (n - 64) → bit_or m ((1 * 2 ^ j) % 2 ^ 64) ≡ as_number (λ k. in_number m k || eqb (user (turned_place k)) n)
   unfolding user
   user-more h l j e =
       rw e (bit-more m n small (λ k. 64 + turned_place k) (turned_place (n - 64)) (turned-below (n - 64) (omega arith)) (λ i k. turned-eqb i (n - 64) ∙ shift (turned_place i)))
@@ -71,9 +72,30 @@ module _ (m n : ℕ) (small : m < 2 ^ 64) where
           go true e = let q = eqb-true i (n - 64) e in sym (eq-eqb (64 + i) n (omega arith))
           go false e = let q = eqb-false i (n - 64) e in sym (ne_eqb (64 + i) n (λ z. omega arith))
 
-  pub user-none : n < 64 → m ≡ as_number (λ k. in_number m k || eqb (user (turned_place k)) n)
+  user-none : n < 64 → m ≡ as_number (λ k. in_number m k || eqb (user (turned_place k)) n)
   unfolding user
   user-none h = bit-none m n small (λ k. 64 + turned_place k) (λ i l. ne_eqb (64 + turned_place i) n (λ z. omega arith))
+
+-- The bit of an application in the first mask or in the second, by its half.
+pub member-more : (h : List ℕ) (n p : ℕ) → length h ≡ 3 → ((i : ℕ) → get_or h i 0 < 2 ^ 64) → n < 128 → p ≡ turned_place (n % 64) → set h (n / 64) (bit_or (get_or h (n / 64) 0) ((1 * 2 ^ p) % 2 ^ 64)) ≡ with_member h n
+unfolding with_member
+member-more [] n p l small b e = absurd (omega arith)
+member-more (s ∷ []) n p l small b e = absurd (omega arith)
+member-more (s ∷ u ∷ []) n p l small b e = absurd (omega arith)
+member-more (s ∷ u ∷ x ∷ y ∷ r) n p l small b e = absurd (omega arith)
+member-more (s ∷ u ∷ x ∷ []) n p l small b e = go (ltb n 64) refl
+  where
+    go : (q : Bool) → ltb n 64 ≡ q → set (s ∷ u ∷ x ∷ []) (n / 64) (bit_or (get_or (s ∷ u ∷ x ∷ []) (n / 64) 0) ((1 * 2 ^ p) % 2 ^ 64)) ≡ as_number (λ k. in_number s k || eqb (turned_place k) n) ∷ as_number (λ k. in_number u k || eqb (user (turned_place k)) n) ∷ x ∷ []
+    go true q =
+        let a = ltb-true n 64 q in
+        let d : n / 64 ≡ 0 = omega arith in
+        let m : n % 64 ≡ n = omega arith in
+        rw d (ap₂ (λ (y z : ℕ). y ∷ z ∷ x ∷ []) (standard-more s n (small 0) a p (e ∙ ap turned_place m)) (user-none u n (small 1) a))
+    go false q =
+        let a = ltb-false n 64 q in
+        let d : n / 64 ≡ 1 = omega arith in
+        let m : n % 64 ≡ n - 64 = omega arith in
+        rw d (ap₂ (λ (y z : ℕ). y ∷ z ∷ x ∷ []) (standard-none s n (small 0) a) (user-more u n (small 1) a b p (e ∙ ap turned_place m)))
 
 -- ---- the same set
 
@@ -146,11 +168,11 @@ module _ (run : List ℕ) (sets : List (List ℕ)) (w : ℕ → ℕ) (count s c 
               l.between j a (omega arith) (same-bucket run sets (w j) s c ok (is.slot j (omega arith) h) of_s e ∙ sym (at.here some))
           later j a h e l d false z = let y = eqb-false (j - i) 0 z in at.passed j (omega arith) h e
 
-  pub search-found : (i : ℕ) → At run sets w count s c i → (i ≡ 0 → ⊥) → (r : Bool) → Tells (Same run sets (w i) s c) r → r ≡ true → Finds run sets w count s c i
-  search-found i at some r t e = record { inside = at.inside; there = λ n. t.yes e; none = λ z. absurd (some z) }
+  pub search-found : (i : ℕ) → At run sets w count s c i → (i ≡ 0 → ⊥) → (r : Bool) → Tells (Same run sets (w i) s c) r → r ≡ true → Finds run sets w count s c (Some i)
+  search-found i at some r t e = (omega arith, at.inside, t.yes e)
 
-  pub search-end : (i : ℕ) → At run sets w count s c i → i ≡ 0 → Finds run sets w count s c 0
-  search-end i at z = let h = is.some in record { inside = omega arith; there = λ n. absurd (n refl); none = λ y j l k e. at.passed j (omega arith) k e }
+  pub search-end : (i : ℕ) → At run sets w count s c i → i ≡ 0 → Finds run sets w count s c None
+  search-end i at z = λ j l k e. at.passed j (omega arith) k e
 
 -- ---- equal sets have equal rows, and no others
 
@@ -249,12 +271,12 @@ module _ (run : List ℕ) (sets : List (List ℕ)) (srlgs : ℕ → List ℕ) wh
 
 -- A member more of the entry r.
 module _ (run : List ℕ) (sets groups : List (List ℕ)) (buckets : List ℕ) (count n s c r : ℕ) (ok : Chained run sets (word groups) buckets count) (room : count ≤ length groups)
-    (found : Finds run sets (word groups) count s c r) (some : r ≡ 0 → ⊥) (h : List ℕ) (is : h ≡ with_member (get_or groups r []) n) where
+    (low : 1 ≤ r) (inside : r < count) (same : Same run sets (word groups r) s c) (h : List ℕ) (is : h ≡ with_member (get_or groups r []) n) where
   abbrev groups₁ : List (List ℕ)
   groups₁ = set groups r h
 
   here : get_or groups₁ r [] ≡ with_member (get_or groups r []) n
-  here = let l = found.inside in get_or-set_same groups r h [] (omega arith) ∙ is
+  here = get_or-set_same groups r h [] (omega arith) ∙ is
 
   other : (i : ℕ) → (i ≡ r → ⊥) → get_or groups₁ i [] ≡ get_or groups i []
   other i d = get_or-set_other groups r i h [] d
@@ -271,11 +293,10 @@ module _ (run : List ℕ) (sets groups : List (List ℕ)) (buckets : List ℕ) (
       → table_groups run sets srlgs groups₁ count ≡ join n (row (set_of run (slot_grid sets s) (srlgs c))) (table_groups run sets srlgs groups count)
   unfolding table_groups
   there-joins srlgs k differ l all =
-      let inside = found.inside in
-      join-at n (row (set_of run (slot_grid sets s) (srlgs c))) (λ i. entry_group run sets srlgs (get_or groups i [])) (λ i. entry_group run sets srlgs (get_or groups₁ i [])) (count - 1) 1 r (omega arith) (omega arith)
+      join-at n (row (set_of run (slot_grid sets s) (srlgs c))) (λ i. entry_group run sets srlgs (get_or groups i [])) (λ i. entry_group run sets srlgs (get_or groups₁ i [])) (count - 1) 1 r low (omega arith)
       (λ j a b. entry-differs run sets srlgs k differ s c l (get_or groups j []) (all j a (omega arith)) (λ e.
-      ok.entries.apart j r a (omega arith) (omega arith) inside (λ z. omega arith) (both run sets (word groups j) (word groups r) s c e (found.there some))))
-      (entry-same run sets srlgs k differ s c l (get_or groups r []) (all r (omega arith) inside) (found.there some))
+      ok.entries.apart j r a (omega arith) low inside (λ z. omega arith) (both run sets (word groups j) (word groups r) s c e same)))
+      (entry-same run sets srlgs k differ s c l (get_or groups r []) (all r low inside) same)
       (λ j a d. ap (entry_group run sets srlgs) (other j d))
       (ap (entry_group run sets srlgs) here ∙ entry_more run sets srlgs (get_or groups r []) n)
 
@@ -304,7 +325,7 @@ each-entry P count old new i a l = go (eqb i count) refl
 
 module _ (run : List ℕ) (sets groups : List (List ℕ)) (buckets : List ℕ) (count n s c : ℕ) (ok : Chained run sets (word groups) buckets count) (room : count < length groups) (few : count < 128) (of_s : IsSet sets s)
     (b x : ℕ) (of_b : b < 128) (is_b : b ≡ bucket_of (slot_mark sets s) c) (is_s : slot_in x ≡ s) (is_c : class_in x ≡ c) (is_n : next_in x ≡ get_or buckets b 0)
-    (found : Finds run sets (word groups) count s c 0) (h : List ℕ) (is : h ≡ with_member (0 ∷ 0 ∷ x ∷ []) n) where
+    (none : Finds run sets (word groups) count s c None) (h : List ℕ) (is : h ≡ with_member (0 ∷ 0 ∷ x ∷ []) n) where
   abbrev groups₂ : List (List ℕ)
   groups₂ = set groups count h
 
@@ -351,12 +372,12 @@ module _ (run : List ℕ) (sets groups : List (List ℕ)) (buckets : List ℕ) (
   new-old : (j : ℕ) → 1 ≤ j → j < count → Equal (w₂ count) (w₂ j) → ⊥
   new-old j a l e =
       let f : Equal x (w j) = subst (λ (y : ℕ). Equal x y) (old-word j l) (subst (λ (y : ℕ). Equal y (w₂ j)) new_word e) in
-      found.none refl j a l (record { class = sym f.class ∙ is_c; values = sym f.values ∙ ap (slot_values run sets) is_s })
+      none j a l (record { class = sym f.class ∙ is_c; values = sym f.values ∙ ap (slot_values run sets) is_s })
 
   old-new : (j : ℕ) → 1 ≤ j → j < count → Equal (w₂ j) (w₂ count) → ⊥
   old-new j a l e =
       let f : Equal (w j) x = subst (λ (y : ℕ). Equal (w j) y) new_word (subst (λ (y : ℕ). Equal y (w₂ count)) (old-word j l) e) in
-      found.none refl j a l (record { class = f.class ∙ is_c; values = f.values ∙ ap (slot_values run sets) is_s })
+      none j a l (record { class = f.class ∙ is_c; values = f.values ∙ ap (slot_values run sets) is_s })
 
   all_apart : (i j : ℕ) → 1 ≤ i → i < suc count → 1 ≤ j → j < suc count → (i ≡ j → ⊥) → Equal (w₂ i) (w₂ j) → ⊥
   all_apart i j a k b l =
@@ -415,7 +436,7 @@ module _ (run : List ℕ) (sets groups : List (List ℕ)) (buckets : List ℕ) (
       let z : 1 + (count - 1) ≡ count = omega arith in
       ap (λ (j : ℕ). map (λ i. entry_group run sets srlgs (get_or groups₂ i [])) (numbers 1 j)) e
       ∙ join-behind n (row (set_of run (slot_grid sets s) (srlgs c))) (λ i. entry_group run sets srlgs (get_or groups i [])) (λ i. entry_group run sets srlgs (get_or groups₂ i [])) (count - 1) 1
-      (λ j a q. entry-differs run sets srlgs k differ s c l (get_or groups j []) (all j a (omega arith)) (found.none refl j a (omega arith)))
+      (λ j a q. entry-differs run sets srlgs k differ s c l (get_or groups j []) (all j a (omega arith)) (none j a (omega arith)))
       (λ j q. ap (entry_group run sets srlgs) (old_row j (omega arith)))
       (ap (λ (j : ℕ). entry_group run sets srlgs (get_or groups₂ j [])) z ∙ ap (entry_group run sets srlgs) new_row ∙ entry_new run sets srlgs x n s c is_s is_c)
 
@@ -452,8 +473,8 @@ module _ (s c f : ℕ) (ls : s < 256) (lc : c < 256) where
   next-packed = omega arith
 
 pub joined-last : (run : List ℕ) (sets groups : List (List ℕ)) (buckets : List ℕ) (count n s c : ℕ) → Chained run sets (word groups) buckets count → count < length groups → count < 128 → IsSet sets s → s < 256 → c < 256
-    → (b f i : ℕ) → b < 128 → b ≡ bucket_of (slot_mark sets s) c → f ≡ get_or buckets b 0 → Finds run sets (word groups) count s c i → i ≡ 0
+    → (b f : ℕ) → b < 128 → b ≡ bucket_of (slot_mark sets s) c → f ≡ get_or buckets b 0 → Finds run sets (word groups) count s c None
     → (h : List ℕ) → h ≡ with_member (0 ∷ 0 ∷ (s + 256 * c + 65536 * f) ∷ []) n → Joined run sets n s c groups count (count + 1) (set groups count h) (set buckets b count)
-joined-last run sets groups buckets count n s c ok room few of_s ls lc b f i of_b is_b is_f found z h is =
+joined-last run sets groups buckets count n s c ok room few of_s ls lc b f of_b is_b is_f none h is =
     joined-more run sets groups buckets count n s c ok room few of_s b (packed s c f ls lc) of_b is_b (slot-packed s c f ls lc) (class-packed s c f ls lc) (next-packed s c f ls lc ∙ is_f)
-    (subst (λ (k : ℕ). Finds run sets (word groups) count s c k) z found) h is (count + 1) refl
+    none h is (count + 1) refl

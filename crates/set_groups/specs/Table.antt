@@ -1,7 +1,8 @@
 -- The table of groups, from entry 1 on: the two masks of its members as sent, and slot + 256 * class + 65536 * the last entry before it in its bucket, 0 where there is none.
-use Rattle.std.specs.Prelude.{◌≡◌, Bool, true, false, List, [], map, ℕ, suc, ◌-◌, ◌/◌, ◌%◌, ◌≤◌, ◌<◌, length, get_or}
+use Rattle.std.specs.Prelude.{◌≡◌, Option, MatchOption, Bool, true, false, List, [], map, ℕ, suc, ◌+◌, ◌-◌, ◌/◌, ◌%◌, ◌≤◌, ◌<◌, length, get_or}
 use Rattle.std.specs.Int.Bits.{bit_xor}
 use Rattle.linkstate.specs.Lists.{numbers, keep}
+use Rattle.linkstate.specs.Masks.{in_number}
 use Rattle.linkstate.specs.Meaning.{Meaning, row}
 use Rattle.srlg_sources.specs.Classes.{class_of}
 use Rattle.grids.specs.Grids.{set_of}
@@ -58,11 +59,10 @@ pub record Chained (run : List ℕ) (sets : List (List ℕ)) (w : ℕ → ℕ) (
   pub of_buckets : length buckets ≡ 128
   pub first : (b : ℕ) → b < 128 → Latest (bucket_in sets w) b count (get_or buckets b 0)
 
--- r is the entry with the set of a slot and a class, 0 where there is none.
-pub record Finds (run : List ℕ) (sets : List (List ℕ)) (w : ℕ → ℕ) (count s c r : ℕ) : Type 0 where
-  pub inside : r < count
-  pub there : (r ≡ 0 → ⊥) → Same run sets (w r) s c
-  pub none : r ≡ 0 → (j : ℕ) → 1 ≤ j → j < count → Same run sets (w j) s c → ⊥
+-- r is the entry with the set of a slot and a class, if there is one.
+abbrev pub Finds : List ℕ → List (List ℕ) → (ℕ → ℕ) → ℕ → ℕ → ℕ → Option ℕ → Type 0
+Finds run sets w count s c r =
+    MatchOption r ((j : ℕ) → 1 ≤ j → j < count → Same run sets (w j) s c → ⊥) (λ i. (1 ≤ i) × (i < count) × Same run sets (w i) s c)
 
 -- The groups that a table stands for, by the numbers of each class.
 unfoldable pub entry_group : List ℕ → List (List ℕ) → (ℕ → List ℕ) → List ℕ → Group
@@ -115,6 +115,21 @@ Owned own p groups count = (i : ℕ) → 1 ≤ i → i < count → (n : ℕ) × 
 abbrev pub Grouped : List ℕ → List (List ℕ) → List (List ℕ) → (ℕ → Bool) → List (List ℕ) → ℕ → ℕ → Type 0
 Grouped run sets own p groups count n =
     (srlgs : ℕ → List ℕ) (k : ℕ) → Differ srlgs k → ((i : ℕ) → Named p i → class_of own i < k) → (m : Meaning) → Gives m run sets own srlgs p → table_groups run sets srlgs groups count ≡ groups_below m n
+
+-- The table of the groups of all of them below n.
+pub record Begun (run : List ℕ) (sets own : List (List ℕ)) (p : ℕ → Bool) (n count : ℕ) (groups : List (List ℕ)) (buckets : List ℕ) : Type 0 where
+  pub low : count ≤ n
+  pub high : n ≤ 128
+  pub chained : Chained run sets (word groups) buckets count
+  pub owned : Owned own p groups count
+  pub grouped : Grouped run sets own p groups count n
+  pub room : count + left p n ≤ length groups
+
+-- Of the 64 applications from `base` on, those from n on that pass a test are the bits of a word.
+pub record Ahead (p : ℕ → Bool) (base n x : ℕ) : Type 0 where
+  pub high : n ≤ base + 64
+  pub here : (j : ℕ) → n ≤ j → j < base + 64 → (base ≤ j) × (p j ≡ in_number x (j - base))
+  pub past : (j : ℕ) → j < 64 → in_number x j ≡ true → n ≤ base + j
 
 -- The table of the groups of all.
 pub record Filled (run : List ℕ) (sets own : List (List ℕ)) (p : ℕ → Bool) (groups : List (List ℕ)) (count : ℕ) : Type 0 where

@@ -2,15 +2,13 @@
 
 #![tactic(auto)]
 
-ghost use Rattle.std.specs.Prelude.{◌≡◌, ◌||◌, ◌+◌, ◌≤◌, ◌<◌, eqb, length, replicate};
-ghost use Rattle.linkstate.specs.Masks.{user, as_number, in_number};
-ghost use Rattle.masks.specs.Sets.{IsNext, turned_place};
+ghost use Rattle.std.specs.Prelude.{◌≡◌, Bool, ℕ, ◌+◌, ◌≤◌, ◌<◌, eqb, length, replicate};
 ghost use Rattle.masks.specs.Applications.{in_set, at_place};
 ghost use Rattle.grids.specs.Slots.{slot_mark, IsSet, Slots};
-ghost use Rattle.set_groups.specs.Table.{word, slot_in, class_in, next_in, bucket_of, bucket_in, Same, Tells, Latest, Entries, Chained, Finds, Joined, left, Placed, Filled};
+ghost use Rattle.set_groups.specs.Table.{word, slot_in, class_in, next_in, bucket_of, bucket_in, Same, Tells, Latest, Entries, Chained, Finds, Joined, left, Placed, Begun, Ahead, Filled};
 ghost use Rattle.set_groups.specs.Members.{with_member};
 
-use masks::Applications;
+use masks::{Applications, Bits};
 
 // The slot, the class and the next entry that the third number of an entry says.
 pub fn slot_in(x: u64) -> usize
@@ -39,13 +37,6 @@ fn bucket_of(mark: u32, class: usize) -> usize
     ((mark ^ (mark / 65536) ^ (class as u32)) % 128) as usize
 }
 
-// A byte, to reckon with.
-fn wide(x: u8) -> usize
-    ensures { (result ≡ x) × (result < 256) }
-{
-    x as usize
-}
-
 // Whether the third number of an entry says the set of a slot and a class. Marks that differ rule it out.
 fn same_set(run: &[u8], sets: &[[u32; 12]], x: u64, s: usize, c: usize) -> bool
     requires { Slots run.now sets.now × IsSet sets.now (slot_in x) × IsSet sets.now s }
@@ -66,7 +57,7 @@ fn same_set(run: &[u8], sets: &[[u32; 12]], x: u64, s: usize, c: usize) -> bool
     grids::same_grids(run, &g, &h)
 }
 
-// The entry with the set of a slot and a class, from the last of its bucket on; 0 where there is none.
+// The entry with the set of a slot and a class, if there is one, from the last of its bucket on. Entry 0 is no entry of a bucket.
 fn find(
     run: &[u8],
     sets: &[[u32; 12]],
@@ -75,7 +66,7 @@ fn find(
     first: usize,
     s: usize,
     c: usize,
-) -> usize
+) -> Option<usize>
     requires { Slots run.now sets.now × IsSet sets.now s × Entries run.now sets.now (word groups.now) count × (count ≤ length groups.now) × Latest (bucket_in sets.now (word groups.now)) (bucket_of (slot_mark sets.now s) c) count first }
     ensures { Finds run.now sets.now (word groups.now) count s c result }
 {
@@ -83,44 +74,19 @@ fn find(
     while i != 0 {
         let x = groups[i][2];
         if same_set(run, sets, x, s, c) {
-            return i;
+            return Some(i);
         }
         i = next_in(x);
     }
-    0
+    None
 }
 
-// The standard mask of a group with application n, if it is a standard one.
-fn with_standard(m: u64, n: usize) -> u64
+// A member more for an entry: an application of its first mask, or of its second.
+fn add_member(h: &mut [u64; 3], n: usize)
     requires { n < 128 }
-    ensures { result ≡ as_number (λ k. in_number m k || eqb (turned_place k) n) }
+    ensures { h.new ≡ with_member h.old n }
 {
-    if n < 64 {
-        return m | (1 << masks::turned_place(n));
-    }
-    m
-}
-
-// The user mask of a group with application n, if it is a user one.
-fn with_user(m: u64, n: usize) -> u64
-    requires { n < 128 }
-    ensures { result ≡ as_number (λ k. in_number m k || eqb (user (turned_place k)) n) }
-{
-    if n < 64 {
-        return m;
-    }
-    m | (1 << masks::turned_place(n - 64))
-}
-
-// An entry with a member more.
-fn with_member(h: [u64; 3], n: usize) -> [u64; 3]
-    requires { n < 128 }
-    ensures { result ≡ with_member h n }
-{
-    let standard = with_standard(h[0], n);
-    let user = with_user(h[1], n);
-    let r = [standard, user, h[2]];
-    r
+    h[n / 64] |= 1 << masks::turned_place(n % 64);
 }
 
 // Application n joins with the set of a slot and a class; how many entries there are then.
@@ -138,35 +104,49 @@ fn join(
     ensures { Joined run.now sets.now n s c groups.old count result groups.new buckets.new }
 {
     let b = bucket_of(sets[s][10], c);
-    let first = wide(buckets[b]);
-    let i = find(run, sets, groups, count, first, s, c);
-    if i != 0 {
-        let h = groups[i];
-        let joined = with_member(h, n);
-        groups[i] = joined;
+    let first = usize::from(buckets[b]);
+    if let Some(i) = find(run, sets, groups, count, first, s, c) {
+        add_member(&mut groups[i], n);
         return count;
     }
     let x = (s as u64) + 256 * (c as u64) + 65536 * (first as u64);
-    let h = [0, 0, x];
-    let joined = with_member(h, n);
-    groups[count] = joined;
+    let mut h = [0, 0, x];
+    add_member(&mut h, n);
+    groups[count] = h;
     buckets[b] = count as u8;
     count + 1
 }
 
-// The first place of a set from `from` on, or 128.
-fn next_named(m: Applications, from: usize) -> usize
-    requires { from ≤ 128 }
-    ensures { IsNext 128 (at_place m) from result }
+// The applications of a mask join, ascending: application `base` is its lowest bit; how many entries there are then.
+fn join_mask(
+    run: &[u8],
+    sets: &[[u32; 12]],
+    own: &[[u8; 2]; 128],
+    base: usize,
+    bits: u64,
+    groups: &mut [[u64; 3]],
+    buckets: &mut [u8; 128],
+    entries: usize,
+) -> usize
+    requires { (base ≤ 64) × Slots run.now sets.now × ((p : ℕ → Bool) × (from : ℕ) × Placed sets.now own.now p × Begun run.now sets.now own.now p from entries groups.old buckets.old × Ahead p base from bits) }
+    ensures { (length groups.new ≡ length groups.old) × ((p : ℕ → Bool) (from : ℕ) → Placed sets.now own.now p → Begun run.now sets.now own.now p from entries groups.old buckets.old → Ahead p base from bits → Begun run.now sets.now own.now p (base + 64) result groups.new buckets.new) }
 {
-    if from < 64 {
-        let n = masks::next_bit(m.standard, from as u32);
-        if n < 64 {
-            return n as usize;
-        }
-        return 64 + masks::next_bit(m.user, 0) as usize;
+    let mut count = entries;
+    for t in Bits(bits) {
+        let n = base + t;
+        let [slot, class] = own[masks::turned_place(n)];
+        count = join(
+            run,
+            sets,
+            groups,
+            buckets,
+            count,
+            n,
+            usize::from(slot),
+            usize::from(class),
+        );
     }
-    64 + masks::next_bit(m.user, (from - 64) as u32) as usize
+    count
 }
 
 // All applications of a set, n at place n, but RSVP-TE join, ascending; how many entries there are then.
@@ -181,23 +161,9 @@ fn join_all(
     requires { Slots run.now sets.now × Placed sets.now own.now (at_place m) × (1 + left (at_place m) 1 ≤ length groups.old) × (buckets.old ≡ replicate 128 0) }
     ensures { Filled run.now sets.now own.now (at_place m) groups.new result }
 {
-    let mut count = 1;
-    let mut n = next_named(m, 1);
-    while n < 128 {
-        let j = masks::turned_place(n);
-        count = join(
-            run,
-            sets,
-            groups,
-            buckets,
-            count,
-            n,
-            wide(own[j][0]),
-            wide(own[j][1]),
-        );
-        n = next_named(m, n + 1);
-    }
-    count
+    let others = masks::without(m.standard, 1);
+    let count = join_mask(run, sets, own, 0, others, groups, buckets, 1);
+    join_mask(run, sets, own, 64, m.user, groups, buckets, count)
 }
 
 // The groups of the applications of a set, RSVP-TE apart; how many entries the table has then, from 1 on.

@@ -12,7 +12,7 @@ use Rattle.linkstate.specs.Masks.{one, in_number}
 use Rattle.linkstate.proofs.ListLaws.{and_l, and_r}
 use Rattle.masks.specs.Sets.{turned_place}
 use Rattle.masks.proofs.Steps.{zero-none}
-use Rattle.srlg_ranks.proofs.Bits.{lowest}
+use Rattle.masks.specs.Sets.{Lowest}
 use Rattle.grids.specs.Slots.{cell}
 use Rattle.set_table.specs.Marks.{value_mark, value_size, total, set_mark, set_size}
 use Rattle.set_table.specs.Tables.{CellFits, row_values, Fitting, Summed, Table, slot_at, Owned, how_many, empty_row, Assigned, Begun}
@@ -20,7 +20,7 @@ use Rattle.masks.specs.declared.Applications.{Applications}
 use Rattle.masks.specs.Applications.{at_place}
 use Rattle.set_table.proofs.Marks.{none-mark, none-size, total-none}
 use Rattle.set_table.proofs.Tables.{value-at, ten-values, no_value}
-use Rattle.set_table.proofs.Bits.{lowest_bit, others, bit-low, bit-there, others-less, other-was}
+use Rattle.set_table.proofs.Bits.{other-was, gone}
 use Rattle.set_table.proofs.Owns.{placed-here, placed-other, placed-owned, placed-class}
 use Rattle.masks.proofs.Sets as sets
 
@@ -55,13 +55,9 @@ many-out p q (suc k) t h e a b = go (eqb t k) refl (many-out p q k t)
         let y : q k ≡ p k = e k (omega arith) (λ f. d (sym f)) in
         rw y (omega arith)
 
-pub many-next : (x : ℕ) (some : 0 < x) (small : x < 2 ^ 64) → how_many (in_number x) 64 ≡ how_many (in_number (others x some small)) 64 + 1
-many-next x some small =
-    let l = lowest 64 x some small in
-    let t = lowest_bit x some small in
-    many-out (in_number x) (in_number (others x some small)) 64 t l.inside
-    (λ j h n. l.cleared j ∙ ap (λ (b : Bool). in_number x j && not b) (ne_eqb j t n) ∙ and-true (in_number x j)) l.there
-    (l.cleared t ∙ ap (λ (b : Bool). in_number x t && not b) (eq-eqb t t refl) ∙ and-false (in_number x t))
+pub many-next : {x t rest : ℕ} → Lowest 64 x t rest → how_many (in_number x) 64 ≡ how_many (in_number rest) 64 + 1
+many-next {x} {t} {rest} r =
+    many-out (in_number x) (in_number rest) 64 t r.inside (λ j h n. r.cleared j ∙ ap (λ (b : Bool). in_number x j && not b) (ne_eqb j t n) ∙ and-true (in_number x j)) r.there (gone r)
 
 -- ---- places
 
@@ -84,14 +80,12 @@ not-both true e = false≢true e
 not-both false e = false≢true e
 
 pub record Assigning (own table after filled : List (List ℕ)) (base m x from k : ℕ) : Type 0 where
-  pub small : x < 2 ^ 64
   pub part : (n : ℕ) → in_number x n ≡ true → in_number m n ≡ true
   pub count : k + how_many (in_number x) 64 ≡ from + how_many (in_number m) 64
   pub is : Assigned own table after filled base (done m x) from k
 
-pub assigning-begin : (own table : List (List ℕ)) (base m from : ℕ) → Owned own → m < 2 ^ 64 → Assigning own table own table base m m from from
-assigning-begin own table base m from o h = record {
-  small = h;
+pub assigning-begin : (own table : List (List ℕ)) (base m from : ℕ) → Owned own → Assigning own table own table base m m from from
+assigning-begin own table base m from o = record {
   part = λ n e. e;
   count = refl;
   is = record {
@@ -131,40 +125,31 @@ assigning-end {own} {table} {after} {filled} {base} {m} {x} {from} {k} a e =
     was : (n : ℕ) → in_number m n ≡ true → done m x n ≡ true
     was n d = ap₂ (λ (a b : Bool). a && not b) d (ap (λ (y : ℕ). in_number y n) e ∙ zero-none n)
 
-module _ {own table after filled : List (List ℕ)} {base m x from k : ℕ} (a : Assigning own table after filled base m x from k) (some : 0 < x) where
-  abbrev low : ℕ
-  low = lowest_bit x some a.small
-
-  abbrev rest : ℕ
-  rest = others x some a.small
-
+module _ {own table after filled : List (List ℕ)} {base m x from k : ℕ} (a : Assigning own table after filled base m x from k) {low rest : ℕ} (r : Lowest 64 x low rest) where
   pub room-left : from + how_many (in_number m) 64 ≤ length table → k < length filled
-  room-left h = omega (arith, a.count, many-next x some a.small, a.is.same)
+  room-left h = omega (arith, a.count, many-next r, a.is.same)
 
   -- one that is done now was, or is the lowest
   was-done : (n : ℕ) → (n ≡ low → ⊥) → done m rest n ≡ true → done m x n ≡ true
   was-done n d e =
-      sym (ap (λ (b : Bool). in_number m n && not b) ((lowest 64 x some a.small).cleared n ∙ ap (λ (b : Bool). in_number x n && not b) (ne_eqb n low d) ∙ and-true (in_number x n))) ∙ e
+      sym (ap (λ (b : Bool). in_number m n && not b) (r.cleared n ∙ ap (λ (b : Bool). in_number x n && not b) (ne_eqb n low d) ∙ and-true (in_number x n))) ∙ e
 
   still-done : (n : ℕ) → done m x n ≡ true → done m rest n ≡ true
-  still-done n e = ap₂ (λ (y z : Bool). y && not z) (and_l (in_number m n) (not (in_number x n)) e) (gone (in_number rest n) refl)
+  still-done n e = ap₂ (λ (y z : Bool). y && not z) (and_l (in_number m n) (not (in_number x n)) e) (out (in_number rest n) refl)
     where
-      gone : (b : Bool) → in_number rest n ≡ b → b ≡ false
-      gone true f = absurd (false≢true (sym (ap not (other-was x some a.small n f)) ∙ and_r (in_number m n) (not (in_number x n)) e))
-      gone false f = refl
+      out : (b : Bool) → in_number rest n ≡ b → b ≡ false
+      out true f = absurd (false≢true (sym (ap not (other-was r n f)) ∙ and_r (in_number m n) (not (in_number x n)) e))
+      out false f = refl
 
   low-done : done m rest low ≡ true
-  low-done =
-      let t = low in
-      ap₂ (λ (y z : Bool). y && not z) (a.part t (bit-there x some a.small))
-      ((lowest 64 x some a.small).cleared t ∙ ap (λ (b : Bool). in_number x t && not b) (eq-eqb t t refl) ∙ and-false (in_number x t))
+  low-done = ap₂ (λ (y z : Bool). y && not z) (a.part low r.there) (gone r)
 
   module _ (p : ℕ) (ep : p ≡ turned_place low) (base-low : base ≤ 64) (room : from + how_many (in_number m) 64 ≤ length table) where
     abbrev place : ℕ
     place = base + p
 
     place-low : place < 128
-    place-low = omega (arith, ep, turned-low low (bit-low x some a.small))
+    place-low = omega (arith, ep, turned-low low r.inside)
 
     abbrev own' : List (List ℕ)
     own' = set after place (set (get_or after place []) 0 k)
@@ -208,19 +193,18 @@ module _ {own table after filled : List (List ℕ)} {base m x from k : ℕ} (a :
     emptied-next s g h false e = let d = eqb-false s k e in get_or-set_other filled k s empty_row [] d ∙ a.is.emptied s g (omega arith)
 
     taken_next : (s : ℕ) → from ≤ s → s < k + 1 → (b : Bool) → eqb s k ≡ b → (n : ℕ) × (n < 64) × (done m rest n ≡ true) × (slot_at own' (base + turned_place n) ≡ s)
-    taken_next s g h true e = (low, bit-low x some a.small, low-done, here-slot ∙ sym (eqb-true s k e))
+    taken_next s g h true e = (low, r.inside, low-done, here-slot ∙ sym (eqb-true s k e))
     taken_next s g h false e =
         let d = eqb-false s k e in
         let t = a.is.taken s g (omega arith) in
         let n = t.0 in
-        let other : n ≡ low → ⊥ = λ i. false≢true (sym (ap not (ap (in_number x) i ∙ bit-there x some a.small)) ∙ and_r (in_number m n) (not (in_number x n)) t.2) in
+        let other : n ≡ low → ⊥ = λ i. false≢true (sym (ap not (ap (in_number x) i ∙ r.there)) ∙ and_r (in_number m n) (not (in_number x n)) t.2) in
         (n, t.1, still-done n t.2, there-slot n other ∙ t.3)
 
     pub assigning-next : Assigning own table own' sets' base m rest from (k + 1)
     assigning-next = record {
-      small = omega (arith, others-less x some a.small, a.small);
-      part = λ n e. a.part n (other-was x some a.small n e);
-      count = omega (arith, a.count, many-next x some a.small);
+      part = λ n e. a.part n (other-was r n e);
+      count = omega (arith, a.count, many-next r);
       is = record {
         same = length-set filled k empty_row ∙ a.is.same;
         owned = placed-owned after a.is.owned place place-low k;
@@ -228,7 +212,7 @@ module _ {own table after filled : List (List ℕ)} {base m x from k : ℕ} (a :
         slots = λ n l d. slots_next n l d (eqb n low) refl;
         apart = λ i j g h d e y. apart_next i j g h d e y (eqb i low) refl (eqb j low) refl;
         others = λ q h.
-            placed-other after a.is.owned place place-low k q (λ e. h low (bit-low x some a.small) low-done (e ∙ ap (λ (i : ℕ). base + i) ep))
+            placed-other after a.is.owned place place-low k q (λ e. h low r.inside low-done (e ∙ ap (λ (i : ℕ). base + i) ep))
             ∙ a.is.others q (λ n l d. h n l (still-done n d));
         emptied = λ s g h. emptied-next s g h (eqb s k) refl;
         kept = λ s h. get_or-set_other filled k s empty_row [] (λ e. let o = a.is.order in omega arith) ∙ a.is.kept s h;

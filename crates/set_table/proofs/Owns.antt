@@ -1,7 +1,7 @@
 -- The table of slot and class by place, changed place by place. Assumes nothing.
 use Prim.Native.Nat.{ℕ, ◌+◌, ◌-◌, ◌^◌, ◌≤◌, ◌<◌}
 use mathlib.Core.Path.{◌≡◌, refl, sym, ◌∙◌, ap, ap₂}
-use mathlib.Core.Bool.{Bool, true, false, cond, ◌&&◌, ◌||◌, not, and-false}
+use mathlib.Core.Bool.{Bool, true, false, cond, ◌&&◌, ◌||◌, not, and-false, and-true}
 use mathlib.Core.List.{List, []}
 use lib.Dec.{eqb, leb}
 use lib.ListN.{length, get_or, set, length-set}
@@ -10,10 +10,9 @@ use native.Mathlib.Omega.{arith}
 use borrow.Author.Tests.{eqb-true, eqb-false, eq-eqb, ne_eqb, leb-true, leb-false}
 use Rattle.linkstate.specs.Masks.{in_number}
 use Rattle.masks.proofs.Steps.{zero-none}
-use Rattle.srlg_ranks.proofs.Bits.{lowest}
+use Rattle.masks.specs.Sets.{Lowest}
 use Rattle.srlg_sources.proofs.Marks.{At, here, there, at_row}
 use Rattle.set_table.specs.Tables.{slot_at, Owned, has_place, Gave}
-use Rattle.set_table.proofs.Bits.{lowest_bit, others, bit-low, bit-there, others-less}
 
 -- ---- one place
 
@@ -78,44 +77,34 @@ gave-none {own} base x s o e = record {
 }
 
 -- The places of a mask: that of its lowest bit, and those of the others.
-pub place-next : (base x : ℕ) (some : 0 < x) (small : x < 2 ^ 64) (p : ℕ) → eqb p (base + lowest_bit x some small) || has_place base (others x some small) p ≡ has_place base x p
+pub place-next : (base : ℕ) {x t rest : ℕ} (r : Lowest 64 x t rest) (p : ℕ) → eqb p (base + t) || has_place base rest p ≡ has_place base x p
 unfolding has_place
-place-next base x some small p = go (leb base p) refl
+place-next base {x} {t} {rest} r p = go (leb base p) refl
   where
-    t : ℕ
-    t = lowest_bit x some small
+    pick : (b : Bool) → eqb (p - base) t ≡ b → b || (in_number x (p - base) && not b) ≡ in_number x (p - base)
+    pick true e = sym (ap (in_number x) (eqb-true (p - base) t e) ∙ r.there)
+    pick false e = and-true (in_number x (p - base))
 
-    pick : (b : Bool) → eqb (p - base) (lowest_bit x some small) ≡ b → b || (in_number x (p - base) && not b) ≡ in_number x (p - base)
-    pick true e = sym (ap (in_number x) (eqb-true (p - base) (lowest_bit x some small) e) ∙ bit-there x some small)
-    pick false e = keep (in_number x (p - base))
-      where
-        keep : (b : Bool) → b && true ≡ b
-        keep true = refl
-        keep false = refl
+    move : base ≤ p → (b : Bool) → eqb (p - base) t ≡ b → eqb p (base + t) ≡ b
+    move h true e = let i = eqb-true (p - base) t e in eq-eqb p (base + t) (omega arith)
+    move h false e = let i = eqb-false (p - base) t e in ne_eqb p (base + t) (λ z. i (omega arith))
 
-    move : base ≤ p → (b : Bool) → eqb (p - base) (lowest_bit x some small) ≡ b → eqb p (base + lowest_bit x some small) ≡ b
-    move h true e = let i = eqb-true (p - base) (lowest_bit x some small) e in eq-eqb p (base + lowest_bit x some small) (omega arith)
-    move h false e = let i = eqb-false (p - base) (lowest_bit x some small) e in ne_eqb p (base + lowest_bit x some small) (λ z. i (omega arith))
-
-    go : (b : Bool) → leb base p ≡ b → eqb p (base + lowest_bit x some small) || (b && in_number (others x some small) (p - base)) ≡ b && in_number x (p - base)
+    go : (b : Bool) → leb base p ≡ b → eqb p (base + t) || (b && in_number rest (p - base)) ≡ b && in_number x (p - base)
     go true e =
-        ap₂ (λ (a b : Bool). a || b) (move (leb-true base p e) (eqb (p - base) (lowest_bit x some small)) refl) ((lowest 64 x some small).cleared (p - base))
-        ∙ pick (eqb (p - base) (lowest_bit x some small)) refl
-    go false e = let l = leb-false base p e in ap (λ (b : Bool). b || false) (ne_eqb p (base + lowest_bit x some small) (λ z. omega arith))
+        ap₂ (λ (a b : Bool). a || b) (move (leb-true base p e) (eqb (p - base) t) refl) (r.cleared (p - base)) ∙ pick (eqb (p - base) t) refl
+    go false e = let l = leb-false base p e in ap (λ (b : Bool). b || false) (ne_eqb p (base + t) (λ z. omega arith))
 
 -- What has been given, while the places of x are left.
 pub record Giving (own₀ own : List (List ℕ)) (base bits x s : ℕ) : Type 0 where
-  pub small : x < 2 ^ 64
   pub owned : Owned own
   pub gives : (after : List (List ℕ)) → Gave own after (has_place base x) s → Gave own₀ after (has_place base bits) s
 
-pub giving-next : {own₀ own : List (List ℕ)} {base bits x s : ℕ} (g : Giving own₀ own base bits x s) → base ≤ 64 → (some : 0 < x)
-    → Giving own₀ (set own (base + lowest_bit x some g.small) (set (get_or own (base + lowest_bit x some g.small) []) 0 s)) base bits (others x some g.small) s
-giving-next {own₀} {own} {base} {bits} {x} {s} g h some =
-    let p = base + lowest_bit x some g.small in
-    let l : p < 128 = omega (arith, bit-low x some g.small) in
+pub giving-next : {own₀ own : List (List ℕ)} {base bits x s t rest : ℕ} (g : Giving own₀ own base bits x s) → base ≤ 64 → Lowest 64 x t rest
+    → Giving own₀ (set own (base + t) (set (get_or own (base + t) []) 0 s)) base bits rest s
+giving-next {own₀} {own} {base} {bits} {x} {s} {t} {rest} g h r =
+    let p = base + t in
+    let l : p < 128 = omega (arith, r.inside) in
     record {
-      small = omega (arith, others-less x some g.small, g.small);
       owned = placed-owned own g.owned p l s;
-      gives = λ after q. g.gives after (gave-as (λ i a. place-next base x some g.small i) (gave_then (placed-gave own g.owned p l s) q));
+      gives = λ after q. g.gives after (gave-as (λ i a. place-next base r i) (gave_then (placed-gave own g.owned p l s) q));
     }

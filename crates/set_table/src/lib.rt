@@ -11,7 +11,7 @@ ghost use Rattle.set_table.specs.Marks.{mixed, value_mark};
 ghost use Rattle.set_table.specs.Tables.{cell_of, Table, Given, only_at, Value, entered_row, entered, Entry, to_reached, Free, to_named, Fresh, Slotted, Having, Within, Owned, has_place, Gave, how_many, empty_row, Assigned, Begun};
 ghost use Rattle.masks.specs.Applications.{at_place};
 
-use masks::Applications;
+use masks::{Applications, Bits};
 
 // The numbers of a part of a run, mixed. A rest of under four bytes is no number.
 fn mix(run: &[u8], place: usize, n: usize) -> u64
@@ -117,13 +117,6 @@ pub fn enter_link(sets: &mut [[u32; 12]], k: usize, place: usize, n: usize)
     }
 }
 
-// A slot's number, to index with.
-fn wide(x: u8) -> usize
-    ensures { result ≡ x }
-{
-    x as usize
-}
-
 // A value for the slots of some applications, each of which has none of its kind.
 fn enter_bits(
     sets: &mut [[u32; 12]],
@@ -138,12 +131,9 @@ fn enter_bits(
     requires { (base ≤ 64) × (k < 10) × Free sets.old own.now base bits k × ((run : List ℕ) × (place : ℕ) × (n : ℕ) × Table run sets.old × Entry run k place n cell mark size) }
     ensures { Given sets.old sets.new (to_reached own.now base bits k cell) × ((run : List ℕ) (place n : ℕ) → Table run sets.old → Entry run k place n cell mark size → Table run sets.new) }
 {
-    let mut x = bits;
-    while x != 0 {
-        let t = u64::trailing_zeros(x) as usize;
-        let s = wide(own[base + t][0]);
+    for t in Bits(bits) {
+        let s = usize::from(own[base + t][0]);
         enter(sets, s, k, cell, mark, size);
-        x = x & (x - 1);
     }
 }
 
@@ -197,25 +187,14 @@ pub fn enter_named(
     enter_both(run, sets, own, k, place, n, fresh);
 }
 
-// A slot's number, to keep.
-fn narrow(s: usize) -> u8
-    requires { s < 256 }
-    ensures { result ≡ s }
-{
-    s as u8
-}
-
 // Applications that take another slot's set: those of a mask as sent, whose lowest bit is at place `base`.
 pub fn give_slot(bits: u64, base: usize, s: usize, own: &mut [[u8; 2]; 128])
     requires { (base ≤ 64) × (s < 256) × Owned own.old }
     ensures { Gave own.old own.new (has_place base bits) s }
 {
-    let slot = narrow(s);
-    let mut x = bits;
-    while x != 0 {
-        let t = u64::trailing_zeros(x) as usize;
+    let slot = s as u8;
+    for t in Bits(bits) {
         own[base + t][0] = slot;
-        x = x & (x - 1);
     }
 }
 
@@ -230,16 +209,12 @@ fn assign_bits(
     requires { (base ≤ 64) × Owned own.old × (from + how_many (in_number set) 64 ≤ length sets.old) × (length sets.old ≤ 256) }
     ensures { (result ≡ from + how_many (in_number set) 64) × Assigned own.old sets.old own.new sets.new base (in_number set) from result }
 {
-    let mut x = set;
     let mut k = from;
-    while x != 0 {
-        let t = u64::trailing_zeros(x) as usize;
+    for t in Bits(set) {
         let p = masks::turned_place(t);
-        own[base + p][0] = narrow(k);
-        let row = [0u32; 12];
-        sets[k] = row;
+        own[base + p][0] = k as u8;
+        sets[k] = [0; 12];
         k += 1;
-        x = x & (x - 1);
     }
     k
 }

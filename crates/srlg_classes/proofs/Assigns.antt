@@ -15,7 +15,7 @@ use Rattle.masks.proofs.Steps.{zero-none}
 use Rattle.masks.specs.declared.Applications.{Applications}
 use Rattle.rules.specs.declared.Names.{Names}
 use Rattle.srlg_ranks.specs.Ranks.{in_words}
-use Rattle.srlg_ranks.proofs.Bits.{half_in, even-in, odd-in}
+use Rattle.masks.proofs.LowestBit.{half_in, even-in, odd-in}
 use Rattle.srlg_sources.specs.Classes.{has_source, in_class}
 use Rattle.srlg_sources.proofs.Joins.{any_same, any_none, any_out, low-source, high-source, two-words}
 use Rattle.srlg_table.specs.Blocks.{size_of, naming, in_block, block_source, Blocks}

@@ -1,5 +1,5 @@
 -- Classes given to the applications of masks. Assumes nothing.
-use Prim.Native.Nat.{ℕ, ◌+◌, ◌-◌, ◌^◌, ◌≤◌, ◌<◌}
+use Prim.Native.Nat.{ℕ, ◌+◌, ◌-◌, ◌≤◌, ◌<◌}
 use mathlib.Core.Path.{◌≡◌, refl, sym, ◌∙◌, ap, ap₂}
 use mathlib.Core.Bool.{Bool, true, false, cond, ◌&&◌, not, and-false, and-true}
 use mathlib.Core.List.{List, [], ◌∷◌}
@@ -7,14 +7,11 @@ use native.Mathlib.Omega.{arith}
 use native.Mathlib.Nat.{sub-zero}
 use borrow.Author.Tests.{eq-eqb, ne_eqb, lt-ltb, le-leb, lt-leb, ltb-true, ltb-false, leb-true}
 use lib.Dec.{eqb, ltb, leb}
-use lib.Bits.{bit_and, and_le_r}
-use lib.Count.{count_trailing_zeros}
 use lib.ListN.{length, set, length-set}
 use Rattle.linkstate.specs.Masks.{in_number}
-use Rattle.srlg.proofs.Laws.{Order, less, more, same, order}
 use Rattle.masks.proofs.Steps.{zero-none}
 use Rattle.srlg_ranks.specs.Ranks.{in_words}
-use Rattle.srlg_ranks.proofs.Bits.{lowest}
+use Rattle.masks.specs.Sets.{Lowest}
 use Rattle.srlg_sources.proofs.Marks.{At, here, there, at_row}
 use Rattle.srlg_table.proofs.Sizes.{low_bit, high_bit}
 use Rattle.srlg_classes.specs.Owned.{class_at, slot_at, Slots, Gave, in_half}
@@ -40,40 +37,29 @@ pub giving-end : (bits base c x : ℕ) (own₀ own : List (List ℕ)) → x ≡ 
 giving-end bits base c x own₀ own z so =
     record { slots = so.slots; classes = λ a l. sym (ap (λ (b : Bool). cond b c (class_at own a)) (ap (λ (y : ℕ). in_half base y a) z ∙ half-none base a)) ∙ so.classes a l }
 
--- The lowest bit that is left.
-pub record Lower (base x : ℕ) : Type 0 where
-  pub low : count_trailing_zeros 64 x < 64
-  pub less : bit_and x (x - 1) < x
-  pub there : in_half base x (base + count_trailing_zeros 64 x) ≡ true
-  pub gone : in_half base (bit_and x (x - 1)) (base + count_trailing_zeros 64 x) ≡ false
-  pub others : (a : ℕ) → (a ≡ base + count_trailing_zeros 64 x → ⊥) → in_half base (bit_and x (x - 1)) a ≡ in_half base x a
+-- The lowest bit t that is left.
+pub record Lower (base x t rest : ℕ) : Type 0 where
+  pub there : in_half base x (base + t) ≡ true
+  pub gone : in_half base rest (base + t) ≡ false
+  pub others : (a : ℕ) → (a ≡ base + t → ⊥) → in_half base rest a ≡ in_half base x a
 
-pub lower : (base x : ℕ) → 0 < x → x < 2 ^ 64 → Lower base x
+lower : (base x t rest : ℕ) → Lowest 64 x t rest → Lower base x t rest
 unfolding in_half
-lower base x h f =
-    let r = lowest 64 x h f in
-    let t = count_trailing_zeros 64 x in
+lower base x t rest r =
     let e : base + t - base ≡ t = omega arith in
     let l = r.inside in
     record {
-      low = r.inside;
-      less = smaller (order (bit_and x (x - 1)) x);
       there = rw (le-leb base (base + t) (omega arith), lt-ltb (base + t) (base + 64) (omega arith), e) r.there;
       gone = rw (le-leb base (base + t) (omega arith), lt-ltb (base + t) (base + 64) (omega arith), e) (r.cleared t ∙ rw (eq-eqb t t refl) (and-false (in_number x t)));
       others = λ a n. elsewhere a n (leb base a) refl (r.cleared (a - base));
     }
   where
-    smaller : Order (bit_and x (x - 1)) x → bit_and x (x - 1) < x
-    smaller (less l) = l
-    smaller (more l) = absurd (omega (arith, and_le_r x (x - 1)))
-    smaller (same e) = absurd (omega (arith, and_le_r x (x - 1)))
-
-    elsewhere : (a : ℕ) → (a ≡ base + count_trailing_zeros 64 x → ⊥) → (b : Bool) → leb base a ≡ b → in_number (bit_and x (x - 1)) (a - base) ≡ in_number x (a - base) && not (eqb (a - base) (count_trailing_zeros 64 x))
-        → b && (ltb a (base + 64) && in_number (bit_and x (x - 1)) (a - base)) ≡ b && (ltb a (base + 64) && in_number x (a - base))
+    elsewhere : (a : ℕ) → (a ≡ base + t → ⊥) → (b : Bool) → leb base a ≡ b → in_number rest (a - base) ≡ in_number x (a - base) && not (eqb (a - base) t)
+        → b && (ltb a (base + 64) && in_number rest (a - base)) ≡ b && (ltb a (base + 64) && in_number x (a - base))
     elsewhere a n false e g = refl
     elsewhere a n true e g =
         let l = leb-true base a e in
-        ap (λ (b : Bool). ltb a (base + 64) && b) (g ∙ rw (ne_eqb (a - base) (count_trailing_zeros 64 x) (λ q. n (omega arith))) (and-true (in_number x (a - base))))
+        ap (λ (b : Bool). ltb a (base + 64) && b) (g ∙ rw (ne_eqb (a - base) t (λ q. n (omega arith))) (and-true (in_number x (a - base))))
 
 class-set : (own : List (List ℕ)) (j s c a : ℕ) → At own j (s ∷ c ∷ []) a → class_at (set own j (s ∷ c ∷ [])) a ≡ cond (eqb a j) c (class_at own a)
 unfolding class_at
@@ -85,19 +71,19 @@ unfolding slot_at
 slot-set own j c a (here e f) = rw (f, e)
 slot-set own j c a (there n f) = rw f
 
-pub giving-next : (bits base c x : ℕ) (own₀ own : List (List ℕ)) → base ≤ 64 → 0 < x → x < 2 ^ 64 → Giving bits base c x own₀ own
-    → Giving bits base c (bit_and x (x - 1)) own₀ (set own (base + count_trailing_zeros 64 x) (slot_at own (base + count_trailing_zeros 64 x) ∷ c ∷ []))
-giving-next bits base c x own₀ own k h f so =
+pub giving-next : (bits base c x t rest : ℕ) (own₀ own : List (List ℕ)) → base ≤ 64 → Lowest 64 x t rest → Giving bits base c x own₀ own
+    → Giving bits base c rest own₀ (set own (base + t) (slot_at own (base + t) ∷ c ∷ []))
+giving-next bits base c x t rest own₀ own k l so =
     record {
       slots = slots-then own₀ own after so.slots (record { size = length-set own j pair ∙ so.slots.size; slots = λ a. slot-set own j c a (at_row own j pair a inside) });
-      classes = λ a l. go a l (at_row own j pair a inside);
+      classes = λ a h. go a h (at_row own j pair a inside);
     }
   where
-    r : Lower base x
-    r = lower base x h f
+    r : Lower base x t rest
+    r = lower base x t rest l
 
     j : ℕ
-    j = base + count_trailing_zeros 64 x
+    j = base + t
 
     pair : List ℕ
     pair = slot_at own j ∷ c ∷ []
@@ -106,14 +92,14 @@ giving-next bits base c x own₀ own k h f so =
     after = set own j pair
 
     inside : j < length own
-    inside = omega (arith, r.low, so.slots.size)
+    inside = omega (arith, l.inside, so.slots.size)
 
-    go : (a : ℕ) → a < 128 → At own j pair a → cond (in_half base (bit_and x (x - 1)) a) c (class_at after a) ≡ cond (in_half base bits a) c (class_at own₀ a)
-    go a l (here e g) =
-        ap₂ (λ (b : Bool) (y : ℕ). cond b c y) (ap (in_half base (bit_and x (x - 1))) e ∙ r.gone) (class-set own j (slot_at own j) c a (here e g) ∙ ap (λ (b : Bool). cond b c (class_at own a)) (eq-eqb a j e))
-        ∙ sym (ap (λ (b : Bool). cond b c (class_at own a)) (ap (in_half base x) e ∙ r.there)) ∙ so.classes a l
-    go a l (there n g) =
-        ap₂ (λ (b : Bool) (y : ℕ). cond b c y) (r.others a n) (class-set own j (slot_at own j) c a (there n g) ∙ ap (λ (b : Bool). cond b c (class_at own a)) (ne_eqb a j n)) ∙ so.classes a l
+    go : (a : ℕ) → a < 128 → At own j pair a → cond (in_half base rest a) c (class_at after a) ≡ cond (in_half base bits a) c (class_at own₀ a)
+    go a h (here e g) =
+        ap₂ (λ (b : Bool) (y : ℕ). cond b c y) (ap (in_half base rest) e ∙ r.gone) (class-set own j (slot_at own j) c a (here e g) ∙ ap (λ (b : Bool). cond b c (class_at own a)) (eq-eqb a j e))
+        ∙ sym (ap (λ (b : Bool). cond b c (class_at own a)) (ap (in_half base x) e ∙ r.there)) ∙ so.classes a h
+    go a h (there n g) =
+        ap₂ (λ (b : Bool) (y : ℕ). cond b c y) (r.others a n) (class-set own j (slot_at own j) c a (there n g) ∙ ap (λ (b : Bool). cond b c (class_at own a)) (ne_eqb a j n)) ∙ so.classes a h
 
 -- ---- two masks
 

@@ -13,7 +13,7 @@ ghost use Rattle.srlg_table.specs.Tables.{Rowed, Table};
 ghost use Rattle.srlg_classes.specs.Owned.{class_at, Slots, in_half, Gave, Firsts, Assigned, NamedOwn, rsvp_class, FirstOwn, Roomy};
 ghost use Rattle.srlg_classes.specs.Sided.{Sourced, Classified};
 
-use masks::Applications;
+use masks::{Applications, Bits};
 use rules::{Names, Rule};
 use srlg_table::Used;
 
@@ -30,13 +30,9 @@ fn give(bits: u64, base: usize, c: u8, own: &mut [[u8; 2]; 128])
     requires { (base ≤ 64) × (length own.old ≡ 128) }
     ensures { Gave (in_half base bits) c own.old own.new }
 {
-    let mut x = bits;
-    while x != 0 {
-        let j = base + u64::trailing_zeros(x) as usize;
-        let slot = own[j][0];
-        let pair = [slot, c];
-        own[j] = pair;
-        x = x & (x - 1);
+    for t in Bits(bits) {
+        let j = base + t;
+        own[j] = [own[j][0], c];
     }
 }
 
@@ -134,23 +130,16 @@ fn give_named(
     assign(rows, used, blocks, m, classes, heads, buckets, own, count)
 }
 
-// A byte as a number.
-fn wide(c: u8) -> usize
-    ensures { result ≡ c }
-{
-    c as usize
-}
-
 // The class of RSVP-TE by its rule: of its own numbers, where it is named without L and has some, of the general ones, else of the legacy ones. It has
 // place 7.
 fn rsvp_class(named: Names, legacy: bool, own: &[[u8; 2]; 128], first: First) -> usize
     ensures { result ≡ rsvp_class named legacy own.now first }
 {
-    let l = rules::is_named_with_l(named, 0);
-    let n = rules::is_named(named, 0);
+    let l = named.is_named_with_l(0);
+    let n = named.is_named(0);
     match rules::rsvp_te_rule(l, n, legacy) {
         Rule::NamingFirst => {
-            let c = wide(own[7][1]);
+            let c = usize::from(own[7][1]);
             if c == 0 {
                 return first.legacy;
             }
@@ -210,8 +199,8 @@ fn classify_in(
     }
 }
 
-// With room for few classes, and for as many as there can be.
-fn classify_few(
+// The same, with room for the heads and the blocks of a table of so many classes. Room that is filled with 1 is not cleared byte by byte.
+fn classify_with<const ROOM: usize>(
     rows: &[[u64; 18]],
     used: Used,
     who: Applications,
@@ -220,38 +209,11 @@ fn classify_few(
     classes: &mut [[u64; 4]],
     own: &mut [[u8; 2]; 128],
 ) -> Classes
-    requires { Roomy rows.now used named classes.old own.old × (length classes.old ≤ 16) }
+    requires { Roomy rows.now used named classes.old own.old × (length classes.old ≤ ROOM) × (ROOM ≤ 99) }
     ensures { Slots own.old own.new × ((values : List ℕ) (side : Side) → length values ≤ 64 * used.words → Sourced values rows.now used.sources side → Tells side.live named → legacy ≡ has_legacy side → Classified values rows.now classes.new own.new (in_set who) side result) }
 {
-    let mut heads = [[0u32; 2]; 16];
-    let mut blocks = [[0u64; 4]; 16];
-    classify_in(
-        rows,
-        used,
-        who,
-        named,
-        legacy,
-        classes,
-        own,
-        &mut heads,
-        &mut blocks,
-    )
-}
-
-fn classify_many(
-    rows: &[[u64; 18]],
-    used: Used,
-    who: Applications,
-    named: Names,
-    legacy: bool,
-    classes: &mut [[u64; 4]],
-    own: &mut [[u8; 2]; 128],
-) -> Classes
-    requires { Roomy rows.now used named classes.old own.old }
-    ensures { Slots own.old own.new × ((values : List ℕ) (side : Side) → length values ≤ 64 * used.words → Sourced values rows.now used.sources side → Tells side.live named → legacy ≡ has_legacy side → Classified values rows.now classes.new own.new (in_set who) side result) }
-{
-    let mut heads = [[1u32; 2]; 99];
-    let mut blocks = [[1u64; 4]; 96];
+    let mut heads = [[1u32; 2]; ROOM];
+    let mut blocks = [[1u64; 4]; ROOM];
     classify_in(
         rows,
         used,
@@ -290,7 +252,7 @@ pub fn classify(
         };
     }
     if classes.len() <= 16 {
-        return classify_few(rows, used, who, named, legacy, classes, own);
+        return classify_with::<16>(rows, used, who, named, legacy, classes, own);
     }
-    classify_many(rows, used, who, named, legacy, classes, own)
+    classify_with::<99>(rows, used, who, named, legacy, classes, own)
 }

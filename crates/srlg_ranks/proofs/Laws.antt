@@ -20,7 +20,7 @@ use Rattle.masks.proofs.Laws.{same-members}
 use Rattle.masks.proofs.Steps.{zero-none}
 use Rattle.srlg_ranks.specs.Ranks.{keep_from, in_words, picked, Within, Inside, Among, Says}
 use Rattle.srlg_ranks.proofs.Members.{member-place, member-distinct, member-append, among-distinct, below-not, ascending-same, below_at}
-use Rattle.srlg_ranks.proofs.Bits.{half_in, even-in, odd-in}
+use Rattle.masks.proofs.LowestBit.{half_in, even-in, odd-in}
 
 -- ---- numbers kept by a test of their places
 

@@ -4,13 +4,13 @@ use mathlib.Core.Path.{◌≡◌, refl, sym, ◌∙◌, ap}
 use mathlib.Core.Bool.{Bool, true, false, ◌||◌, ◌&&◌, not, false≢true}
 use mathlib.Core.List.{List, [], ◌∷◌}
 use native.Mathlib.Numerals.{add-one}
-use native.Mathlib.Nat.{lt_of_le_of_lt, pow-suc, one-mul, add-zero}
+use native.Mathlib.Nat.{pow-suc, one-mul, add-zero}
 use native.Mathlib.Omega.{arith}
 use borrow.Author.Tests.{eq-eqb, ne_eqb, eqb-true, eqb-false, ltb-true, ltb-false}
 use lib.Dec.{eqb, ltb}
-use lib.Bits.{bit_and, bit_or, and_le_l, or_zero_l}
+use lib.Bits.{bit_or, or_zero_l}
 use lib.Pow.{pow_pos, shl_exact}
-use lib.Count.{count_trailing_zeros, count_leading_zeros, leading_top}
+use lib.Count.{count_leading_zeros, leading_top}
 use lib.ListN.{length, get_or, take, drop, set, length-drop, length-take, length-append, get_or-eq_default, drop_of_length-le}
 use lib.Seq.{get_or-drop, get_or-take, get_or-set_same, get_or-set_other, drop-cons}
 use Rattle.linkstate.specs.Lists.{member, same_bytes, each, put}
@@ -23,7 +23,8 @@ use Rattle.masks.proofs.Laws.{below_suc}
 use Rattle.masks.proofs.Steps.{zero-none}
 use Rattle.srlg_ranks.specs.Ranks.{in_words, picked, Within, Inside, TopPower}
 use Rattle.srlg_ranks.proofs.Members.{or_assoc, member-place, ascending-lt, same_place}
-use Rattle.srlg_ranks.proofs.Bits.{lowest, or-none}
+use Rattle.masks.specs.Sets.{Lowest}
+use Rattle.srlg_ranks.proofs.Bits.{or-none}
 use Rattle.srlg_ranks.proofs.Laws.{keep-none, keep-first, keep-member, picked_same, share, rest, word_next, word_end}
 
 -- ---- the place of a number
@@ -195,37 +196,31 @@ module _ (x y b : List ℕ) (i : ℕ) where
 
 -- ---- the numbers of one word, one by one
 
--- The lowest bit of a word: where its number stands, and the numbers that are left.
-pub record Turn (values : List ℕ) (base x : ℕ) : Type 0 where
-  pub low : count_trailing_zeros 64 x < 64
-  pub place : base + count_trailing_zeros 64 x < length values
-  pub fits : bit_and x (x - 1) < 2 ^ 64
-  pub inside : Inside (drop base values) (bit_and x (x - 1))
-  pub next : share values base x ≡ get_or values (base + count_trailing_zeros 64 x) 0 ∷ share values base (bit_and x (x - 1))
+-- The lowest bit t of a word, and the rest of it: where its number stands, and the numbers that are left.
+pub record Turn (values : List ℕ) (base x t rest : ℕ) : Type 0 where
+  pub place : base + t < length values
+  pub inside : Inside (drop base values) rest
+  pub next : share values base x ≡ get_or values (base + t) 0 ∷ share values base rest
 
 and_left : (a b : Bool) → a ≡ false → a && b ≡ false
 and_left true b e = absurd (false≢true (sym e))
 and_left false b e = refl
 
-pub turn : (values : List ℕ) (base x : ℕ) → 0 < x → x < 2 ^ 64 → Inside (drop base values) x → Turn values base x
-turn values base x h f inside =
-    let r = lowest 64 x h f in
-    let t = count_trailing_zeros 64 x in
-    let k : t < length (drop base values) = within (ltb t (length (drop base values))) refl r.inside r.there in
+pub turn : (values : List ℕ) (base x t rest : ℕ) → Lowest 64 x t rest → Inside (drop base values) x → Turn values base x t rest
+turn values base x t rest r inside =
     let i = r.inside in
+    let k : t < length (drop base values) = within (ltb t (length (drop base values))) refl in
     record {
-      low = i;
       place = omega (arith, length-drop base values);
-      fits = lt_of_le_of_lt (and_le_l x (x - 1)) f;
       inside = λ j a b. r.cleared j ∙ and_left (in_number x j) (not (eqb j t)) (inside j a b);
       next =
-          keep-first t (in_number x) (in_number (bit_and x (x - 1))) (take 64 (drop base values)) (rw length-take (omega arith)) r.none r.there r.cleared
-          ∙ ap (λ (v : ℕ). v ∷ share values base (bit_and x (x - 1))) (get_or-take 64 (drop base values) t 0 i ∙ get_or-drop base values t 0);
+          keep-first t (in_number x) (in_number rest) (take 64 (drop base values)) (rw length-take (omega arith)) r.none r.there r.cleared
+          ∙ ap (λ (v : ℕ). v ∷ share values base rest) (get_or-take 64 (drop base values) t 0 i ∙ get_or-drop base values t 0);
     }
   where
-    within : (b : Bool) → ltb (count_trailing_zeros 64 x) (length (drop base values)) ≡ b → count_trailing_zeros 64 x < 64 → in_number x (count_trailing_zeros 64 x) ≡ true → count_trailing_zeros 64 x < length (drop base values)
-    within true e i m = ltb-true (count_trailing_zeros 64 x) (length (drop base values)) e
-    within false e i m = absurd (false≢true (sym (inside (count_trailing_zeros 64 x) (ltb-false (count_trailing_zeros 64 x) (length (drop base values)) e) i) ∙ m))
+    within : (b : Bool) → ltb t (length (drop base values)) ≡ b → t < length (drop base values)
+    within true e = ltb-true t (length (drop base values)) e
+    within false e = absurd (false≢true (sym (inside t (ltb-false t (length (drop base values)) e) r.inside) ∙ r.there))
 
 pub share-none : (values : List ℕ) (base x : ℕ) → x ≡ 0 → share values base x ≡ []
 share-none values base x e = rw e (keep-none (in_number 0) 0 (take 64 (drop base values)) (λ j h. zero-none j))

@@ -1,13 +1,12 @@
 -- The bits of sources joined, word by word and source by source. Assumes nothing.
-use Prim.Native.Nat.{ℕ, zero, suc, ◌+◌, ◌-◌, ◌*◌, ◌/◌, ◌%◌, ◌^◌, ◌≤◌, ◌<◌}
+use Prim.Native.Nat.{ℕ, zero, suc, ◌+◌, ◌*◌, ◌/◌, ◌%◌, ◌≤◌, ◌<◌}
 use mathlib.Core.Path.{◌≡◌, refl, sym, ◌∙◌, ap, ap₂}
 use mathlib.Core.Bool.{Bool, true, false, ◌||◌, ◌&&◌, not, or_assoc, or-false}
 use mathlib.Core.List.{List, [], ◌∷◌, ◌++◌}
 use native.Mathlib.Omega.{arith}
 use borrow.Author.Tests.{eq-eqb, ne_eqb, ltb-true, ltb-false}
 use lib.Dec.{eqb, ltb}
-use lib.Bits.{bit_or, bit_and, and_le_r}
-use lib.Count.{count_trailing_zeros}
+use lib.Bits.{bit_or}
 use lib.ListN.{length, get_or, set, replicate, get_or-replicate, length-set}
 use lib.Seq.{get_or-set_same, get_or-set_other}
 use Rattle.linkstate.specs.Lists.{numbers, any}
@@ -16,7 +15,7 @@ use Rattle.linkstate.proofs.ListLaws.{any_append, and_l}
 use Rattle.srlg.proofs.Laws.{Order, less, more, same, order}
 use Rattle.masks.proofs.Steps.{or-in, zero-none}
 use Rattle.srlg_ranks.specs.Ranks.{in_words}
-use Rattle.srlg_ranks.proofs.Bits.{lowest}
+use Rattle.masks.specs.Sets.{Lowest}
 use Rattle.srlg_sources.specs.Classes.{has_source, in_class}
 use Rattle.srlg_sources.specs.Sources.{InRows, in_some}
 
@@ -103,43 +102,31 @@ joined-all x₀ row x k so i h = ap (λ (y : ℕ). in_number y (i % 64)) (so.bef
 
 -- ---- sources joined
 
--- The lowest source of a word, and the others.
-pub record Next (rows : List (List ℕ)) (base y t y' : ℕ) : Type 0 where
-  pub low : t < 64
+-- The lowest source t of a word, and the others.
+pub record Next (rows : List (List ℕ)) (base y t rest : ℕ) : Type 0 where
   pub inside : base + t < length rows
-  pub less : y' < y
-  pub left : InRows rows base y'
-  pub some : (i : ℕ) → in_some rows base y i ≡ in_words (get_or rows (base + t) []) i || in_some rows base y' i
+  pub left : InRows rows base rest
+  pub some : (i : ℕ) → in_some rows base y i ≡ in_words (get_or rows (base + t) []) i || in_some rows base rest i
 
 and-not : (a : Bool) (j t : ℕ) → (j ≡ t → ⊥) → a && not (eqb j t) ≡ a
 and-not true j t n = rw (ne_eqb j t n)
 and-not false j t n = refl
 
-pub next-source : (rows : List (List ℕ)) (base y : ℕ) → 0 < y → y < 2 ^ 64 → InRows rows base y → Next rows base y (count_trailing_zeros 64 y) (bit_and y (y - 1))
+pub next-source : (rows : List (List ℕ)) (base y t rest : ℕ) → Lowest 64 y t rest → InRows rows base y → Next rows base y t rest
 unfolding in_some
-next-source rows base y h f room =
-    let r = lowest 64 y h f in
-    let t = count_trailing_zeros 64 y in
-    let y' = bit_and y (y - 1) in
+next-source rows base y t rest r room =
     record {
-      low = r.inside;
       inside = room t r.inside r.there;
-      less = smaller (order y' y);
       left = λ j l e. room j l (and_l (in_number y j) (not (eqb j t)) (sym (r.cleared j) ∙ e));
       some = λ i.
-          any_out (λ j. in_number y j && in_words (get_or rows (base + j) []) i) (λ j. in_number y' j && in_words (get_or rows (base + j) []) i) 64 t r.inside
+          any_out (λ j. in_number y j && in_words (get_or rows (base + j) []) i) (λ j. in_number rest j && in_words (get_or rows (base + j) []) i) 64 t r.inside
           (λ j l n. ap (λ (b : Bool). b && in_words (get_or rows (base + j) []) i) (r.cleared j ∙ and-not (in_number y j) j t n))
-          (ap (λ (b : Bool). b && in_words (get_or rows (base + t) []) i) (gone t (r.cleared t) r.there))
-          ∙ ap (λ (b : Bool). (b && in_words (get_or rows (base + t) []) i) || in_some rows base y' i) r.there;
+          (ap (λ (b : Bool). b && in_words (get_or rows (base + t) []) i) (gone (r.cleared t) r.there))
+          ∙ ap (λ (b : Bool). (b && in_words (get_or rows (base + t) []) i) || in_some rows base rest i) r.there;
     }
   where
-    gone : (t : ℕ) {b : Bool} → b ≡ in_number y t && not (eqb t t) → in_number y t ≡ true → b ≡ false
-    gone t e g = e ∙ rw (g, eq-eqb t t refl)
-
-    smaller : Order (bit_and y (y - 1)) y → bit_and y (y - 1) < y
-    smaller (less l) = l
-    smaller (more l) = absurd (omega (arith, and_le_r y (y - 1)))
-    smaller (same e) = absurd (omega (arith, and_le_r y (y - 1)))
+    gone : {b : Bool} → b ≡ in_number y t && not (eqb t t) → in_number y t ≡ true → b ≡ false
+    gone e g = e ∙ rw (g, eq-eqb t t refl)
 
 pub some-none : (rows : List (List ℕ)) (base i : ℕ) → in_some rows base 0 i ≡ false
 unfolding in_some

@@ -11,6 +11,7 @@ ghost use Rattle.srlg_sources.specs.Classes.{in_class, has_source};
 ghost use Rattle.srlg_sources.specs.Sources.{Small, key_of, in_rows, source_row, Marked, Ranked, Ordered, InRows, in_some};
 
 use key_sort::Key;
+use masks::Bits;
 
 // How many keys there are, and how many sources.
 #[derive(Clone, Copy)]
@@ -128,12 +129,8 @@ fn join_rows(x: &mut [u64; 16], rows: &[[u64; 18]], base: usize, set: u64, words
     requires { (length x.old ≡ 16) × (words ≤ 16) × (base ≤ 64) × InRows rows.now base set }
     ensures { (length x.new ≡ 16) × ((i : ℕ) → i < 64 * words → in_words x.new i ≡ in_words x.old i || in_some rows.now base set i) }
 {
-    let mut y = set;
-    while y != 0 {
-        let t = u64::trailing_zeros(y) as usize;
-        let row = &rows[base + t];
-        join_row(x, row, words);
-        y = y & (y - 1);
+    for t in Bits(set) {
+        join_row(x, &rows[base + t], words);
     }
 }
 

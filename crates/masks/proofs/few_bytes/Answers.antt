@@ -1,30 +1,30 @@
--- `masks::few_bytes` meets its contract: from the last byte, m is the number of the bytes passed.
--- Assumes nothing.
-use Prim.Native.Nat.{◌<◌, ◌-◌, ◌^◌}
+-- From the last byte, m is the number of the bytes passed.
+use Prim.Native.Nat.{ℕ, ◌<◌, ◌^◌}
+use Rattle.std.specs.Slice.Iter.{iter_rest}
+use Rattle.std.specs.Iterator.Adapters.{rev_source}
+use mathlib.Core.Path.{sym, ap, ◌∙◌, subst}
+use mathlib.Core.List.{List}
 use native.Mathlib.Omega.{arith}
-use Rattle.masks.proofs.Steps.{little-none, little-room, little-next, little-all}
+use Rattle.std.proofs.Common.{rules}
+use Rattle.std.proofs.lemmas.List.{nil_from_length}
+use Rattle.masks.proofs.Steps.{Passed, passed-none, passed-next, passed-all, passed-room}
 use Rattle.masks.proofs.few_bytes.Goals as goal
-use Rattle.masks.proofs.few_bytes.Goals.{In-loop-i}
+use Rattle.masks.proofs.few_bytes.Goals.{In-Some}
 
-room : (c : In-loop-i) → c.loop-i.m < 256 ^ 7
-room c =
-    little-room _ _ _ c.loop-i.invariant.1 (λ j. omega (arith, c.type_inv.s j)) c.loop-i-test.true
-    c.requires
+pub loop-b-init : goal.loop-b-init
+loop-b-init c = subst (λ (l : List ℕ). Passed c.args.s.now l 0) (sym (ap (λ i. iter_rest (rev_source i)) c.into_iter-b-iterator.ensures.into_iter_gives ∙ ap iter_rest c.rev-b-items.ensures.source ∙ (search rules))) (passed-none _)
 
-pub loop-i-init : goal.loop-i-init
-loop-i-init c = (omega arith, little-none c.args.s.now)
-
-pub overflow_cast-b : goal.overflow_cast-b
-overflow_cast-b c = omega (arith, c.type_inv.s (c.loop-i.i - 1))
+room : (c : In-Some) → (c.loop-b.m < 256 ^ 7) × (c.in-Some.b.now < 256)
+room c = passed-room _ _ _ c.loop-b.invariant (λ j. omega (arith, c.type_inv.s j)) c.requires _ _ c.in-Some.ensures.steps
 
 pub overflow_mul-m : goal.overflow_mul-m
-overflow_mul-m c = omega (arith, room (goal.at.overflow_mul-m c).In-loop-i)
+overflow_mul-m c = omega (arith, room (goal.at.overflow_mul-m c).In-Some)
 
 pub overflow_add-m : goal.overflow_add-m
-overflow_add-m c = omega (arith, room (goal.at.overflow_add-m c).In-loop-i, c.type_inv.s (c.loop-i.i - 1))
+overflow_add-m c = omega (arith, room (goal.at.overflow_add-m c).In-Some, c.from.ensures)
 
-pub loop-i-preserved : goal.loop-i-preserved
-loop-i-preserved c = (omega arith, little-next _ _ _ c.loop-i.invariant.1 c.loop-i-test.true c.loop-i.invariant.0)
+pub loop-b-preserved : goal.loop-b-preserved
+loop-b-preserved c = rw c.from.ensures (passed-next _ _ _ c.loop-b.invariant _ _ c.in-Some.ensures.steps)
 
 pub returns : goal.returns
-returns c = little-all _ _ _ c.loop-i.invariant.1 c.loop-i-test.false
+returns c = passed-all _ _ _ c.loop-b.invariant (nil_from_length _ c.in-None.ensures.steps.0)

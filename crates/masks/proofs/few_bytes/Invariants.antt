@@ -1,13 +1,8 @@
--- `masks::few_bytes` meets its contract: from the last byte, m is the number of the bytes passed.
--- Assumes nothing.
-use Prim.Native.Nat.{◌≤◌}
-use mathlib.Core.Path.{◌≡◌}
-use lib.ListN.{length, drop}
-use Rattle.masks.specs.Sets.{little_endian}
+-- From the last byte, m is the number of the bytes passed.
+use Rattle.std.specs.Slice.Iter.{iter_rest}
+use Rattle.std.specs.Iterator.Adapters.{rev_source}
+use Rattle.masks.proofs.Steps.{Passed}
 use Rattle.masks.proofs.few_bytes.Given as goal
 
-abbrev pub invariant-loop-i : goal.invariant-loop-i
-invariant-loop-i l = (l.i ≤ length l.s) × (l.m ≡ little_endian (drop l.i l.s))
-
-abbrev pub decreases-loop-i : goal.decreases-loop-i
-decreases-loop-i l = l.i
+abbrev pub invariant-loop-b : goal.invariant-loop-b
+invariant-loop-b l = Passed l.s (iter_rest (rev_source l.b-iterator)) l.m

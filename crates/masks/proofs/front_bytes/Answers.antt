@@ -1,8 +1,7 @@
--- Of eight bytes, as two fours, the first n.
-use mathlib.Core.Path.{refl}
-use native.Mathlib.Omega.{arith}
-use Rattle.masks.proofs.Steps.{front_at}
+-- Of eight bytes the first n.
+use mathlib.Core.Path.{◌∙◌}
+use Rattle.masks.proofs.Steps.{eight-all, front_all}
 use Rattle.masks.proofs.front_bytes.Goals as goal
 
 pub returns : goal.returns
-returns c = front_at _ (λ i. omega (arith, c.type_inv.s i)) _ c.requires.0 _ _ c.four_bytes-low.ensures.0 c.four_bytes-high.ensures.0 _ _ c.requires.2 refl
+returns c = front_all _ _ _ c.fits-s c.told-s (c.from_le_bytes.ensures ∙ eight-all _ c.told-s) c.requires.1

@@ -1,19 +1,12 @@
--- `masks::write_four` meets its contract. Assumes nothing.
-use lib.ListN.{length-set}
+-- Four bytes in the place of four.
+use mathlib.Core.Path.{◌∙◌, ap}
+use lib.ListN.{length}
 use native.Mathlib.Omega.{arith}
+use Rattle.linkstate.specs.Lists.{put}
 use Rattle.masks.specs.Sets.{four_bytes}
-use Rattle.masks.proofs.Steps.{put_four}
+use Rattle.masks.proofs.Steps.{put-part, four-low}
 use Rattle.masks.proofs.write_four.Goals as goal
-
-pub bounds-out-at-2 : goal.bounds-out-at-2
-bounds-out-at-2 c = simp length-set (omega arith)
-
-pub bounds-out-at-3 : goal.bounds-out-at-3
-bounds-out-at-3 c = simp length-set (omega arith)
-
-pub bounds-out-at-4 : goal.bounds-out-at-4
-bounds-out-at-4 c = simp length-set (omega arith)
 
 pub returns : goal.returns
 unfolding four_bytes
-returns c = put_four _ _ _ _ _ _ c.requires
+returns c = let e = c.copy_from_slice.ensures.after ∙ c.to_le_bytes.ensures ∙ four-low c.args.m in put-part _ _ _ _ (omega (arith, ap length e)) ∙ ap (put c.args.out.now c.args.at) e

@@ -1,9 +1,6 @@
--- `set_table::enter_bits` meets its contract: slot by slot, from the lowest bit on. Assumes nothing.
+-- Slot by slot, from the lowest bit on.
 use Rattle.set_table.proofs.Bits.{Filling}
 use Rattle.set_table.proofs.enter_bits.Given as goal
 
-abbrev pub invariant-loop-x : goal.invariant-loop-x
-invariant-loop-x l = Filling l.initial.sets l.sets l.own l.base l.bits l.x l.k l.cell l.mark l.size
-
-abbrev pub decreases-loop-x : goal.decreases-loop-x
-decreases-loop-x l = l.x
+abbrev pub invariant-loop-t : goal.invariant-loop-t
+invariant-loop-t l = Filling l.initial.sets l.sets l.own l.base l.bits l.t-iterator.0 l.k l.cell l.mark l.size

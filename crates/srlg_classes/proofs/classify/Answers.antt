@@ -16,8 +16,8 @@ returns-then-used-eq0 c = let a = c.args in
           settled-none a.rows.now a.classes.now a.own.now a.used.sources a.who a.named _ values side (omega (arith, z)) p.0 p.2 refl refl refl so tells,
     )
 
-pub classify_few-requires : goal.classify_few-requires
-classify_few-requires c = (c.requires.0 (omega arith), omega arith)
+pub classify_with-requires : goal.classify_with-requires
+classify_with-requires c = (c.requires.0 (omega arith), omega arith, omega arith)
 
-pub classify_many-requires : goal.classify_many-requires
-classify_many-requires c = c.requires.0 (omega arith)
+pub classify_with-requires-2 : goal.classify_with-requires-2
+classify_with-requires-2 c = let p = c.requires.0 (omega arith) in (p, p.few, omega arith)

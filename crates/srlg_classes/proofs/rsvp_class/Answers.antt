@@ -8,13 +8,13 @@ pub returns-then-c-eq0 : goal.returns-then-c-eq0
 unfolding class_at
 returns-then-c-eq0 c = let a = c.args in
     no_own a.named a.legacy a.own.now a.first _ _ c.is_named_with_l-l.ensures c.is_named-n.ensures _ c.rsvp_te_rule.ensures
-    c.in-NamingFirst.is _ c.wide-c.ensures c.if-c-eq0.true
+    c.in-NamingFirst.is _ c.from-c.ensures c.if-c-eq0.true
 
 pub returns-in-NamingFirst : goal.returns-in-NamingFirst
 unfolding class_at
 returns-in-NamingFirst c = let a = c.args in
     own-one a.named a.legacy a.own.now a.first _ _ c.is_named_with_l-l.ensures c.is_named-n.ensures _ c.rsvp_te_rule.ensures
-    c.in-NamingFirst.is _ c.wide-c.ensures c.if-c-eq0.false
+    c.in-NamingFirst.is _ c.from-c.ensures c.if-c-eq0.false
 
 pub returns-in-General : goal.returns-in-General
 returns-in-General c = let a = c.args in
