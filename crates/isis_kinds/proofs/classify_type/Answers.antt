@@ -1,6 +1,6 @@
 -- The classifier answers with the table: each single type by computing, the range by its law, the rest by being none of them.
 use mathlib.Core.Path.{◌∙◌}
-use Rattle.isis_kinds.proofs.classify_type.Goals.{in_default-via-then-b-lt33, in_default-via-else-b-lt33+else-b-lt40}
+use Rattle.isis_kinds.proofs.classify_type.Goals.{in_default-via-then-t-lt33, in_default-via-else-t-lt33+else-t-lt40}
 use native.Mathlib.Omega.{arith}
 use Rattle.isis_kinds.proofs.Computing.{computing}
 use Rattle.isis_kinds.proofs.Laws.{type-range, type-unknown}
@@ -40,8 +40,8 @@ returns-in-33-to-39 c = c.range_rule.ensures ∙ type-range _ (omega arith) (ome
 pub returns-in_default : goal.returns-in_default
 returns-in_default c =
     c.rule_of-in_default.ensures
-    ∙ type-unknown c.args.b (λ e. omega (arith, e)) (λ e. omega (arith, e)) (λ e. omega (arith, e)) (λ e. omega (arith, e)) (λ e. omega (arith, e)) (λ e. omega (arith, e)) (λ e. omega (arith, e))
+    ∙ type-unknown c.args.t (λ e. omega (arith, e)) (λ e. omega (arith, e)) (λ e. omega (arith, e)) (λ e. omega (arith, e)) (λ e. omega (arith, e)) (λ e. omega (arith, e)) (λ e. omega (arith, e))
     (elim c.in_default.branch [
-      | in_default-via-then-b-lt33 w ↦ λ k h g e. omega (arith, e)
-      | in_default-via-else-b-lt33+else-b-lt40 w ↦ λ k h g e. omega (arith, e)
+      | in_default-via-then-t-lt33 w ↦ λ k h g e. omega (arith, e)
+      | in_default-via-else-t-lt33+else-t-lt40 w ↦ λ k h g e. omega (arith, e)
     ])
