@@ -1,26 +1,24 @@
 -- The checks of run A, one law for each way in which one can go: an attribute and a list of them, the mask header, and an ASLA sub-TLV.
 use mathlib.Core.Path.{◌≡◌, refl, sym, ap, ◌∙◌, subst}
-use mathlib.Core.Bool.{Bool, true, false, cond, ◌&&◌}
+use mathlib.Core.Bool.{Bool, true, false, cond}
 use mathlib.Core.List.{List, [], ◌∷◌}
 use Prim.Native.Nat.{ℕ, zero, suc, ◌+◌, ◌-◌, ◌≤◌, ◌<◌}
 use native.Mathlib.Nat.{zero-add}
 use native.Mathlib.Omega.{arith}
 use borrow.Author.Tests.{lt-ltb, le-ltb, ltb-true, ltb-false, ne_eqb}
 use lib.Dec.{ltb}
-use lib.ListN.{length, take, drop, get_or, length-drop}
+use lib.ListN.{length, take, drop, length-drop}
 use lib.Seq.{take_all, take-nil, take-take, length-take-le}
 use Rattle.linkstate.specs.Replies.{run_a, accepted, fault}
-use Rattle.linkstate.specs.Elements.{elements, faults_once}
-use Rattle.linkstate.specs.Lists.{member}
-use Rattle.linkstate.specs.Bytes.{bytes_at}
-use Rattle.linkstate.proofs.WalkLaws.{type-one}
-use Rattle.frames.proofs.Laws.{IsWhole, value-length}
-use Rattle.repeats.proofs.Turns.{Once}
+use Rattle.linkstate.specs.Elements.{Element, element, elements, faults_once}
+use Rattle.repeats.specs.Walked.{Walked}
+use Rattle.repeats.proofs.Once.{Once, once-before}
 use Rattle.isis.specs.Types.{wrong_in_a}
 use Rattle.isis.specs.MaskHeader.{l_flag, header_length, mask_too_long, l_for_nobody}
 use Rattle.isis.specs.RunA.{list_elements, check_attribute, known_type, check_asla, check_a}
 use Rattle.isis_check_a.specs.declared.Header.{Header}
-use Rattle.isis_check_a.specs.declared.Masks.{Masks}
+use Rattle.std.specs.Prelude.{Option, None, Some, Result, Ok, Err}
+use Rattle.isis_check_a.specs.declared.Past.{Past}
 use Rattle.isis_check_a.specs.Headers.{header_of, too_long, for_nobody, bytes_before, masks_in}
 pub use Rattle.frames.proofs.Laws.{part_length}
 
@@ -35,30 +33,25 @@ module _ (at t : ℕ) (v : List ℕ) (n : ℕ) (l : length v ≡ n) where
   unfolding check_attribute
   attribute-wrong e = rw (l, e)
 
--- By the type that stands there, as the code reads it.
-module _ (s : List ℕ) (at t n : ℕ) (f : IsWhole 1 s at t n) where
-  pub type-read : get_or s at 0 ≡ t
-  type-read = sym (type-one s at) ∙ f.type
+-- As the code judges it.
+module _ (at t : ℕ) (v : List ℕ) (b : Bool) (e : b ≡ wrong_in_a t (length v)) where
+  pub list-fits : b ≡ false → check_attribute at t v ≡ accepted
+  list-fits h = attribute-fits at t v _ refl (sym e ∙ h)
 
-  pub by-type : (b : Bool) (ts : List ℕ) → b ≡ known_type (get_or s at 0) && member (get_or s at 0) ts → b ≡ known_type t && member t ts
-  by-type b ts e = e ∙ ap (λ (x : ℕ). known_type x && member x ts) type-read
+  pub list-wrong : b ≡ true → check_attribute at t v ≡ fault 4 run_a at
+  list-wrong h = attribute-wrong at t v _ refl (sym e ∙ h)
 
-  module _ (b : Bool) (e : b ≡ wrong_in_a (get_or s at 0) n) where
-    judged : b ≡ wrong_in_a t n
-    judged = e ∙ ap (λ (x : ℕ). wrong_in_a x n) type-read
-
-    pub list-fits : b ≡ false → check_attribute at t (bytes_at s (at + 2) n) ≡ accepted
-    list-fits h = attribute-fits _ _ _ n (value-length 1 s at t n f) (sym judged ∙ h)
-
-    pub list-wrong : b ≡ true → check_attribute at t (bytes_at s (at + 2) n) ≡ fault 4 run_a at
-    list-wrong h = attribute-wrong _ _ _ n (value-length 1 s at t n f) (sym judged ∙ h)
-
--- A check of a list that began at `from`, at a place.
+-- A check of a list that began at `from`, with those that are left.
 pub one_byte : 0 < 1
 one_byte = omega arith
 
-abbrev pub Listed : List ℕ → ℕ → ℕ → ℕ → Type 0
-Listed s from seen at = Once run_a known_type check_attribute 1 one_byte 0 s from (faults_once run_a known_type check_attribute [] (elements 1 from (drop from s))) seen at
+abbrev pub Listed : List ℕ → ℕ → ℕ → List Element → Type 0
+Listed s from = Once run_a known_type check_attribute 1 one_byte 0 s from (faults_once run_a known_type check_attribute [] (elements 1 from (drop from s)))
+
+-- Those that stood before an element: its place is that in the run.
+pub stood-before : {s : List ℕ} {from bits : ℕ} {es : List Element} (o : Listed s from bits es) {at t : ℕ} {v : List ℕ} {rest : List Element} → es ≡ element at t v ∷ rest
+    → Walked 1 s at from o.order
+stood-before {s} {from} o {at} e = let z : at - 0 ≡ at = omega arith in subst (λ (i : ℕ). Walked 1 s i from o.order) z (once-before o e)
 
 -- ---- the mask header
 
@@ -80,30 +73,30 @@ module _ (h : Header) (v : List ℕ) (e : h ≡ header_of v) where
 
 -- where its masks end in n bytes
 module _ (h : Header) (n : ℕ) where
-  pub masks-ignored : too_long h ≡ true → Masks.Ignored ≡ masks_in h n
+  pub masks-ignored : too_long h ≡ true → Ok None ≡ masks_in h n
   unfolding masks_in
   masks-ignored t = rw t
 
-  pub masks-past : too_long h ≡ false → n < bytes_before h → Masks.Past ≡ masks_in h n
+  pub masks-past : too_long h ≡ false → n < bytes_before h → Err (record { end = bytes_before h }) ≡ masks_in h n
   unfolding masks_in
   masks-past t p = rw (t, lt-ltb n (bytes_before h) p)
 
-  pub masks-end : too_long h ≡ false → bytes_before h ≤ n → Masks.End (bytes_before h) ≡ masks_in h n
+  pub masks-end : too_long h ≡ false → bytes_before h ≤ n → Ok (Some (bytes_before h)) ≡ masks_in h n
   unfolding masks_in
   masks-end t p = rw (t, le-ltb n (bytes_before h) p)
 
   -- and back, of the bytes v that have the header
   module _ (v : List ℕ) (is : h ≡ header_of v) where
-    abbrev pub Ends : Masks → Type 0
-    Ends Masks.Ignored = mask_too_long v ≡ true
-    Ends Masks.Past = (mask_too_long v ≡ false) × (n < header_length v)
-    Ends (Masks.End e) = (mask_too_long v ≡ false) × (e ≡ header_length v) × (e ≤ n)
+    abbrev pub Ends : Result (Option ℕ) Past → Type 0
+    Ends (Ok None) = mask_too_long v ≡ true
+    Ends (Err x) = (mask_too_long v ≡ false) × (n < header_length v)
+    Ends (Ok (Some e)) = (mask_too_long v ≡ false) × (e ≡ header_length v) × (e ≤ n)
 
-    pub masks-say : (m : Masks) → masks_in h n ≡ m → Ends m
+    pub masks-say : (m : Result (Option ℕ) Past) → masks_in h n ≡ m → Ends m
     unfolding masks_in
     masks-say m e = subst Ends e (go (too_long h) refl (ltb n (bytes_before h)) refl)
       where
-        go : (b : Bool) → too_long h ≡ b → (c : Bool) → ltb n (bytes_before h) ≡ c → Ends (cond b Masks.Ignored (cond c Masks.Past (Masks.End (bytes_before h))))
+        go : (b : Bool) → too_long h ≡ b → (c : Bool) → ltb n (bytes_before h) ≡ c → Ends (cond b (Ok None) (cond c (Err (record { end = bytes_before h })) (Ok (Some (bytes_before h)))))
         go true t c p = sym (header-too-long h v is) ∙ t
         go false t true p = (sym (header-too-long h v is) ∙ t, omega (arith, ltb-true n (bytes_before h) p, header-bytes h v is))
         go false t false p = (sym (header-too-long h v is) ∙ t, header-bytes h v is, ltb-false n (bytes_before h) p)

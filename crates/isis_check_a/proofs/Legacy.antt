@@ -2,12 +2,12 @@
 use mathlib.Core.Path.{◌≡◌, refl, sym, ap, ap₂, ◌∙◌, subst}
 use mathlib.Core.Bool.{Bool, true, false, cond, ◌&&◌, ◌||◌, not, false≢true}
 use mathlib.Core.List.{List, [], ◌∷◌, Memᴰ}
-use Prim.Native.Nat.{ℕ, ◌+◌, ◌≤◌, ◌<◌}
+use Prim.Native.Nat.{ℕ, ◌≤◌, ◌<◌}
 use native.Mathlib.Omega.{arith}
 use native.Mathlib.Nat.{zero-add}
 use borrow.Author.Tests.{eqb-true, lt-ltb}
 use lib.Dec.{eqb, ltb}
-use lib.ListN.{length, get_or}
+use lib.ListN.{length}
 use Rattle.linkstate.specs.Lists.{numbers, any, all, each, keep, empty}
 use Rattle.linkstate.specs.Bytes.{words, distinct, bytes_of_words}
 use Rattle.linkstate.specs.Kinds.{application_codes, is_code}
@@ -17,10 +17,7 @@ use Rattle.linkstate.specs.Elements.{Element, element, cut, elements, faults}
 use Rattle.linkstate.specs.Attributes.{Attribute, attribute, of_kind, srlgs, first_value, value_of}
 use Rattle.linkstate.specs.Sides.{has_legacy}
 use Rattle.linkstate.proofs.ListLaws.{and-false, all-mem, mem-numbers}
-use Rattle.linkstate.proofs.WalkLaws.{left, type-one, left_end, left-whole, then-first, then-second, not-accepted}
-use Rattle.frames.specs.declared.Frame.TheVariants as Frame
-use Rattle.frames.specs.Frames.{frame_in}
-use Rattle.frames.proofs.Laws.{IsWhole, frame-says}
+use Rattle.linkstate.proofs.WalkLaws.{then-first, then-second, not-accepted}
 use Rattle.isis.specs.Types.{types, code_of_type, wrong_in_a}
 use Rattle.isis.specs.RunA.{check_attribute, check_a, attributes_of, side_a}
 use Rattle.isis.proofs.TypeLaws.{every-type, tested, wrong_of_code, right-code, none-wrong}
@@ -90,33 +87,33 @@ asla-apart : for_applications 16 ≡ false
 unfolding computing for_applications
 asla-apart = refl
 
-module _ (a : List ℕ) where
-  -- What was met, with what is left at a position, is what the whole run has.
-  pub record Met (at : ℕ) (x : Bool) : Type 0 where
-    pub meets : x || any is_legacy (left 1 0 a at) ≡ any is_legacy (elements 1 0 a)
+module _ (all : List Element) where
+  -- What was met, with what is left, is what the whole run has.
+  pub record Met (rest : List Element) (x : Bool) : Type 0 where
+    pub meets : x || any is_legacy rest ≡ any is_legacy all
 
-  pub met_start : Met 0 false
+  pub met_start : Met all false
   met_start = record { meets = refl }
 
-  module _ (at : ℕ) (x : Bool) (m : Met at x) where
-    pub met-end : frame_in 1 a at ≡ Frame.End → x ≡ any is_legacy (elements 1 0 a)
+  module _ {es : List Element} {x : Bool} (m : Met es x) where
+    pub met-end : es ≡ [] → x ≡ any is_legacy all
     unfolding any
-    met-end e = sym (or-false x) ∙ ap (λ (es : List Element). x || any is_legacy es) (sym (left_end 1 (omega arith) 0 a at (frame-says 1 a at Frame.End e))) ∙ m.meets
+    met-end e = sym (or-false x) ∙ ap (λ (es : List Element). x || any is_legacy es) (sym e) ∙ m.meets
 
-    pub met-on : (n : ℕ) → IsWhole 1 a at (get_or a at 0) n → (y : Bool) → y ≡ x || for_applications (get_or a at 0) → Met (at + 2 + n) y
-    unfolding any is_legacy
-    met-on n f y e =
-        record {
-          meets = ap (λ (b : Bool). b || any is_legacy (left 1 0 a (at + 2 + n))) e
-              ∙ or_assoc x (for_applications (get_or a at 0)) (any is_legacy (left 1 0 a (at + 2 + n)))
-              ∙ ap (λ (t : ℕ). x || (for_applications t || any is_legacy (left 1 0 a (at + 2 + n)))) (sym (type-one a at))
-              ∙ ap (λ (es : List Element). x || any is_legacy es) (sym (left-whole 1 (omega arith) 0 a at n f.size f.within))
-              ∙ m.meets;
-        }
+    module _ {at t : ℕ} {v : List ℕ} {rest : List Element} (e : es ≡ element at t v ∷ rest) where
+      pub met-on : (y : Bool) → y ≡ x || for_applications t → Met rest y
+      unfolding any is_legacy
+      met-on y f =
+          record {
+            meets = ap (λ (b : Bool). b || any is_legacy rest) f
+                ∙ or_assoc x (for_applications t) (any is_legacy rest)
+                ∙ ap (λ (es : List Element). x || any is_legacy es) (sym e)
+                ∙ m.meets;
+          }
 
-    -- an ASLA is none of them
-    pub met-asla : (n : ℕ) → IsWhole 1 a at (get_or a at 0) n → get_or a at 0 ≡ 16 → Met (at + 2 + n) x
-    met-asla n f e = met-on n f x (sym (ap (λ (t : ℕ). x || for_applications t) e ∙ ap (λ (b : Bool). x || b) asla-apart ∙ or-false x))
+      -- an ASLA is none of them
+      pub met-asla : t ≡ 16 → Met rest x
+      met-asla f = met-on x (sym (ap (λ (t : ℕ). x || for_applications t) f ∙ ap (λ (b : Bool). x || b) asla-apart ∙ or-false x))
 
 -- ---- the side's legacy attributes
 

@@ -5,35 +5,31 @@ use mathlib.Core.Bool.{Bool, true, false, cond, ◌&&◌, ◌||◌, not}
 use mathlib.Core.List.{List, [], ◌∷◌, ◌++◌}
 use Prim.Native.Nat.{ℕ, ◌+◌, ◌-◌, ◌/◌, ◌%◌, ◌^◌, ◌≤◌}
 use native.Mathlib.Omega.{arith}
-use native.Mathlib.Nat.{zero-div, zero-add, add-sub_cancel_left}
+use native.Mathlib.Nat.{zero-div}
 use borrow.Author.Tests.{eqb-true, ne_eqb, ltb-false}
 use lib.Dec.{eqb, ltb}
-use lib.ListN.{length, take, drop, get_or}
+use lib.ListN.{length, take, drop}
 use lib.Seq.{drop-drop}
 use Rattle.linkstate.specs.Lists.{any, each}
 use Rattle.linkstate.specs.Bytes.{bytes_at}
 use Rattle.linkstate.specs.Masks.{bit}
 use Rattle.linkstate.proofs.Retired.{in-nobody}
 use Rattle.linkstate.specs.Replies.{Run, run_a, Verdict, accepted, refused, Refusal, fault}
-use Rattle.linkstate.specs.Elements.{Element, element, elements, faults, faults_once}
+use Rattle.linkstate.specs.Elements.{Element, element, cut, elements, faults, faults_once}
 use Rattle.linkstate.specs.Sides.{Advertisement, names}
 use Rattle.linkstate.proofs.ListLaws.{and_l, and_r, and-false, or_l, or_r}
-use Rattle.linkstate.proofs.WalkLaws.{left, type_at, type-one, each-end, each_turn}
 use Rattle.replies.specs.declared.Refusal.{Refusal as Fault}
-use Rattle.std.specs.Prelude.{Result, Ok, Err}
+use Rattle.std.specs.Prelude.{Option, None, Some, Result, Ok, Err}
 use Rattle.replies.specs.Told.{told_refusal, told_checked}
 use Rattle.rules.specs.declared.Names.{Names}
 use Rattle.rules.specs.Names.{advertised, advertised_at, Tells, Adds, Checks, Given, ChecksBehind}
 use Rattle.rules.proofs.NameLaws.{Ahead, ahead-start, ahead-end, ahead-turn, adds_none, adds-as}
-use Rattle.frames.specs.declared.Frame.TheVariants as Frame
-use Rattle.frames.specs.Frames.{frame_in}
-use Rattle.frames.proofs.Laws.{IsWhole, frame-says, turn_end, turn-cut, turn-passed, turn-refused}
+use Rattle.frames.proofs.Walks.{checked-all, check-cut, check-passed, check-refused}
 use Rattle.isis.specs.Types.{wrong_in_a}
 use Rattle.isis.specs.MaskHeader.{l_flag, sabm_length, udabm_length, header_length, mask_too_long, l_for_nobody, advertisement}
 use Rattle.isis.specs.RunA.{attributes_of, list_elements, live_asla, asla_advertisements, check_attribute, known_type, check_asla, check_a}
 use Rattle.isis_check_a.specs.declared.Header.{Header}
-use Rattle.isis_check_a.specs.declared.Masks.{Masks}
-use Rattle.isis_check_a.specs.declared.Masks.TheVariants.{Ignored, Past, End}
+use Rattle.isis_check_a.specs.declared.Past.{Past}
 use Rattle.isis_check_a.specs.Headers.{header_of, too_long, masks_in, value_in}
 use Rattle.isis_check_a.proofs.Laws.{attribute-fits, attribute-wrong, sub-tlv-asla, sub-tlv-other, header-l, header-too-long, header-bytes, drop-take, front-is, part_in, part-of-part, part-in-length, Ends, masks-say, asla-ignored, asla-past, asla-l, asla-list}
 
@@ -149,24 +145,24 @@ module _ (a : List ℕ) (at end : ℕ) (fits : end ≤ length a) (two : at + 2 +
   asla-length : length asla ≡ end - (at + 2)
   asla-length = part-in-length a end fits (at + 2) (omega arith)
 
-  said : (x : Masks) → masks_in h (end - (at + 2)) ≡ x → Ends h (end - (at + 2)) asla header-in x
+  said : (x : Result (Option ℕ) Past) → masks_in h (end - (at + 2)) ≡ x → Ends h (end - (at + 2)) asla header-in x
   said x e = masks-say h (end - (at + 2)) asla header-in x e
 
-  pub ignored-in : masks_in h (end - (at + 2)) ≡ Ignored → (m : Names) → Answers m (Ok m)
-  ignored-in e m = record { told = asla-ignored at asla (omega (arith, asla-length)) (said Ignored e); names = asla-none at asla (said Ignored e) m }
+  pub ignored-in : masks_in h (end - (at + 2)) ≡ Ok None → (m : Names) → Answers m (Ok m)
+  ignored-in e m = record { told = asla-ignored at asla (omega (arith, asla-length)) (said (Ok None) e); names = asla-none at asla (said (Ok None) e) m }
 
-  pub past-in : masks_in h (end - (at + 2)) ≡ Past → fault 3 run_a at ≡ check_asla at asla
-  past-in e = let s = said Past e in asla-past at asla (omega (arith, asla-length)) s.0 (omega (arith, asla-length, s.1))
+  pub past-in : (x : Past) → masks_in h (end - (at + 2)) ≡ Err x → fault 3 run_a at ≡ check_asla at asla
+  past-in x e = let s = said (Err x) e in asla-past at asla (omega (arith, asla-length)) s.0 (omega (arith, asla-length, s.1))
 
-  module _ (list : ℕ) (e : masks_in h (end - (at + 2)) ≡ End list) where
+  module _ (list : ℕ) (e : masks_in h (end - (at + 2)) ≡ Ok (Some list)) where
     short-in : mask_too_long asla ≡ false
-    short-in = (said (End list) e).0
+    short-in = (said (Ok (Some list)) e).0
 
     list-is : list ≡ header_length asla
-    list-is = (said (End list) e).1
+    list-is = (said (Ok (Some list)) e).1
 
     pub list-in : at + 2 + list ≤ end
-    list-in = omega (arith, (said (End list) e).2)
+    list-in = omega (arith, (said (Ok (Some list)) e).2)
 
     pub masks-in : (h.standard ≤ 8) × (h.user ≤ 8) × (at + 2 + 2 + h.standard + h.user ≤ end)
     masks-in =
@@ -202,75 +198,68 @@ pub other-nobody : (at t : ℕ) (v : List ℕ) → (t ≡ 16 → ⊥) → asla_a
 unfolding asla_advertisements
 other-nobody at t v h = rw (ne_eqb t 16 h)
 
--- ---- one turn of the checks of a run whose elements give these advertisements
+-- ---- the turns of a loop that checks the elements `all` of a run and notes the advertisements that they give
 
-module _ (run : Run) (check : ℕ → ℕ → List ℕ → Verdict) (f : Element → List Advertisement) (s : List ℕ) where
-  -- what is left at a position passes or not as the whole run does, and with whom was met names whom the run names
-  pub record Walked (at : ℕ) (m : Names) : Type 0 where
-    pub verdict : faults run check (left 1 0 s at) ≡ faults run check (elements 1 0 s)
-    pub ahead : Ahead (each f (left 1 0 s at)) (each f (elements 1 0 s)) m
+module _ (run : Run) (check : ℕ → ℕ → List ℕ → Verdict) (f : Element → List Advertisement) (all : List Element) where
+  -- what is left passes or not as the whole does, and with whom was met names whom the whole names
+  pub record Walked (rest : List Element) (m : Names) : Type 0 where
+    pub verdict : faults run check rest ≡ faults run check all
+    pub ahead : Ahead (each f rest) (each f all) m
 
   abbrev Told : Result Names Fault → Type 0
-  Told r = Checks (faults run check (elements 1 0 s)) (each f (elements 1 0 s)) r
+  Told r = Checks (faults run check all) (each f all) r
 
-  pub walked_start : (m : Names) → Tells [] m → Walked 0 m
-  walked_start m t = record { verdict = refl; ahead = ahead-start (each f (elements 1 0 s)) m t }
+  pub walked_start : (m : Names) → Tells [] m → Walked all m
+  walked_start m t = record { verdict = refl; ahead = ahead-start (each f all) m t }
 
-  module _ (at : ℕ) (m : Names) (w : Walked at m) where
-    pub walked_end : frame_in 1 s at ≡ Frame.End → Told (Ok m)
+  module _ {es : List Element} {m : Names} (w : Walked es m) where
+    pub walked_end : es ≡ [] → Told (Ok m)
+    unfolding each
     walked_end e =
-        record {
-          told = turn_end run check 1 (omega arith) 0 s at e ∙ w.verdict;
-          names = ahead-end (each f (left 1 0 s at)) (each f (elements 1 0 s)) m (each-end f 1 (omega arith) 0 s at (frame-says 1 s at Frame.End e)) w.ahead;
-        }
+        record { told = checked-all run check e ∙ w.verdict; names = ahead-end (each f es) (each f all) m (ap (each f) e) w.ahead }
 
-    pub walked-cut : frame_in 1 s at ≡ Frame.Cut → fault 3 run at ≡ faults run check (elements 1 0 s)
-    walked-cut e = turn-cut run check 1 (omega arith) 0 s at at (sym (zero-add at)) e ∙ w.verdict
+    pub walked-cut : {at : ℕ} {rest : List Element} → es ≡ cut at ∷ rest → fault 3 run at ≡ faults run check all
+    walked-cut e = check-cut run check e ∙ w.verdict
 
-    module _ (n : ℕ) (whole : IsWhole 1 s at (get_or s at 0) n) where
-      abbrev next : ℕ
-      next = at + 2 + n
+    module _ {at t : ℕ} {v : List ℕ} {rest : List Element} (e : es ≡ element at t v ∷ rest) where
+      left-turn : each f es ≡ f (element at t v) ++ each f rest
+      unfolding each
+      left-turn = ap (each f) e
 
-      value_in_lem : bytes_at s (at + 2) n ≡ value_in s at next
-      unfolding bytes_at
-      value_in_lem = sym (drop-take (at + 2) n s)
+      passed : check at t v ≡ accepted → faults run check rest ≡ faults run check all
+      passed a = check-passed run check e a ∙ w.verdict
 
-      here-is : element (0 + at) (type_at 1 s at) (bytes_at s (at + 2) n) ≡ element at (get_or s at 0) (value_in s at next)
-      here-is =
-          ap₂ (λ (o t : ℕ). element o t (bytes_at s (at + 2) n)) (zero-add at) (type-one s at) ∙ ap (λ (v : List ℕ). element at (get_or s at 0) v) value_in_lem
-
-      left-turn : each f (left 1 0 s at) ≡ f (element at (get_or s at 0) (value_in s at next)) ++ each f (left 1 0 s next)
-      left-turn = each_turn f 1 (omega arith) 0 s at n whole.size whole.within ∙ ap (λ (x : Element). f x ++ each f (left 1 0 s next)) here-is
-
-      passed : check at (get_or s at 0) (value_in s at next) ≡ accepted → faults run check (left 1 0 s next) ≡ faults run check (elements 1 0 s)
-      passed a = turn-passed run check 1 (omega arith) 0 s at at (sym (zero-add at)) _ n whole (ap (check at (get_or s at 0)) value_in_lem ∙ a) ∙ w.verdict
-
-      pub walked_stop : (r : Refusal) → check at (get_or s at 0) (value_in s at next) ≡ refused r → refused r ≡ faults run check (elements 1 0 s)
-      walked_stop r a = turn-refused run check 1 (omega arith) 0 s at at (sym (zero-add at)) _ n whole r (ap (check at (get_or s at 0)) value_in_lem ∙ a) ∙ w.verdict
+      pub walked_stop : (r : Refusal) → check at t v ≡ refused r → refused r ≡ faults run check all
+      walked_stop r a = check-refused run check e r a ∙ w.verdict
 
       -- an element that names nobody
-      pub walked-over : check at (get_or s at 0) (value_in s at next) ≡ accepted → f (element at (get_or s at 0) (value_in s at next)) ≡ [] → Walked next m
+      pub walked-over : check at t v ≡ accepted → f (element at t v) ≡ [] → Walked rest m
       walked-over a z =
           record {
             verdict = passed a;
             ahead =
-                ahead-turn (each f (left 1 0 s at)) (f (element at (get_or s at 0) (value_in s at next))) (each f (left 1 0 s next)) (each f (elements 1 0 s)) left-turn m w.ahead m
+                ahead-turn (each f es) (f (element at t v)) (each f rest) (each f all) left-turn m w.ahead m
                 (subst (λ (ds : List Advertisement). Adds m ds m) (sym z) (adds_none m));
           }
 
       -- one whose checks answer whom it names
-      module _ (r : Result Names Fault) (c : ChecksBehind m (check at (get_or s at 0) (value_in s at next)) (f (element at (get_or s at 0) (value_in s at next))) r) where
-        pub walked_on : (y : Names) → r ≡ Ok y → Walked next y
+      module _ (r : Result Names Fault) (c : ChecksBehind m (check at t v) (f (element at t v)) r) where
+        pub walked_on : (y : Names) → r ≡ Ok y → Walked rest y
         walked_on y g =
             record {
               verdict = passed (sym c.told ∙ ap told_checked g);
               ahead =
-                  ahead-turn (each f (left 1 0 s at)) (f (element at (get_or s at 0) (value_in s at next))) (each f (left 1 0 s next)) (each f (elements 1 0 s)) left-turn m w.ahead y
-                  (subst (λ (q : Result Names Fault). Given (Adds m (f (element at (get_or s at 0) (value_in s at next)))) q) g c.names);
+                  ahead-turn (each f es) (f (element at t v)) (each f rest) (each f all) left-turn m w.ahead y
+                  (subst (λ (q : Result Names Fault). Given (Adds m (f (element at t v))) q) g c.names);
             }
 
         pub walked-refused : (x : Fault) → r ≡ Err x → Told (Err x)
         walked-refused x g = record { told = walked_stop (told_refusal x) (sym c.told ∙ ap told_checked g); names = tt }
+
+-- An element that stands in a run, by its places.
+pub standing-value : (s : List ℕ) (at : ℕ) (x : List ℕ) → x ≡ bytes_at s (at + 2) (length x) → x ≡ value_in s at (at + 2 + length x)
+unfolding bytes_at
+standing-value s at x e = e ∙ sym (drop-take (at + 2) (length x) s)
 
 -- ---- the turns of run A
 
@@ -279,15 +268,13 @@ pub asla-checks : (at t : ℕ) (v : List ℕ) (m : Names) (r : Result Names Faul
 asla-checks at t v m r e c =
     record { told = c.told ∙ sub-tlv-asla at t v e; names = subst (λ (i : ℕ). Given (Adds m (asla_advertisements (element at i v))) r) (sym e) c.names }
 
-module _ (a : List ℕ) (at : ℕ) (m : Names) (w : Walked run_a check_a asla_advertisements a at m) (n : ℕ) (whole : IsWhole 1 a at (get_or a at 0) n) (h : get_or a at 0 ≡ 16 → ⊥) where
-  value-length : length (value_in a at (at + 2 + n)) ≡ n
-  value-length = part-in-length a (at + 2 + n) whole.within (at + 2) (omega arith) ∙ add-sub_cancel_left (at + 2) n
-
-  pub legacy-wrong : wrong_in_a (get_or a at 0) n ≡ true → fault 4 run_a at ≡ faults run_a check_a (elements 1 0 a)
+module _ (all : List Element) {es : List Element} {m : Names} (w : Walked run_a check_a asla_advertisements all es m)
+    {at t : ℕ} {v : List ℕ} {rest : List Element} (e : es ≡ element at t v ∷ rest) (h : t ≡ 16 → ⊥) where
+  pub legacy-wrong : wrong_in_a t (length v) ≡ true → fault 4 run_a at ≡ faults run_a check_a all
   unfolding fault
-  legacy-wrong x = walked_stop run_a check_a asla_advertisements a at m w n whole _ (sym (sub-tlv-other at (get_or a at 0) _ h) ∙ attribute-wrong at (get_or a at 0) _ n value-length x)
+  legacy-wrong x = walked_stop run_a check_a asla_advertisements all w e _ (sym (sub-tlv-other at t _ h) ∙ attribute-wrong at t _ _ refl x)
 
-  pub legacy-over : wrong_in_a (get_or a at 0) n ≡ false → Walked run_a check_a asla_advertisements a (at + 2 + n) m
+  pub legacy-over : wrong_in_a t (length v) ≡ false → Walked run_a check_a asla_advertisements all rest m
   legacy-over x =
-      walked-over run_a check_a asla_advertisements a at m w n whole
-      (sym (sub-tlv-other at (get_or a at 0) _ h) ∙ attribute-fits at (get_or a at 0) _ n value-length x) (other-nobody at (get_or a at 0) _ h)
+      walked-over run_a check_a asla_advertisements all w e
+      (sym (sub-tlv-other at t _ h) ∙ attribute-fits at t _ _ refl x) (other-nobody at t _ h)

@@ -1,6 +1,6 @@
--- What is tested of a type byte without its rule, computed for each of the 256. Assumes nothing.
+-- What is tested of a type without its rule. Assumes nothing.
 use mathlib.Core.Path.{◌≡◌, refl, sym, ap, ap₂, ◌∙◌}
-use mathlib.Core.Bool.{Bool, true, false, ◌&&◌, ◌||◌, not, false≢true}
+use mathlib.Core.Bool.{Bool, true, false, ◌&&◌, not, false≢true}
 use Prim.Native.Nat.{ℕ, ◌%◌, ◌<◌}
 use borrow.Author.Tests.{eqb-true}
 use lib.Dec.{T, eqb}
@@ -14,30 +14,46 @@ use Rattle.kinds.specs.declared.Rule.{Rule}
 use Rattle.kinds.specs.Rules.{is_known}
 use Rattle.isis_kinds.specs.Rules.{rule_of_type}
 use Rattle.isis_kinds.proofs.Computing.{computing}
+use Rattle.isis_kinds.proofs.Laws.{TypeOf, kind-read, four-in-a}
+use Rattle.isis.specs.Types.{code_of_type}
+use Rattle.linkstate.specs.Kinds.{link_codes}
+use Rattle.kinds.specs.Rules.{grid_codes}
+use Rattle.kinds.specs.declared.Kind.TheVariants.{Link, Application, Srlg, Asla, Unknown}
+use mathlib.Core.List.{List}
+use lib.ListN.{get_or}
 
-agree : (a b : Bool) → T (a && b || not a && not b) → a ≡ b
-agree true true h = refl
-agree true false h = absurd h
-agree false true h = absurd h
-agree false false h = refl
+-- None of the first codes of a table is 0.
+some_code : (codes : List ℕ) (n : ℕ) → T (every (λ i. not (eqb (get_or codes i 0) 0)) n) → (i : ℕ) → i < n → not (eqb (get_or codes i 0) 0) ≡ true
+some_code codes n all i h = from_T (every-at (λ i. not (eqb (get_or codes i 0) 0)) n all i h)
+  where
+    from_T : {b : Bool} → T b → b ≡ true
+    from_T {b = true} h = refl
+    from_T {b = false} h = absurd h
 
-either : (a b : Bool) → T (a || not b) → a ≡ false → b ≡ false
-either true b h e = absurd (false≢true (sym e))
-either false true h e = absurd h
-either false false h e = refl
+-- The types that are known, by the kind of their rule: it has a code, which is not 0.
+known_kind : (k : Kind) (c : ℕ) → TypeOf k c → is_known k ≡ not (eqb c 0)
+unfolding computing
+known_kind (Link i) c h = rw h.1 (sym (some_code link_codes 3 tt i h.0))
+known_kind (Application i) c h = rw h.1 (sym (some_code grid_codes 10 tt i h.0))
+known_kind Srlg c h = absurd h
+known_kind Asla c h = rw h
+known_kind Unknown c h = rw h
 
--- The types that are known, by the kind of their rule.
-pub known_by : (r : Rule) (t : ℕ) (k : Kind) → t < 256 → r ≡ rule_of_type t → r.kind ≡ k → is_known k ≡ known_type t
-unfolding computing known_type
-known_by r t k h e f =
-    ap is_known (sym f) ∙ ap (λ (q : Rule). is_known q.kind) e
-    ∙ agree (is_known (rule_of_type t).kind) (known_type t)
-    (every-at (λ t. is_known (rule_of_type t).kind && known_type t || not (is_known (rule_of_type t).kind) && not (known_type t)) 256 tt t h)
+pub known_by : (r : Rule) (t : ℕ) → r ≡ rule_of_type t → is_known r.kind ≡ known_type t
+unfolding known_type
+known_by r t e = known_kind r.kind (code_of_type t) (kind-read t r r.kind e refl)
 
--- The types whose bits are not set are right in four bytes.
-pub four-fits : (bits : ℕ) → T (every (λ t. in_number bits (t % 64) || not (wrong_in_a t 4)) 256) → (t n : ℕ) → t < 256 → n ≡ 4 → in_number bits (t % 64) ≡ false → false ≡ wrong_in_a t n
-four-fits bits all t n h e i =
-    sym (ap (wrong_in_a t) e ∙ either (in_number bits (t % 64)) (wrong_in_a t 4) (every-at (λ t. in_number bits (t % 64) || not (wrong_in_a t 4)) 256 all t h) i)
+-- The types whose bits are set are those that four bytes do not fit.
+module _ (bits t : ℕ) (clear : in_number bits (t % 64) ≡ false) where
+  other-than : (k : ℕ) → in_number bits (k % 64) ≡ true → eqb t k ≡ false
+  other-than k h = go (eqb t k) refl
+    where
+      go : (b : Bool) → eqb t k ≡ b → b ≡ false
+      go true e = absurd (false≢true (sym clear ∙ ap (λ (i : ℕ). in_number bits (i % 64)) (eqb-true t k e) ∙ h))
+      go false e = refl
+
+  pub four-fits : in_number bits 11 ≡ true → in_number bits 18 ≡ true → in_number bits 34 ≡ true → (n : ℕ) → n ≡ 4 → false ≡ wrong_in_a t n
+  four-fits a b c n e = sym (rw (other-than 11 a, other-than 18 b, other-than 34 c)) ∙ four-in-a t n e
 
 -- A type in a length that fits it.
 pub pair_fits : (x y : ℕ) → wrong_in_a x y ≡ false → (t n : ℕ) → eqb n y && eqb t x ≡ true → false ≡ wrong_in_a t n

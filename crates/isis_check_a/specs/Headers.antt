@@ -1,9 +1,8 @@
 -- The mask header that the code reads, and its tests: those of the bytes (`isis`, MaskHeader), said of the header.
-use Rattle.std.specs.Prelude.{Bool, cond, ◌&&◌, ◌||◌, List, ℕ, ◌+◌, eqb, ltb, take, drop}
+use Rattle.std.specs.Prelude.{Bool, cond, ◌&&◌, ◌||◌, List, ℕ, ◌+◌, eqb, ltb, take, drop, Option, None, Some, Result, Ok, Err}
 use Rattle.isis.specs.MaskHeader.{l_flag, sabm_length, udabm_length}
 use Rattle.isis_check_a.specs.declared.Header.{Header}
-use Rattle.isis_check_a.specs.declared.Masks.{Masks}
-use Rattle.isis_check_a.specs.declared.Masks.TheVariants.{Ignored, Past, End}
+use Rattle.isis_check_a.specs.declared.Past.{Past}
 
 abbrev pub header_of : List ℕ → Header
 header_of v = record { l = l_flag v; standard = sabm_length v; user = udabm_length v }
@@ -17,9 +16,9 @@ for_nobody h = h.l && eqb h.standard 0 && eqb h.user 0
 abbrev pub bytes_before : Header → ℕ
 bytes_before h = 2 + h.standard + h.user
 
--- "either length above 8, the sub-TLV is ignored unread; masks past its end, 3": the masks of a header in n bytes.
-unfoldable pub masks_in : Header → ℕ → Masks
-masks_in h n = cond (too_long h) Ignored (cond (ltb n (bytes_before h)) Past (End (bytes_before h)))
+-- Where the masks of a header end in n bytes: nowhere where one is longer than 8 bytes and the advertisement is ignored unread, else past the end or here.
+unfoldable pub masks_in : Header → ℕ → Result (Option ℕ) Past
+masks_in h n = cond (too_long h) (Ok None) (cond (ltb n (bytes_before h)) (Err (record { end = bytes_before h })) (Ok (Some (bytes_before h))))
 
 -- The value of the element that stands from `at` to `end`.
 abbrev pub value_in : List ℕ → ℕ → ℕ → List ℕ

@@ -14,7 +14,7 @@ ghost use Rattle.isis.specs.RunA.{check_attribute, known_type, check_asla, check
 ghost use Rattle.isis_check_a.specs.Legacy.{for_applications};
 ghost use Rattle.isis_check_a.specs.Headers.{header_of, too_long, for_nobody, bytes_before, masks_in, value_in};
 
-use frames::{Frame, One, frame_one};
+use frames::{Element, Elements, One};
 use replies::{Reason, Refusal, Run, refuse_at};
 use rules::{Names, SideNames};
 
@@ -61,33 +61,30 @@ pub fn header_length(h: Header) -> usize
     2 + h.standard + h.user
 }
 
-// Where the masks end in a value: nowhere, since the advertisement is ignored; past the value's end; or at this offset.
+// The masks of an advertisement are longer than its value: they would end here.
 #[derive(Clone, Copy)]
-pub enum Masks {
-    Ignored,
-    Past,
-    End(usize),
+pub struct Past {
+    pub end: usize,
 }
 
-// The masks of a header in a value of n bytes, its two length bytes among them.
-pub fn masks_within(h: Header, n: usize) -> Masks
+// Where the masks of a header end in a value of n bytes, its two length bytes among them; nowhere where the advertisement is ignored.
+pub fn masks_within(h: Header, n: usize) -> Result<Option<usize>, Past>
     requires { (h.standard < 128) × (h.user < 128) }
     ensures { result ≡ masks_in h n }
 {
     let end = header_length(h);
-    let ignored = mask_too_long(h);
     let past = n < end;
-    if ignored {
-        return Masks::Ignored;
+    if mask_too_long(h) {
+        return Ok(None);
     }
     if past {
-        return Masks::Past;
+        return Err(Past { end });
     }
-    Masks::End(end)
+    Ok(Some(end))
 }
 
 // Whether the type is known and does not let a value have n bytes, by its rule.
-fn wrong_by_rule(t: u8, n: usize) -> bool
+fn wrong_by_rule(t: usize, n: usize) -> bool
     ensures { result ≡ wrong_in_a t n }
 {
     let rule = isis_kinds::classify_type(t);
@@ -96,7 +93,7 @@ fn wrong_by_rule(t: u8, n: usize) -> bool
 }
 
 // The same; the lengths that most values have are tested first. The bits are those of the types that four bytes do not fit.
-fn wrong_length(t: u8, n: usize) -> bool
+fn wrong_length(t: usize, n: usize) -> bool
     ensures { result ≡ wrong_in_a t n }
 {
     if n == 4 {
@@ -118,7 +115,7 @@ fn wrong_length(t: u8, n: usize) -> bool
 }
 
 // Whether run A knows the type.
-fn is_known(t: u8) -> bool
+fn is_known(t: usize) -> bool
     ensures { result ≡ known_type t }
 {
     let kind = isis_kinds::classify_type(t).kind;
@@ -126,11 +123,11 @@ fn is_known(t: u8) -> bool
 }
 
 // Whether the type is known and stands before a place in its list.
-fn known_before(s: &[u8], from: usize, at: usize, t: u8) -> bool
+fn known_before(s: &[u8], from: usize, at: usize, t: usize) -> bool
     requires { (ts : List ℕ) × Walked 1 s.now at from ts }
     ensures { (ts : List ℕ) → Walked 1 s.now at from ts → result ≡ known_type t && member t ts }
 {
-    is_known(t) && repeats::stood::<One>(s, from, at, usize::from(t))
+    is_known(t) && repeats::stood::<One>(s, from, at, t)
 }
 
 // The attribute list that stands in run A from a place on, as far as s goes.
@@ -138,27 +135,24 @@ fn check_list(s: &[u8], from: usize) -> Result<(), Refusal>
     requires { from ≤ length s.now }
     ensures { told_checked result ≡ faults_once run_a known_type check_attribute [] (elements 1 from (drop from s.now)) }
 {
-    let mut at = from;
     let mut seen: u64 = 0;
-    loop {
-        match frame_one(s, at) {
-            Frame::End => return Ok(()),
-            Frame::Cut => return Err(refuse_at(Reason::Cut, Run::A, at)),
-            Frame::Whole { kind, len } => {
-                if wrong_length(s[at], len) {
-                    return Err(refuse_at(Reason::Length, Run::A, at));
-                }
-                let doubt = repeats::may_have_stood(seen, kind);
-                seen = repeats::with_kind(seen, kind);
-                if doubt {
-                    if known_before(s, from, at, s[at]) {
-                        return Err(refuse_at(Reason::Twice, Run::A, at));
-                    }
-                }
-                at = at + 2 + len;
+    for e in Elements::<One>::behind(s, from) {
+        let Element { at, kind, value } = match e {
+            Ok(e) => e,
+            Err(cut) => return Err(refuse_at(Reason::Cut, Run::A, cut.at)),
+        };
+        if wrong_length(kind, value.len()) {
+            return Err(refuse_at(Reason::Length, Run::A, at));
+        }
+        let doubt = repeats::may_have_stood(seen, kind);
+        seen = repeats::with_kind(seen, kind);
+        if doubt {
+            if known_before(s, from, at, kind) {
+                return Err(refuse_at(Reason::Twice, Run::A, at));
             }
         }
     }
+    Ok(())
 }
 
 // The ASLA sub-TLV that stands in run A from one place to another, behind elements that name `names`. With L its list is not read, whoever it names.
@@ -171,23 +165,23 @@ fn check_asla(a: &[u8], at: usize, end: usize, names: Names) -> Result<Names, Re
         return Err(refuse_at(Reason::Cut, Run::A, at));
     }
     let h = read_header(&a[value..end]);
-    match masks_within(h, end - value) {
-        Masks::Ignored => return Ok(names),
-        Masks::Past => return Err(refuse_at(Reason::Cut, Run::A, at)),
-        Masks::End(list) => {
-            let all = names.with_advertisement(h.l, h.standard, h.user, a, value + 2);
-            let l = h.l;
-            if l {
-                return Ok(all);
-            }
-            check_list(&a[0..end], value + list)?;
-            return Ok(all);
-        }
+    let Ok(masks) = masks_within(h, end - value) else {
+        return Err(refuse_at(Reason::Cut, Run::A, at));
+    };
+    let Some(list) = masks else {
+        return Ok(names);
+    };
+    let all = names.with_advertisement(h.l, h.standard, h.user, a, value + 2);
+    let l = h.l;
+    if l {
+        return Ok(all);
     }
+    check_list(&a[0..end], value + list)?;
+    Ok(all)
 }
 
 // Whether a type carries a kind of applications: 3, 14, 18 or 33 to 39, each a bit of the number.
-fn for_applications(t: u8) -> bool
+fn for_applications(t: usize) -> bool
     ensures { result ≡ for_applications t }
 {
     if 40 <= t {
@@ -203,23 +197,19 @@ pub fn check_a(a: &[u8]) -> Result<SideNames, Refusal>
 {
     let mut names = Names::nobody();
     let mut legacy = false;
-    let mut at = 0;
-    loop {
-        match frame_one(a, at) {
-            Frame::End => return Ok(SideNames { names, legacy }),
-            Frame::Cut => return Err(refuse_at(Reason::Cut, Run::A, at)),
-            Frame::Whole { kind: _, len } => {
-                let next = at + 2 + len;
-                if a[at] == 16 {
-                    names = check_asla(a, at, next, names)?;
-                } else {
-                    if wrong_length(a[at], len) {
-                        return Err(refuse_at(Reason::Length, Run::A, at));
-                    }
-                    legacy = legacy | for_applications(a[at]);
-                }
-                at = next;
+    for e in Elements::<One>::new(a, 0) {
+        let Element { at, kind, value } = match e {
+            Ok(e) => e,
+            Err(cut) => return Err(refuse_at(Reason::Cut, Run::A, cut.at)),
+        };
+        if kind == 16 {
+            names = check_asla(a, at, at + 2 + value.len(), names)?;
+        } else {
+            if wrong_length(kind, value.len()) {
+                return Err(refuse_at(Reason::Length, Run::A, at));
             }
+            legacy = legacy | for_applications(kind);
         }
     }
+    Ok(SideNames { names, legacy })
 }

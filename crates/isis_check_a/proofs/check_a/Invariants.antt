@@ -1,14 +1,16 @@
--- The invariant: what is left decides, with whom was met names whom the run names, and with the kinds that were met has what the run has.
-use Prim.Native.Nat.{◌≤◌, ◌-◌}
-use lib.ListN.{length}
+use Prim.Native.Nat.{ℕ}
+use Rattle.linkstate.specs.Elements.{elements}
 use Rattle.linkstate.specs.Replies.{run_a}
+use Rattle.frames.specs.Left.{elements_left}
+use Rattle.frames.specs.Uncut.{left}
+use mathlib.Core.Path.{◌≡◌}
 use Rattle.isis.specs.RunA.{check_a, asla_advertisements}
 use Rattle.isis_check_a.proofs.Naming.{Walked}
 use Rattle.isis_check_a.proofs.Legacy.{Met}
 use Rattle.isis_check_a.proofs.check_a.Given as goal
 
-abbrev pub invariant-loop-len : goal.invariant-loop-len
-invariant-loop-len l = (l.at ≤ length l.a) × Walked run_a check_a asla_advertisements l.a l.at l.names × Met l.a l.at l.legacy
-
-abbrev pub decreases-loop-len : goal.decreases-loop-len
-decreases-loop-len l = length l.a - l.at
+abbrev pub invariant-loop-e : goal.invariant-loop-e
+invariant-loop-e l =
+    let all = elements 1 0 l.a in
+    ((at : ℕ) × (elements_left l.e-iterator ≡ left 1 0 l.a at)) × Walked run_a check_a asla_advertisements all (elements_left l.e-iterator) l.names
+    × Met all (elements_left l.e-iterator) l.legacy

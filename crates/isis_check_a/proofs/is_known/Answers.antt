@@ -1,7 +1,7 @@
--- `isis_check_a::is_known` meets its contract: by the kind of the type's rule.
-use mathlib.Core.Path.{refl, ◌∙◌}
+-- By the kind of the type's rule.
+use mathlib.Core.Path.{◌∙◌}
 use Rattle.isis_check_a.proofs.Types.{known_by}
 use Rattle.isis_check_a.proofs.is_known.Goals as goal
 
 pub returns : goal.returns
-returns c = c.is_known.ensures ∙ known_by _ _ _ c.ranges.t.fits c.classify_type-kind.ensures refl
+returns c = c.is_known.ensures ∙ known_by _ _ c.classify_type-kind.ensures

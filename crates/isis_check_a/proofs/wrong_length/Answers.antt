@@ -6,7 +6,7 @@ use Rattle.isis_check_a.proofs.wrong_length.Goals as goal
 
 pub returns-then-not-has : goal.returns-then-not-has
 unfolding computing
-returns-then-not-has c = four-fits 0x400040800 tt c.args.t c.args.n c.ranges.t.fits c.if-n-eq4.true (sym c.has.ensures ∙ c.if-not-has.true)
+returns-then-not-has c = four-fits 0x400040800 c.args.t (sym c.has.ensures ∙ c.if-not-has.true) refl refl refl c.args.n c.if-n-eq4.true
 
 pub returns-then-n-t : goal.returns-then-n-t
 unfolding computing
