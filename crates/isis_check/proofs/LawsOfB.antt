@@ -4,20 +4,15 @@ use mathlib.Core.Bool.{Bool, true, false, cond, ◌&&◌, ◌||◌, not}
 use mathlib.Core.List.{List, [], ◌∷◌, map}
 use Prim.Native.Nat.{ℕ, zero, suc, pred, ◌+◌, ◌*◌, ◌/◌, ◌%◌, ◌≤◌, ◌<◌}
 use native.Mathlib.Omega.{arith}
-use native.Mathlib.Nat.{zero-add}
 use borrow.Author.Tests.{eqb-true, ne_eqb, eq-eqb, lt-ltb, le-ltb}
 use lib.Dec.{eqb, ltb, leb}
-use lib.ListN.{length, drop, get_or, length-drop}
+use lib.ListN.{length, drop, length-drop}
 use Rattle.linkstate.specs.Lists.{any, count}
-use Rattle.linkstate.specs.Bytes.{bytes_at}
 use Rattle.linkstate.specs.Replies.{accepted, fault, run_b}
 use Rattle.linkstate.specs.Elements.{Element, element, cut, size_of, elements_after, elements, faults}
 use Rattle.linkstate.proofs.ElementLaws.{moved, elements-moved}
-use Rattle.linkstate.proofs.ListLaws.{and-false}
-use Rattle.linkstate.proofs.WalkLaws.{left}
-use Rattle.frames.specs.declared.Frame.TheVariants.{End, Cut}
-use Rattle.frames.specs.Frames.{frame_in}
-use Rattle.frames.proofs.Laws.{IsWhole, value-length, end-left, cut_left, whole-left, turn-passed, turn-refused}
+use Rattle.std.specs.Prelude.{Option, None, Some}
+use Rattle.frames.proofs.Walks.{check-passed, check-refused}
 use Rattle.isis.specs.RunB.{identifier, known_identifiers, check_identifier, is_of_type, times, repeats, identifies}
 use Rattle.isis_check.specs.declared.Known.{Known}
 use Rattle.isis_check.specs.Identifiers.{known_of, tally_of, identified_by, identified_in, once_and_paired, identifiers_in}
@@ -45,40 +40,48 @@ unfoldable pub wrong_identifier : ℕ → ℕ → Bool
 wrong_identifier t n = any (λ q. eqb t q.type && not (eqb n q.len)) known_identifiers
 
 -- The table's lengths by the classification: an unknown type has no wrong one.
-by-known : (n t : ℕ) → wrong_identifier t n ≡ not (eqb (known_of t).weight 0) && not (eqb n (known_of t).length)
+abbrev wrong_for : ℕ → Option Known → Bool
+wrong_for n None = false
+wrong_for n (Some k) = not (eqb n k.length)
+
+by-known : (n t : ℕ) → wrong_identifier t n ≡ wrong_for n (known_of t)
 unfolding wrong_identifier known_of any known_identifiers identifier
 by-known n =
-    by-type (λ t. wrong_identifier t n ≡ not (eqb (known_of t).weight 0) && not (eqb n (known_of t).length))
+    by-type (λ t. wrong_identifier t n ≡ wrong_for n (known_of t))
     (sym (or-false (not (eqb n 8)))) (sym (or-false (not (eqb n 4)))) (sym (or-false (not (eqb n 4)))) (sym (or-false (not (eqb n 16)))) (sym (or-false (not (eqb n 16))))
     (λ t n4 n6 n8 n12 n13. simp (n4, n6, n8, n12, n13))
 
-module _ (t n : ℕ) (k : Known) (is : k ≡ known_of t) where
-  pub identifier-unknown : k.weight ≡ 0 → wrong_identifier t n ≡ false
-  identifier-unknown e = let z : (known_of t).weight ≡ 0 = sym (ap (λ (q : Known). q.weight) is) ∙ e in by-known n t ∙ rw z
+module _ (t n : ℕ) (found : Option Known) (is : found ≡ known_of t) where
+  told-by : wrong_identifier t n ≡ wrong_for n found
+  told-by = by-known n t ∙ ap (wrong_for n) (sym is)
 
-  pub identifier-right : n ≡ k.length → wrong_identifier t n ≡ false
-  identifier-right e = by-known n t ∙ rw (sym is, eq-eqb n k.length e) (and-false (not (eqb k.weight 0)))
+  pub identifier-unknown : found ≡ None → wrong_identifier t n ≡ false
+  identifier-unknown e = told-by ∙ ap (wrong_for n) e
 
-  pub identifier-wrong : (k.weight ≡ 0 → ⊥) → (n ≡ k.length → ⊥) → wrong_identifier t n ≡ true
-  identifier-wrong e f = by-known n t ∙ rw (sym is, ne_eqb k.weight 0 e, ne_eqb n k.length f)
+  module _ (k : Known) (e : found ≡ Some k) where
+    pub identifier-right : n ≡ k.length → wrong_identifier t n ≡ false
+    identifier-right f = told-by ∙ ap (wrong_for n) e ∙ rw (eq-eqb n k.length f)
+
+    pub identifier-wrong : (n ≡ k.length → ⊥) → wrong_identifier t n ≡ true
+    identifier-wrong f = told-by ∙ ap (wrong_for n) e ∙ rw (ne_eqb n k.length f)
 
 -- ---- counts
 
--- One more identifier adds its weight.
-tally-element : (o : ℕ) (v : List ℕ) (es : List Element) (t : ℕ) → tally_of (element o t v ∷ es) ≡ (known_of t).weight + tally_of es
+-- What a type weighs, and one more identifier adds that.
+abbrev pub weight_of : Option Known → ℕ
+weight_of None = 0
+weight_of (Some k) = k.weight
+
+tally-element : (o : ℕ) (v : List ℕ) (es : List Element) (t : ℕ) → tally_of (element o t v ∷ es) ≡ weight_of (known_of t) + tally_of es
 unfolding tally_of times count is_of_type known_of
 tally-element o v es =
-    by-type (λ t. tally_of (element o t v ∷ es) ≡ (known_of t).weight + tally_of es)
+    by-type (λ t. tally_of (element o t v ∷ es) ≡ weight_of (known_of t) + tally_of es)
     (omega arith) (omega arith) (omega arith) (omega arith) (omega arith)
     (λ t n4 n6 n8 n12 n13. simp (n4, n6, n8, n12, n13) (omega arith))
 
 pub tally-nil : tally_of [] ≡ 0
 unfolding tally_of times count
 tally-nil = refl
-
-pub tally-cut : (o : ℕ) → tally_of (cut o ∷ []) ≡ 0
-unfolding tally_of times count is_of_type
-tally-cut o = refl
 
 count-le : {A : Type 0} (p : A → Bool) (xs : List A) → count p xs ≤ length xs
 unfolding count
@@ -182,34 +185,30 @@ once a b c d e ha hb hc hd he =
 
 -- ---- one turn of a walk
 
-module _ (s : List ℕ) (at : ℕ) where
-  pub tally-end : frame_in 1 s at ≡ End → tally_of (left 1 0 s at) ≡ 0
-  tally-end e = ap tally_of (end-left 1 (omega arith) 0 s at e) ∙ tally-nil
+module _ {es : List Element} where
+  pub tally-cut : {at : ℕ} {rest : List Element} → es ≡ cut at ∷ rest → tally_of es ≡ tally_of rest
+  unfolding tally_of times count is_of_type
+  tally-cut e = ap tally_of e
 
-  pub tally-past : frame_in 1 s at ≡ Cut → tally_of (left 1 0 s at) ≡ 0
-  tally-past e = ap tally_of (cut_left 1 (omega arith) 0 s at e) ∙ tally-cut (0 + at)
+  pub tally-end : es ≡ [] → tally_of es ≡ 0
+  tally-end e = ap tally_of e ∙ tally-nil
 
-  module _ (n : ℕ) (f : IsWhole 1 s at (get_or s at 0) n) where
+  module _ {at t : ℕ} {v : List ℕ} {rest : List Element} (e : es ≡ element at t v ∷ rest) where
     -- the type's weight, and what is left behind it
-    pub tally-turn : (k : Known) → k ≡ known_of (get_or s at 0) → tally_of (left 1 0 s at) ≡ k.weight + tally_of (left 1 0 s (at + 2 + n))
-    tally-turn k is =
-        ap tally_of (whole-left 1 (omega arith) 0 s at _ n f)
-        ∙ tally-element (0 + at) (bytes_at s (at + 2) n) (left 1 0 s (at + 2 + n)) _
-        ∙ ap (λ (q : Known). q.weight + tally_of (left 1 0 s (at + 2 + n))) (sym is)
+    pub tally-turn : (found : Option Known) → found ≡ known_of t → tally_of es ≡ weight_of found + tally_of rest
+    tally-turn found is = ap tally_of e ∙ tally-element at v rest t ∙ ap (λ (k : Option Known). weight_of k + tally_of rest) (sym is)
 
     -- the length of this identifier
-    identifier-check : (b : Bool) → wrong_identifier (get_or s at 0) n ≡ b
-        → check_identifier at (get_or s at 0) (bytes_at s (at + 2) n) ≡ cond b (fault 4 run_b at) accepted
+    identifier-check : (b : Bool) → wrong_identifier t (length v) ≡ b → check_identifier at t v ≡ cond b (fault 4 run_b at) accepted
     unfolding check_identifier wrong_identifier
-    identifier-check b w = rw (value-length 1 s at _ n f, w)
+    identifier-check b w = rw w
 
-    pub identifier-on : wrong_identifier (get_or s at 0) n ≡ false
-        → faults run_b check_identifier (left 1 0 s (at + 2 + n)) ≡ faults run_b check_identifier (left 1 0 s at)
-    identifier-on w = turn-passed run_b check_identifier 1 (omega arith) 0 s at at (sym (zero-add at)) _ n f (identifier-check false w)
+    pub identifier-on : wrong_identifier t (length v) ≡ false → faults run_b check_identifier rest ≡ faults run_b check_identifier es
+    identifier-on w = check-passed run_b check_identifier e (identifier-check false w)
 
-    pub identifier-stop : wrong_identifier (get_or s at 0) n ≡ true → fault 4 run_b at ≡ faults run_b check_identifier (left 1 0 s at)
+    pub identifier-stop : wrong_identifier t (length v) ≡ true → fault 4 run_b at ≡ faults run_b check_identifier es
     unfolding fault
-    identifier-stop w = turn-refused run_b check_identifier 1 (omega arith) 0 s at at (sym (zero-add at)) _ n f _ (identifier-check true w)
+    identifier-stop w = check-refused run_b check_identifier e _ (identifier-check true w)
 
 -- ---- the identifiers that stand from a place on
 

@@ -5,7 +5,8 @@ use mathlib.Core.List.{List, [], ◌∷◌}
 use mathlib.Core.Logic.{◌⊎◌, inl, inr}
 use Prim.Native.Nat.{ℕ, ◌+◌, ◌-◌, ◌%◌, ◌≤◌, ◌<◌}
 use native.Mathlib.Omega.{arith}
-use borrow.Author.Tests.{lt-ltb, le-ltb, eq-eqb, ne_eqb}
+use borrow.Author.Tests.{lt-ltb, le-ltb, eq-eqb, ne_eqb, leb-true, leb-false}
+use Rattle.std.specs.Prelude.{min, leb}
 use lib.Dec.{eqb}
 use lib.ListN.{length, take, drop, get_or, length-drop, drop_of_length-le}
 use lib.Seq.{drop-drop, get_or-drop, get_or-take, length-take-le, take_all, take-nil}
@@ -15,7 +16,7 @@ use Rattle.linkstate.specs.Elements.{Element, element, elements, faults}
 use Rattle.linkstate.specs.Sides.{names}
 use Rattle.linkstate.proofs.ElementLaws.{none_left}
 use Rattle.replies.specs.declared.Refusal.{Refusal as Fault}
-use Rattle.std.specs.Prelude.{Result, Ok, Err}
+use Rattle.std.specs.Prelude.{None, Some, Result, Ok, Err}
 use Rattle.replies.specs.Told.{told_refusal, told_checked}
 use Rattle.rules.specs.declared.Names.{Names}
 use Rattle.rules.specs.Names.{advertised_at, Adds, Given, ChecksBehind}
@@ -23,7 +24,7 @@ use Rattle.rules.proofs.NameLaws.{adds_none}
 use Rattle.isis.specs.MaskHeader.{header_length, mask_too_long, l_for_nobody, advertisement}
 use Rattle.isis.specs.RunB.{identifier_bytes, identifiers, srlg_values, check_identifier, identifier, known_identifiers, times, repeats, identifies, ignored, live_srlg, check_srlg, check_b, after_neighbour, srlg_advertisement, srlg_advertisements}
 use Rattle.isis_check_a.specs.declared.Header.{Header}
-use Rattle.isis_check_a.specs.declared.Masks.TheVariants as Masks
+use Rattle.isis_check_a.specs.declared.Past.{Past}
 use Rattle.isis_check_a.specs.Headers.{header_of, masks_in, value_in}
 use Rattle.isis_check_a.proofs.Laws.{rest-is, header-l, header-bytes, masks-say, front-is, lent_length, part_in, part-of-part, part-in-length}
 use Rattle.isis_check_a.proofs.Naming.{masks-small, adds-value, adds-read}
@@ -278,21 +279,21 @@ module _ (b : List ℕ) (at end : ℕ) (fits : end ≤ length b) where
     unfolding fault
     refused-by r g e = record { told = ap refused g ∙ e; lives = tt }
 
-    pub ignored-srlg : masks_in x room ≡ Masks.Ignored → Judges (check_b at 238 value) at after (Ok false)
-    ignored-srlg e = tlv-ignored h (masks-say x room after is Masks.Ignored e)
+    pub ignored-srlg : masks_in x room ≡ Ok None → Judges (check_b at 238 value) at after (Ok false)
+    ignored-srlg e = tlv-ignored h (masks-say x room after is (Ok None) e)
 
-    pub past-srlg : masks_in x room ≡ Masks.Past → (r : Fault) → told_refusal r ≡ refusal_at 3 run_b at → Judges (check_b at 238 value) at after (Err r)
-    past-srlg e r g = let s = masks-say x room after is Masks.Past e in refused-by r g (tlv-no-list h s.0 (omega (arith, s.1)))
+    pub past-srlg : (p : Past) → masks_in x room ≡ Err p → (r : Fault) → told_refusal r ≡ refusal_at 3 run_b at → Judges (check_b at 238 value) at after (Err r)
+    past-srlg p e r g = let s = masks-say x room after is (Err p) e in refused-by r g (tlv-no-list h s.0 (omega (arith, s.1)))
 
-    module _ (masks : ℕ) (e : masks_in x room ≡ Masks.End masks) where
+    module _ (masks : ℕ) (e : masks_in x room ≡ Ok (Some masks)) where
       short-masks : mask_too_long after ≡ false
-      short-masks = (masks-say x room after is (Masks.End masks) e).0
+      short-masks = (masks-say x room after is (Ok (Some masks)) e).0
 
       masks-are : masks ≡ header_length after
-      masks-are = (masks-say x room after is (Masks.End masks) e).1
+      masks-are = (masks-say x room after is (Ok (Some masks)) e).1
 
       pub masks-end-in : at + 9 + masks + 1 ≤ end
-      masks-end-in = omega (arith, (masks-say x room after is (Masks.End masks) e).2)
+      masks-end-in = omega (arith, (masks-say x room after is (Ok (Some masks)) e).2)
 
       list-bytes : get_or b (at + 9 + masks) 0 ≡ identifier_bytes after
       list-bytes =
@@ -379,6 +380,14 @@ module _ (at t : ℕ) (value : List ℕ) where
     other-nobody = rw (ne_eqb t 238 n)
 
 -- ---- whether a 238 is live
+
+-- The lesser of two numbers is one of them.
+pub least-of : (r x y : ℕ) → r ≡ min x y → (r ≤ x) × (r ≤ y) × ((r ≡ x) ⊎ (r ≡ y))
+least-of r x y e = (omega arith, omega arith, go (leb x y) refl)
+  where
+    go : (b : Bool) → leb x y ≡ b → (r ≡ x) ⊎ (r ≡ y)
+    go true h = inl (omega (arith, leb-true x y h))
+    go false h = inr (omega (arith, leb-false x y h))
 
 -- A part that is not longer than what is there is the same part.
 pub part-within : (v : List ℕ) (from n to : ℕ) → from ≤ length v → to ≤ from + n → to ≤ length v → (to ≡ from + n) ⊎ (to ≡ length v) → take (to - from) (drop from v) ≡ take n (drop from v)

@@ -1,5 +1,5 @@
 -- What the code notes of a list of link identifiers: how often each of the five known types stands there, all in one number.
-use Rattle.std.specs.Prelude.{◌≡◌, Bool, cond, ◌&&◌, ◌||◌, not, List, ℕ, ◌+◌, ◌*◌, ◌/◌, ◌%◌, eqb, ltb, drop, Result}
+use Rattle.std.specs.Prelude.{◌≡◌, Bool, cond, ◌&&◌, ◌||◌, not, List, ℕ, ◌+◌, ◌*◌, ◌/◌, ◌%◌, eqb, ltb, drop, Option, None, Some, Result}
 use Rattle.linkstate.specs.Elements.{Element, elements}
 use Rattle.isis.specs.RunB.{times, repeats, identifies}
 use Rattle.linkstate.specs.Replies.{Verdict}
@@ -8,17 +8,17 @@ use Rattle.replies.specs.Told.{told_checked}
 use Rattle.rules.specs.Names.{Given}
 use Rattle.isis_check.specs.declared.Known.{Known}
 
-abbrev pub known : ℕ → ℕ → Known
-known n w = record { length = n; weight = w }
+abbrev pub known : ℕ → ℕ → Option Known
+known n w = Some (record { length = n; weight = w })
 
--- The length of a type and its weight in a tally, 0 for other types.
-unfoldable pub known_of : ℕ → Known
+-- The length of a known type and its weight in a tally.
+unfoldable pub known_of : ℕ → Option Known
 known_of t =
     cond (eqb t 4) (known 8 1)
     (cond (eqb t 6) (known 4 256)
     (cond (eqb t 8) (known 4 65536)
     (cond (eqb t 12) (known 16 16777216)
-    (cond (eqb t 13) (known 16 4294967296) (known 0 0)))))
+    (cond (eqb t 13) (known 16 4294967296) None))))
 
 -- The tally: each type's count is a digit to the base 256.
 unfoldable pub tally_of : List Element → ℕ

@@ -2,7 +2,7 @@
 
 #![tactic(auto)]
 
-ghost use Rattle.std.specs.Prelude.{◌≡◌, List, [], ◌∷◌, ◌⊎◌, ℕ, ◌+◌, ◌≤◌, ◌<◌, length, ◌||◌, ltb};
+ghost use Rattle.std.specs.Prelude.{◌≡◌, List, [], ◌∷◌, ℕ, ◌+◌, ◌≤◌, ◌<◌, length, ◌||◌, ltb};
 ghost use Rattle.linkstate.specs.Replies.{run_b};
 ghost use Rattle.linkstate.specs.Elements.{element, elements, faults};
 ghost use Rattle.rules.specs.Names.{Checks, ChecksBehind};
@@ -12,47 +12,30 @@ ghost use Rattle.isis_check.specs.Identifiers.{known_of, tally_of, identified_by
 ghost use Rattle.isis_check.specs.Parts.{parts_verdict, behind_in, Within, Judges};
 ghost use Rattle.isis_check.specs.Sides.{ChecksLink};
 
-use frames::{Frame, frame_one};
-use isis_check_a::{Header, Masks};
+use frames::{Element, Elements, One};
+use isis_check_a::Header;
 use replies::{Reason, Refusal, Run, refuse_at, refuse_call};
 use rules::{Names, SideNames};
 
-// A type of link identifier: the length of its value, and its weight in a tally of types, 0 where the type is none of the five known ones.
+// A known type of link identifier: the length of its value, and its weight in a tally of types.
 #[derive(Clone, Copy)]
 pub struct Known {
     pub length: usize,
     pub weight: u64,
 }
 
-fn known_identifier(t: u8) -> Known
+fn known_identifier(t: usize) -> Option<Known>
     ensures { result ≡ known_of t }
 {
-    match t {
-        4 => Known {
-            length: 8,
-            weight: 1,
-        },
-        6 => Known {
-            length: 4,
-            weight: 256,
-        },
-        8 => Known {
-            length: 4,
-            weight: 65536,
-        },
-        12 => Known {
-            length: 16,
-            weight: 16777216,
-        },
-        13 => Known {
-            length: 16,
-            weight: 4294967296,
-        },
-        _ => Known {
-            length: 0,
-            weight: 0,
-        },
-    }
+    let (length, weight) = match t {
+        4 => (8, 1),
+        6 => (4, 256),
+        8 => (4, 65536),
+        12 => (16, 16777216),
+        13 => (16, 4294967296),
+        _ => return None,
+    };
+    Some(Known { length, weight })
 }
 
 // The identifier list that stands in run B from a place on, as far as s goes, in one walk: its first refusal, or how often each known type stands in it, a byte
@@ -62,23 +45,19 @@ fn read_identifiers(s: &[u8], from: usize) -> Result<u64, Refusal>
     ensures { Lists (faults run_b check_identifier (identifiers_in s.now from)) (identifiers_in s.now from) result }
 {
     let mut tally: u64 = 0;
-    let mut at = from;
-    loop {
-        match frame_one(s, at) {
-            Frame::End => return Ok(tally),
-            Frame::Cut => return Err(refuse_at(Reason::Cut, Run::B, at)),
-            Frame::Whole { kind: _, len } => {
-                let known = known_identifier(s[at]);
-                if known.weight != 0 {
-                    if len != known.length {
-                        return Err(refuse_at(Reason::Length, Run::B, at));
-                    }
-                }
-                tally = tally + known.weight;
-                at = at + 2 + len;
+    for e in Elements::<One>::behind(s, from) {
+        let Element { at, kind, value } = match e {
+            Ok(e) => e,
+            Err(cut) => return Err(refuse_at(Reason::Cut, Run::B, cut.at)),
+        };
+        if let Some(known) = known_identifier(kind) {
+            if value.len() != known.length {
+                return Err(refuse_at(Reason::Length, Run::B, at));
             }
+            tally = tally + known.weight;
         }
     }
+    Ok(tally)
 }
 
 // How often each known type stands in an identifier list: a byte of the tally for each.
@@ -87,18 +66,15 @@ fn tally_identifiers(s: &[u8]) -> u64
     ensures { result ≡ tally_of (elements 1 0 s.now) }
 {
     let mut tally: u64 = 0;
-    let mut at = 0;
-    loop {
-        match frame_one(s, at) {
-            Frame::End => return tally,
-            Frame::Cut => return tally,
-            Frame::Whole { kind: _, len } => {
-                let known = known_identifier(s[at]);
-                tally = tally + known.weight;
-                at = at + 2 + len;
-            }
+    for e in Elements::<One>::new(s, 0) {
+        let Ok(e) = e else {
+            continue;
+        };
+        if let Some(known) = known_identifier(e.kind) {
+            tally = tally + known.weight;
         }
     }
+    tally
 }
 
 // By the counts of types 4, 6, 8, 12 and 13: none is there twice, and a 4, both 6 and 8, or both 12 and 13 are.
@@ -185,19 +161,19 @@ fn check_srlg(b: &[u8], h: Header, at: usize, end: usize) -> Result<bool, Refusa
     ensures { Judges (check_b at 238 (value_in b.now at end)) at (behind_in b.now at end) result }
 {
     let head = at + 9;
-    match isis_check_a::masks_within(h, end - head - 1) {
-        Masks::Ignored => return Ok(false),
-        Masks::Past => return Err(refuse_at(Reason::Cut, Run::B, at)),
-        Masks::End(masks) => {
-            let list = head + masks + 1;
-            let values = list + b[head + masks] as usize;
-            if end < values {
-                return Err(refuse_at(Reason::Cut, Run::B, at));
-            }
-            let l = h.l;
-            return check_parts(b, l, list, values, end, at);
-        }
+    let Ok(masks) = isis_check_a::masks_within(h, end - head - 1) else {
+        return Err(refuse_at(Reason::Cut, Run::B, at));
+    };
+    let Some(masks) = masks else {
+        return Ok(false);
+    };
+    let list = head + masks + 1;
+    let values = list + usize::from(b[head + masks]);
+    if end < values {
+        return Err(refuse_at(Reason::Cut, Run::B, at));
     }
+    let l = h.l;
+    check_parts(b, l, list, values, end, at)
 }
 
 // The same TLV, behind elements that name `names`.
@@ -223,29 +199,16 @@ pub fn check_b(b: &[u8]) -> Result<Names, Refusal>
     ensures { (c : List ℕ) → Checks (faults run_b check_b (elements 1 0 b.now)) (side_b b.now c).live result }
 {
     let mut names = Names::nobody();
-    let mut at = 0;
-    loop {
-        match frame_one(b, at) {
-            Frame::End => return Ok(names),
-            Frame::Cut => return Err(refuse_at(Reason::Cut, Run::B, at)),
-            Frame::Whole { kind: _, len } => {
-                let next = at + 2 + len;
-                if b[at] == 238 {
-                    names = check_tlv(b, at, next, names)?;
-                }
-                at = next;
-            }
+    for e in Elements::<One>::new(b, 0) {
+        let Element { at, kind, value } = match e {
+            Ok(e) => e,
+            Err(cut) => return Err(refuse_at(Reason::Cut, Run::B, cut.at)),
+        };
+        if kind == 238 {
+            names = check_tlv(b, at, at + 2 + value.len(), names)?;
         }
     }
-}
-
-fn least(x: usize, y: usize) -> usize
-    ensures { (result ≤ x) × (result ≤ y) × ((result ≡ x) ⊎ (result ≡ y)) }
-{
-    if y < x {
-        return y;
-    }
-    x
+    Ok(names)
 }
 
 // Whether a TLV 238 is live, by what follows its neighbour bytes: any bytes, also those of a TLV that the checks refuse.
@@ -259,15 +222,15 @@ pub fn live_srlg(v: &[u8]) -> bool
     if isis_check_a::l_for_nobody(h) {
         return false;
     }
-    match isis_check_a::masks_within(h, v.len() - 1) {
-        Masks::Ignored => return false,
-        Masks::Past => return false,
-        Masks::End(length_byte) => {
-            let list = length_byte + 1;
-            let end = least(list + (v[length_byte] as usize), v.len());
-            return identifies_link(&v[list..end]);
-        }
-    }
+    let Ok(masks) = isis_check_a::masks_within(h, v.len() - 1) else {
+        return false;
+    };
+    let Some(length_byte) = masks else {
+        return false;
+    };
+    let list = length_byte + 1;
+    let end = (list + usize::from(v[length_byte])).min(v.len());
+    identifies_link(&v[list..end])
 }
 
 // Whether a run is longer than it may be, by the lengths of runs A, B and C.

@@ -1,49 +1,36 @@
--- The invariant: the tally so far and that of what is left sum up.
-use mathlib.Core.Path.{◌≡◌, sym, ◌∙◌}
-use Prim.Native.Nat.{ℕ, ◌+◌}
+-- The tally so far and that of what is left sum up.
+use mathlib.Core.Path.{sym, ap, ◌∙◌}
 use native.Mathlib.Omega.{arith}
-use lib.ListN.{get_or}
-use Rattle.linkstate.proofs.WalkLaws.{left}
-use Rattle.frames.proofs.Laws.{IsWhole, is-whole-one}
+use native.Mathlib.Nat.{zero-add}
+use Rattle.frames.specs.Left.{elements_left}
+use Rattle.frames.proofs.Walks.{gave-whole, gave-cut}
+use Rattle.replies.proofs.Laws.{none-else, err-else}
 use Rattle.isis_check.specs.Identifiers.{tally_of}
-use Rattle.isis_check.proofs.LawsOfB.{tally-end, tally-past, tally-turn, tally-small}
+use Rattle.isis_check.proofs.LawsOfB.{tally-end, tally-cut, tally-turn, tally-small}
 use Rattle.isis_check.proofs.tally_identifiers.Goals as goal
-use Rattle.isis_check.proofs.tally_identifiers.Goals.{After-known_identifier-known, In-Whole}
 
--- the element is whole
-whole : (c : In-Whole) → let s = c.args.s.now in IsWhole 1 s c.loop-len.at (get_or s c.loop-len.at 0) c.in-Whole.len
-whole c = is-whole-one _ _ _ _ (sym c.frame_one.ensures ∙ c.in-Whole.is)
+pub loop-e-init : goal.loop-e-init
+loop-e-init c = zero-add _ ∙ ap tally_of (ap elements_left c.into_iter-e-iterator.ensures.into_iter_gives ∙ c.new-e-items.ensures)
 
--- its weight
-weighed : (c : After-known_identifier-known) → let left_at : ℕ → ℕ = λ i. tally_of (left 1 0 c.args.s.now i) in
-    left_at c.loop-len.at ≡ c.known_identifier-known.result.weight + left_at (c.loop-len.at + 2 + c.in-Whole.len)
-weighed c = tally-turn _ _ _ (is-whole-one _ _ _ _ (sym c.frame_one.ensures ∙ c.in-Whole.is)) _ c.known_identifier-known.ensures
-
-pub loop-len-init : goal.loop-len-init
-loop-len-init c = (omega arith, omega arith)
-
-pub returns-in-End : goal.returns-in-End
-returns-in-End c = let e = sym c.frame_one.ensures ∙ c.in-End.is in
-    omega (arith, c.loop-len.invariant.1, tally-end c.args.s.now c.loop-len.at e)
-
-pub returns-in-Cut : goal.returns-in-Cut
-returns-in-Cut c = let e = sym c.frame_one.ensures ∙ c.in-Cut.is in
-    omega (arith, c.loop-len.invariant.1, tally-past c.args.s.now c.loop-len.at e)
-
-pub bounds-s-at : goal.bounds-s-at
-bounds-s-at c = omega (arith, whole (goal.at.bounds-s-at c).In-Whole)
+pub loop-e-preserved-in_default : goal.loop-e-preserved-in_default
+loop-e-preserved-in_default c =
+    let p = err-else _ c.in_default.not-Ok in
+    omega (arith, c.loop-e.invariant, tally-cut (gave-cut p.0 p.1 c.in-Some.ensures.steps))
 
 pub overflow_add-tally : goal.overflow_add-tally
-overflow_add-tally c = omega (arith, c.loop-len.invariant.1, weighed (goal.at.overflow_add-tally c).After-known_identifier-known, tally-small 0 c.args.s.now (omega arith))
+overflow_add-tally c =
+    let w = tally-turn (gave-whole c.in-Ok.e c.in-Ok.is c.in-Some.ensures.steps) _ (sym c.in-Some-known_identifier.is ∙ c.known_identifier.ensures) in
+    omega (arith, c.loop-e.invariant, w, tally-small 0 c.args.s.now (omega arith))
 
-pub overflow_add-at : goal.overflow_add-at
-overflow_add-at c = omega (arith, whole (goal.at.overflow_add-at c).In-Whole)
+pub loop-e-preserved-in-Some-known_identifier : goal.loop-e-preserved-in-Some-known_identifier
+loop-e-preserved-in-Some-known_identifier c =
+    let w = tally-turn (gave-whole c.in-Ok.e c.in-Ok.is c.in-Some.ensures.steps) _ (sym c.in-Some-known_identifier.is ∙ c.known_identifier.ensures) in
+    omega (arith, c.loop-e.invariant, w)
 
-pub overflow_add-at-in-Whole : goal.overflow_add-at-in-Whole
-overflow_add-at-in-Whole c = omega (arith, whole (goal.at.overflow_add-at-in-Whole c).In-Whole)
+pub loop-e-preserved : goal.loop-e-preserved
+loop-e-preserved c =
+    let w = tally-turn (gave-whole c.in-Ok.e c.in-Ok.is c.in-Some.ensures.steps) _ (sym (none-else _ c.in_default-known_identifier.not-Some) ∙ c.known_identifier.ensures) in
+    omega (arith, c.loop-e.invariant, w)
 
-pub loop-len-smaller : goal.loop-len-smaller
-loop-len-smaller c = omega (arith, whole (goal.at.loop-len-smaller c).In-Whole)
-
-pub loop-len-preserved : goal.loop-len-preserved
-loop-len-preserved c = ((whole (goal.at.loop-len-preserved c).In-Whole).within, omega (arith, c.loop-len.invariant.1, weighed (goal.at.loop-len-preserved c).After-known_identifier-known))
+pub returns : goal.returns
+returns c = omega (arith, c.loop-e.invariant, tally-end c.in-None.ensures.steps.0)
