@@ -26,9 +26,10 @@ use Rattle.rivals.proofs.RunLaws.{asla-checked}
 use Rattle.linkstate.proofs.ListLaws.{and_l, and_r}
 use Rattle.bgpls_find.specs.declared.Set.{Set}
 use Rattle.bgpls_find.specs.declared.Set.TheVariants.{Top, Every, General, Naming}
-use Rattle.bgpls_find.specs.declared.Found.{Found}
-use Rattle.bgpls_find.specs.declared.Found.TheVariants.{At, Absent}
-use Rattle.bgpls_find.specs.Sets.{chosen_by, ends_before, chosen, found_in}
+use Rattle.octets.specs.declared.Span.{Span}
+use Rattle.std.specs.Prelude.{Option, Some, None}
+use Rattle.bgpls_find.specs.Sets.{chosen_by, ends_before, chosen}
+use Rattle.octets.specs.Spans.{found_in}
 use Rattle.bgpls_find.specs.Walks.{rest, Passes, any_element, aslas_from, standard_mask, user_mask, Sound, IsAsla}
 
 -- ---- the elements that are left
@@ -256,10 +257,10 @@ module _ (base : ℕ) (s : List ℕ) (at : ℕ) where
 -- ---- the first of a kind
 
 module _ (base : ℕ) (s : List ℕ) (at k : ℕ) where
-  abbrev found : ℕ → Found
+  abbrev found : ℕ → Option Span
   found i = found_in (of_kind k (attributes_left base s i))
 
-  pub first-end : length s ≤ at → Absent ≡ found at
+  pub first-end : length s ≤ at → None ≡ found at
   unfolding found_in of_kind keep
   first-end h = sym (ap (λ (ts : List Attribute). found_in (of_kind k ts)) (attributes-end base s at h))
 
@@ -267,11 +268,11 @@ module _ (base : ℕ) (s : List ℕ) (at k : ℕ) where
     turn : found at ≡ found_in (of_kind k (attribute 2 (base + at) (bytes_at s (at + 4) n) t (bytes_at s (at + 4) n) ∷ attributes_left base s (at + 4 + n)))
     turn = ap (λ (ts : List Attribute). found_in (of_kind k ts)) (attributes-turn base s at t n f)
 
-    pub first-here : t ≡ k → At (base + (at + 4)) n ≡ found at
+    pub first-here : t ≡ k → Some (record { place = base + (at + 4); len = n }) ≡ found at
     unfolding found_in of_kind keep attribute
     first-here e =
         let z : base + (at + 4) ≡ base + at + 4 = omega arith in
-        sym (turn ∙ rw (eq-eqb k t (sym e)) (ap₂ At (sym z) (length-bytes_at s (at + 4) n f.within)))
+        sym (turn ∙ rw (eq-eqb k t (sym e)) (ap₂ (λ (p l : ℕ). Some (record { place = p; len = l })) (sym z) (length-bytes_at s (at + 4) n f.within)))
 
     pub first-later : (t ≡ k → ⊥) → found (at + 4 + n) ≡ found at
     unfolding of_kind keep attribute

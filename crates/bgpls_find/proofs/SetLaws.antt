@@ -1,29 +1,28 @@
 -- The attributes of a set, list by list, and what a run that passed its checks has.
 use mathlib.Core.Path.{◌≡◌, refl, sym, ap, ap₂, ◌∙◌}
 use mathlib.Core.Bool.{Bool, true, false, cond, not}
-use mathlib.Core.List.{List, [], ◌∷◌, ◌++◌, append-nil}
+use mathlib.Core.List.{List, [], ◌++◌, append-nil}
 use Prim.Native.Nat.{ℕ, ◌+◌, ◌-◌, ◌≤◌, ◌<◌}
 use native.Mathlib.Omega.{arith}
 use borrow.Author.Tests.{ltb-false}
-use lib.Dec.{ltb, eqb}
+use lib.Dec.{ltb}
 use lib.ListN.{length, take, drop, length-drop, drop_of_length-le}
 use lib.Seq.{take-length, take-nil, length-take-le}
-use Rattle.linkstate.specs.Lists.{keep, each, empty}
+use Rattle.linkstate.specs.Lists.{each, empty}
 use Rattle.linkstate.specs.Bytes.{bytes_at}
 use Rattle.linkstate.specs.Replies.{accepted, refused_if, fault_of_call, fault, run_a, run_bgp_ls, ◌then◌}
 use Rattle.linkstate.specs.Elements.{Element, elements, faults}
-use Rattle.linkstate.specs.Attributes.{Attribute, of_kind}
+use Rattle.linkstate.specs.Attributes.{Attribute}
 use Rattle.linkstate.specs.Sides.{Advertisement, general, names, named, of_live, general_set, application_set}
 use Rattle.linkstate.specs.BgpLs.{asla_header, check_inner, check_top, run_verdict, attributes_of, advertisement, advertisements_of, inner_elements, aslas, top_level, run_side}
 use Rattle.linkstate.proofs.ElementLaws.{rest-place, none_left}
 use Rattle.linkstate.proofs.WalkLaws.{then-second, not-accepted}
 use Rattle.octets.proofs.Laws.{length-bytes_at}
-use Rattle.linkstate.proofs.ListLaws.{any-keep, keep_append}
+use Rattle.linkstate.proofs.ListLaws.{any-keep}
 use Rattle.rivals.proofs.RunLaws.{no-L, named_set}
 use Rattle.bgpls_find.specs.declared.Set.{Set}
 use Rattle.bgpls_find.specs.declared.Set.TheVariants.{Top, Every, General, Naming}
-use Rattle.bgpls_find.specs.declared.Found.TheVariants.{At, Absent}
-use Rattle.bgpls_find.specs.Sets.{is_top, chosen_by, chosen, attributes_in, found_in}
+use Rattle.bgpls_find.specs.Sets.{is_top, chosen_by, chosen, attributes_in}
 use Rattle.bgpls_find.specs.Walks.{Passes, any_element, aslas_from, attributes_from, bytes_up_to, IsAsla, IsPart, AtList, Starts}
 use Rattle.bgpls_find.proofs.Laws.{rest_end, passes-end, aslas-end, uncut}
 
@@ -176,38 +175,6 @@ module _ (set : Set) (r : List ℕ) (first next : ℕ) (a : AtList set r first n
       let l = p.on in
       let w = p.within in
       record { order = p.order; within = w; uncut = p.uncut; passes = p.passes; top = λ e. let h = a.top e in omega arith }
-
--- ---- what is found in a set
-
-module _ (k : ℕ) where
-  found-append : (xs ys : List Attribute) → found_in (of_kind k (xs ++ ys)) ≡ found_in (of_kind k xs ++ of_kind k ys)
-  unfolding of_kind
-  found-append xs ys = ap found_in (keep_append (λ t. eqb k t.code) xs ys)
-
-  -- in the first list, or else in the others
-  pub found_first : (ts xs ys : List Attribute) (p n : ℕ) → ts ≡ xs ++ ys → At p n ≡ found_in (of_kind k xs) → At p n ≡ found_in (of_kind k ts)
-  unfolding found_in
-  found_first ts xs ys p n e f = go (of_kind k xs) f ∙ sym (ap (λ (l : List Attribute). found_in (of_kind k l)) e ∙ found-append xs ys)
-    where
-      go : (l : List Attribute) → At p n ≡ found_in l → At p n ≡ found_in (l ++ of_kind k ys)
-      go [] g = absurd (let z : ◌≡◌ {A = ℕ} 0 1 = cc in omega arith)
-      go (t ∷ l) g = g
-
-  pub found-later : (ts xs ys : List Attribute) → ts ≡ xs ++ ys → Absent ≡ found_in (of_kind k xs) → found_in (of_kind k ys) ≡ found_in (of_kind k ts)
-  unfolding found_in
-  found-later ts xs ys e f = go (of_kind k xs) f ∙ sym (ap (λ (l : List Attribute). found_in (of_kind k l)) e ∙ found-append xs ys)
-    where
-      go : (l : List Attribute) → Absent ≡ found_in l → found_in (of_kind k ys) ≡ found_in (l ++ of_kind k ys)
-      go [] g = refl
-      go (t ∷ l) g = absurd (let z : ◌≡◌ {A = ℕ} 0 1 = cc in omega arith)
-
-  pub found_none : (ts : List Attribute) → ts ≡ [] → Absent ≡ found_in (of_kind k ts)
-  unfolding found_in of_kind keep
-  found_none ts e = rw e
-
-  -- nowhere
-  pub found_nowhere : (xs ys : List Attribute) → ys ≡ [] → Absent ≡ found_in (of_kind k xs) → Absent ≡ found_in (of_kind k (xs ++ ys))
-  found_nowhere xs ys e f = found_none ys e ∙ found-later (xs ++ ys) xs ys refl f
 
 -- ---- the set of an application
 

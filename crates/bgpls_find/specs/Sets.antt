@@ -1,13 +1,11 @@
 -- The sets of attributes that a look-up in a BGP-LS run can be about, and what it finds.
-use Rattle.std.specs.Prelude.{Bool, true, false, cond, ◌&&◌, List, [], ◌∷◌, ℕ, ◌-◌, ◌/◌, eqb, ltb, leb, length}
+use Rattle.std.specs.Prelude.{Bool, true, false, cond, ◌&&◌, List, ℕ, ◌-◌, ◌/◌, eqb, ltb, leb, length}
 use Rattle.linkstate.specs.Masks.{in_masks}
 use Rattle.linkstate.specs.Attributes.{Attribute}
 use Rattle.linkstate.specs.Sides.{Advertisement, names, of_live, general_set}
 use Rattle.linkstate.specs.BgpLs.{top_level, run_side}
 use Rattle.bgpls_find.specs.declared.Set.{Set}
 use Rattle.bgpls_find.specs.declared.Set.TheVariants.{Top, Every, General, Naming}
-use Rattle.bgpls_find.specs.declared.Found.{Found}
-use Rattle.bgpls_find.specs.declared.Found.TheVariants.{At, Absent}
 
 unfoldable pub is_top : Set → Bool
 is_top Top = true
@@ -38,8 +36,3 @@ attributes_in Top r = top_level r
 attributes_in Every r = of_live (λ d. true) (run_side r)
 attributes_in General r = general_set (run_side r)
 attributes_in (Naming a) r = of_live (names a) (run_side r)
-
--- Where the first of attributes stands.
-unfoldable pub found_in : List Attribute → Found
-found_in [] = Absent
-found_in (t ∷ ts) = At t.at t.len

@@ -1,5 +1,5 @@
 -- What the steps of a walk over a run say, from a position on.
-use Rattle.std.specs.Prelude.{◌≡◌, true, false, cond, List, [], ◌∷◌, ◌++◌, ℕ, ◌+◌, ◌-◌, ◌≤◌, ◌<◌, length, take, drop}
+use Rattle.std.specs.Prelude.{◌≡◌, true, false, cond, List, [], ◌∷◌, ◌++◌, ℕ, ◌+◌, ◌-◌, ◌≤◌, ◌<◌, length, take, drop, Option, Some, None}
 use Rattle.linkstate.specs.Lists.{keep, each, empty}
 use Rattle.linkstate.specs.Bytes.{bytes_at}
 use Rattle.linkstate.specs.Replies.{Verdict, accepted, run_bgp_ls}
@@ -10,7 +10,6 @@ use Rattle.linkstate.specs.BgpLs.{sabm_length, udabm_length, asla_header, not_ig
 use Rattle.bgpls_find.specs.Sets.{is_top, chosen, attributes_in}
 use Rattle.bgpls_find.specs.declared.Set.{Set}
 use Rattle.bgpls_find.specs.declared.Part.{Part}
-use Rattle.bgpls_find.specs.declared.Part.TheVariants as Parts
 
 -- The elements that are left, and that they pass their checks.
 abbrev pub rest : List ℕ → ℕ → List Element
@@ -73,9 +72,9 @@ pub record IsPart (set : Set) (r : List ℕ) (from first next : ℕ) : Type 0 wh
   pub some : empty (aslas_from set r from) ≡ false
   pub left : attributes_from set r from ≡ list_at r first next ++ attributes_from set r next
 
-abbrev pub NextPart : Set → List ℕ → ℕ → Part → Type 0
-NextPart set r from (Parts.At first next) = IsPart set r from first next
-NextPart set r from Parts.Absent = (aslas_from set r from ≡ []) × (attributes_from set r from ≡ [])
+abbrev pub NextPart : Set → List ℕ → ℕ → Option Part → Type 0
+NextPart set r from (Some part) = IsPart set r from part.first part.next
+NextPart set r from None = (aslas_from set r from ≡ []) × (attributes_from set r from ≡ [])
 
 -- A walk over the lists of a set stands at one of them. For the top of a run there is one, the whole run.
 pub record AtList (set : Set) (r : List ℕ) (first next : ℕ) : Type 0 where

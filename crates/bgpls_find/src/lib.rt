@@ -6,7 +6,8 @@ ghost use Rattle.std.specs.Prelude.{◌≡◌, ℕ, ◌+◌, ◌*◌, ◌≤◌,
 ghost use Rattle.linkstate.specs.Lists.{put, each};
 ghost use Rattle.linkstate.specs.Replies.{accepted};
 ghost use Rattle.linkstate.specs.BgpLs.{run_verdict, not_ignored, attributes_of, run_side};
-ghost use Rattle.bgpls_find.specs.Sets.{attributes_in, is_top, chosen_by, ends_before, found_in};
+ghost use Rattle.bgpls_find.specs.Sets.{attributes_in, is_top, chosen_by, ends_before};
+ghost use Rattle.octets.specs.Spans.{found_in};
 ghost use Rattle.bgpls_find.specs.Walks.{Uncut, Starts, Passes, Sound, standard_mask, user_mask, NextPart};
 ghost use Rattle.bgpls_find.specs.Words.{srlg_words, list_words, element_words};
 ghost use Rattle.linkstate.specs.Elements.{elements};
@@ -15,7 +16,7 @@ ghost use Rattle.linkstate.specs.Sides.{general_set, application_set};
 
 use bgpls_check::{AslaHeader, not_ignored, read_asla_header};
 use masks::names;
-use octets::read16;
+use octets::{Span, read16};
 
 // A set of attributes: the TLVs at the top of the run, or those inside its 1122s: all that are not ignored, the general ones, or those that name an application.
 #[derive(Clone, Copy)]
@@ -26,18 +27,11 @@ pub enum Set {
     Naming(u32),
 }
 
-// Where a value stands, and its length.
-#[derive(Clone, Copy)]
-pub enum Found {
-    At { place: usize, len: usize },
-    Absent,
-}
-
 // A list of elements: its first byte, and the byte after it.
 #[derive(Clone, Copy)]
-pub enum Part {
-    At { first: usize, next: usize },
-    Absent,
+pub struct Part {
+    pub first: usize,
+    pub next: usize,
 }
 
 // Whether the mask that an application's bit is in ends before that bit, by the lengths of the masks.
@@ -84,7 +78,7 @@ pub fn is_chosen(v: &[u8], code: usize, set: Set) -> bool
 }
 
 // The next list of elements that a set has attributes in, inside a 1122.
-pub fn next_part(r: &[u8], from: usize, set: Set) -> Part
+pub fn next_part(r: &[u8], from: usize, set: Set) -> Option<Part>
     requires { (from ≤ length r.now) × (is_top set ≡ false) × Passes r.now from }
     ensures { NextPart set r.now from result }
 {
@@ -97,15 +91,15 @@ pub fn next_part(r: &[u8], from: usize, set: Set) -> Part
         if is_chosen(&r[value..next], code, set) {
             let h = read_asla_header(&r[value..next]);
             let first = value + 4 + h.standard + h.user;
-            return Part::At { first, next };
+            return Some(Part { first, next });
         }
         at = next;
     }
-    Part::Absent
+    None
 }
 
 // The first element of a code in a list whose first byte is at the offset `base` of the run.
-fn first_element(s: &[u8], base: usize, code: usize) -> Found
+fn first_element(s: &[u8], base: usize, code: usize) -> Option<Span>
     requires { (base + length s.now ≤ 524288) × Uncut base s.now }
     ensures { result ≡ found_in (of_kind code (each attributes_of (elements 2 base s.now))) }
 {
@@ -115,14 +109,14 @@ fn first_element(s: &[u8], base: usize, code: usize) -> Found
         let len = read16(s, at + 2);
         let value = at + 4;
         if t == code {
-            return Found::At {
+            return Some(Span {
                 place: base + value,
                 len,
-            };
+            });
         }
         at = value + len;
     }
-    Found::Absent
+    None
 }
 
 // A set, and the first list of elements that it has attributes in.
@@ -134,26 +128,21 @@ pub struct Start {
 }
 
 // The first attribute of a kind in a set.
-pub fn first_in(r: &[u8], start: Start, code: usize) -> Found
+pub fn first_in(r: &[u8], start: Start, code: usize) -> Option<Span>
     requires { (run_verdict r.now ≡ accepted) × Starts start.set r.now start.first start.next }
     ensures { result ≡ found_in (of_kind code (attributes_in start.set r.now)) }
 {
     let set = start.set; // the set that is looked in
     let mut first = start.first;
     let mut next = start.next;
-    loop {
-        match first_element(&r[first..next], first, code) {
-            Found::At { place, len } => return Found::At { place, len },
-            Found::Absent => {}
+    'lists: loop {
+        let found = first_element(&r[first..next], first, code);
+        if found.is_some() || r.len() <= next {
+            return found;
         }
-        if r.len() <= next {
-            return Found::Absent;
-        }
-        let Part::At { first: f, next: n } = next_part(r, next, set) else {
-            return Found::Absent;
-        };
-        first = f;
-        next = n;
+        let part = next_part(r, next, set)?;
+        first = part.first;
+        next = part.next;
     }
 }
 
@@ -163,12 +152,12 @@ pub fn general_start(r: &[u8]) -> Start
     ensures { Starts result.set r.now result.first result.next × (attributes_in result.set r.now ≡ general_set (run_side r.now)) }
 {
     match next_part(r, 0, Set::General) {
-        Part::At { first, next } => Start {
+        Some(Part { first, next }) => Start {
             set: Set::General,
             first,
             next,
         },
-        Part::Absent => Start {
+        None => Start {
             set: Set::General,
             first: r.len(),
             next: r.len(),
@@ -182,12 +171,12 @@ pub fn set_of(r: &[u8], application: u32) -> Start
     ensures { Starts result.set r.now result.first result.next × (attributes_in result.set r.now ≡ application_set application (run_side r.now)) }
 {
     match next_part(r, 0, Set::Naming(application)) {
-        Part::At { first, next } => Start {
+        Some(Part { first, next }) => Start {
             set: Set::Naming(application),
             first,
             next,
         },
-        Part::Absent => general_start(r),
+        None => general_start(r),
     }
 }
 
@@ -235,11 +224,11 @@ pub fn count_words(r: &[u8], start: Start) -> usize
         if r.len() <= next { // no part is left
             return n;
         }
-        let Part::At { first: f, next: m } = next_part(r, next, set) else {
+        let Some(part) = next_part(r, next, set) else {
             return n;
         };
-        first = f;
-        next = m;
+        first = part.first;
+        next = part.next;
     }
 }
 
@@ -286,10 +275,10 @@ pub fn write_words(r: &[u8], start: Start, n: usize, out: &mut [u32])
         if n <= k {
             return;
         }
-        let Part::At { first: f, next: m } = next_part(r, next, set) else {
+        let Some(part) = next_part(r, next, set) else {
             return;
         };
-        first = f;
-        next = m;
+        first = part.first;
+        next = part.next;
     }
 }

@@ -8,6 +8,13 @@ ghost use Rattle.std.specs.Float.{binary32};
 ghost use Rattle.linkstate.specs.Bytes.{number, two, four, bytes_at};
 ghost use Rattle.linkstate.specs.Lists.{put, same_bytes};
 
+// Where a value stands in a run: `len` bytes from `place` on.
+#[derive(Clone, Copy)]
+pub struct Span {
+    pub place: usize,
+    pub len: usize,
+}
+
 // A byte as a number to reckon with.
 fn wide(x: u8) -> u32
     ensures { (result ≡ x) × (result < 256) }

@@ -10,7 +10,7 @@ use native.Mathlib.Omega.{arith}
 use mathlib.Core.List.{List}
 use Prim.Native.Nat.{ℕ, ◌+◌, ◌*◌, ◌≤◌}
 use Rattle.bgpls_find.proofs.count_words.Goals as goal
-use Rattle.bgpls_find.proofs.count_words.Goals.{After-count_list-n as Known, In-At as Found}
+use Rattle.bgpls_find.proofs.count_words.Goals.{After-count_list-n as Known, In-Some as Found}
 
 -- The set, the run, and the list of elements that was counted.
 abbrev which : Known → Set
@@ -42,8 +42,8 @@ before k = let a = at-list k in
     omega (arith, k.loop-next.invariant.1, k.count_list-n.ensures.1, part-size (run k) (first k) (next k) a.order a.within)
 
 -- The list that was found behind it.
-part : (c : Found) → IsPart c.args.start.set c.args.r.now c.loop-next.next c.in-At.f c.in-At.m
-part c = subst (NextPart c.args.start.set c.args.r.now c.loop-next.next) c.in-At.is c.next_part.ensures
+part : (c : Found) → IsPart c.args.start.set c.args.r.now c.loop-next.next c.in-Some.part.first c.in-Some.part.next
+part c = subst (NextPart c.args.start.set c.args.r.now c.loop-next.next) c.in-Some.is c.next_part.ensures
 
 pub loop-next-init : goal.loop-next-init
 loop-next-init c = let p = c.requires.1 in (p.list, omega arith, count-start _ _ (ap srlg_words p.all))
@@ -80,11 +80,11 @@ returns-in_default c = let known = (goal.at.returns-in_default c).After-count_li
     (count-end _ _ _ (counted known) (set-none (which known) (run known) (next known) none.1), omega (arith, before known))
 
 pub loop-next-smaller : goal.loop-next-smaller
-loop-next-smaller c = let found = (goal.at.loop-next-smaller c).In-At in
+loop-next-smaller c = let found = (goal.at.loop-next-smaller c).In-Some in
     let p = part found in omega arith
 
 pub loop-next-preserved : goal.loop-next-preserved
 loop-next-preserved c = let known = (goal.at.loop-next-preserved c).After-count_list-n in
-    let found = (goal.at.loop-next-preserved c).In-At in
+    let found = (goal.at.loop-next-preserved c).In-Some in
     let p = part found in
     (next-list _ _ _ _ (at-list known) _ _ p, omega (arith, before known, p.start), count-as _ _ _ _ (ap srlg_words p.left) (counted known))

@@ -1,6 +1,6 @@
 -- `bgpls_find::first_element` meets its contract: no element that was passed has the code.
 use Rattle.bgpls_find.proofs.Laws.{head-fits, whole_here, others-pass, first-end, first-here, first-later}
-use Rattle.bgpls_find.specs.Sets.{found_in}
+use Rattle.octets.specs.Spans.{found_in}
 use Rattle.bgpls_find.specs.Walks.{any_element}
 use Rattle.frames.proofs.Laws.{IsWhole, from_start}
 use Rattle.linkstate.specs.BgpLs.{attributes_of}

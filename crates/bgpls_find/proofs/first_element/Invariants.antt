@@ -1,5 +1,5 @@
 -- `bgpls_find::first_element` meets its contract: no element that was passed has the code.
-use Rattle.bgpls_find.specs.Sets.{found_in}
+use Rattle.octets.specs.Spans.{found_in}
 use Rattle.bgpls_find.specs.Walks.{any_element}
 use Rattle.linkstate.proofs.WalkLaws.{left}
 use Rattle.linkstate.specs.BgpLs.{attributes_of}

@@ -11,14 +11,14 @@ pub next_part-requires : goal.next_part-requires
 unfolding is_top
 next_part-requires c = (omega arith, refl, run-passes c.args.r.now c.requires)
 
-pub returns-in-At : goal.returns-in-At
+pub returns-in-Some : goal.returns-in-Some
 unfolding is_top attributes_in
-returns-in-At c = let r = c.args.r.now in
-    let p = subst (NextPart General r 0) c.in-At.is c.next_part.ensures in
+returns-in-Some c = let r = c.args.r.now in
+    let p = subst (NextPart General r 0) c.in-Some.is c.next_part.ensures in
     (starts-part General r refl _ _ p, refl)
 
-pub returns-in-Absent : goal.returns-in-Absent
+pub returns-in-None : goal.returns-in-None
 unfolding is_top attributes_in
-returns-in-Absent c = let r = c.args.r.now in
-    let p = subst (NextPart General r 0) c.in-Absent.is c.next_part.ensures in
+returns-in-None c = let r = c.args.r.now in
+    let p = subst (NextPart General r 0) c.in-None.is c.next_part.ensures in
     (starts_none General r refl p.1, refl)

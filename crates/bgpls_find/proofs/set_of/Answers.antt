@@ -11,14 +11,14 @@ pub next_part-requires : goal.next_part-requires
 unfolding is_top
 next_part-requires c = (omega arith, refl, run-passes c.args.r.now c.requires)
 
-pub returns-in-At : goal.returns-in-At
+pub returns-in-Some : goal.returns-in-Some
 unfolding is_top
-returns-in-At c = let a = c.args in
-    let p = subst (NextPart (Naming a.application) a.r.now 0) c.in-At.is c.next_part.ensures in
+returns-in-Some c = let a = c.args in
+    let p = subst (NextPart (Naming a.application) a.r.now 0) c.in-Some.is c.next_part.ensures in
     (starts-part (Naming a.application) a.r.now refl _ _ p, some-name a.r.now a.application p.some)
 
-pub returns-in-Absent : goal.returns-in-Absent
+pub returns-in-None : goal.returns-in-None
 unfolding attributes_in
-returns-in-Absent c = let a = c.args in
-    let p = subst (NextPart (Naming a.application) a.r.now 0) c.in-Absent.is c.next_part.ensures in
+returns-in-None c = let a = c.args in
+    let p = subst (NextPart (Naming a.application) a.r.now 0) c.in-None.is c.next_part.ensures in
     (c.general_start.ensures.0, c.general_start.ensures.1 ∙ none-name a.r.now a.application p.0)

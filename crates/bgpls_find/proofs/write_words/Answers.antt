@@ -11,7 +11,7 @@ use native.Mathlib.Omega.{arith}
 use mathlib.Core.List.{List}
 use Prim.Native.Nat.{ℕ}
 use Rattle.bgpls_find.proofs.write_words.Goals as goal
-use Rattle.bgpls_find.proofs.write_words.Goals.{After-write_list-k as Known, In-At as Found}
+use Rattle.bgpls_find.proofs.write_words.Goals.{After-write_list-k as Known, In-Some as Found}
 
 -- The set, the run, and the list of elements that was written.
 abbrev which : Known → Set
@@ -42,8 +42,8 @@ written k after e = let l = k.loop-k in
     written_next _ 0 _ l.out after l.k _ _ (here k) (others k) l.invariant.1 (set-turn (which k) (run k) (next k) (first k) (next k)) k.write_list-k.ensures.0 e
 
 -- The list that was found behind it.
-part : (c : Found) → IsPart c.args.start.set c.args.r.now c.loop-k.next c.in-At.f c.in-At.m
-part c = subst (NextPart c.args.start.set c.args.r.now c.loop-k.next) c.in-At.is c.next_part.ensures
+part : (c : Found) → IsPart c.args.start.set c.args.r.now c.loop-k.next c.in-Some.part.first c.in-Some.part.next
+part c = subst (NextPart c.args.start.set c.args.r.now c.loop-k.next) c.in-Some.is c.next_part.ensures
 
 pub loop-k-init : goal.loop-k-init
 loop-k-init c = let a = c.args in
@@ -94,11 +94,11 @@ returns-in_default c = let known = (goal.at.returns-in_default c).After-write_li
     (from_front _ _ _ _ _ (written known _ c.write_list-k.ensures.1) (set-none (which known) (run known) (next known) none.1)).1
 
 pub loop-k-smaller : goal.loop-k-smaller
-loop-k-smaller c = let found = (goal.at.loop-k-smaller c).In-At in
+loop-k-smaller c = let found = (goal.at.loop-k-smaller c).In-Some in
     let p = part found in omega arith
 
 pub loop-k-preserved : goal.loop-k-preserved
 loop-k-preserved c = let known = (goal.at.loop-k-preserved c).After-write_list-k in
-    let found = (goal.at.loop-k-preserved c).In-At in
+    let found = (goal.at.loop-k-preserved c).In-Some in
     let p = part found in
     (next-list _ _ _ _ (at-list known) _ _ p, written_as _ _ _ _ _ _ _ (ap srlg_words p.left) (written known _ c.write_list-k.ensures.1))
