@@ -137,7 +137,7 @@ pub fn first_in(r: &[u8], start: Start, code: usize) -> Option<Span>
     let mut next = start.next;
     'lists: loop {
         let found = first_element(&r[first..next], first, code);
-        if found.is_some() || r.len() <= next {
+        if found.is_some() || r.len() <= next { // found, or no part is left
             return found;
         }
         let part = next_part(r, next, set)?;

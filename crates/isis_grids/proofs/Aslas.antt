@@ -13,7 +13,7 @@ use lib.Seq.{drop-length, drop_at}
 use Rattle.linkstate.specs.Lists.{each, keep}
 use Rattle.linkstate.specs.Bytes.{bytes_at}
 use Rattle.linkstate.specs.Replies.{Verdict, accepted, run_a, fault}
-use Rattle.linkstate.specs.Elements.{Element, element, cut, elements, faults, faults_once}
+use Rattle.linkstate.specs.Elements.{Element, element, elements, faults, faults_once}
 use Rattle.linkstate.specs.Attributes.{Attribute}
 use Rattle.linkstate.specs.Sides.{Advertisement, names, general, rsvp_te_alone, of_live}
 use Rattle.linkstate.proofs.ElementLaws.{none_left}
@@ -26,7 +26,7 @@ use Rattle.isis_grids.specs.declared.Which.{Which}
 use Rattle.isis_grids.specs.declared.Which.TheVariants.{Naming, General, RsvpTeAlone, WithoutL}
 use Rattle.isis_grids.specs.Grid.{unchecked}
 use Rattle.isis_grids.specs.Selected.{selects, list_from, list_at, Headed, value_at, selected}
-use Rattle.isis_grids.proofs.Grids.{All, all-each, Placed, placed-each}
+use Rattle.isis_grids.proofs.Grids.{All}
 use Rattle.isis_grids.proofs.Walks.{framed, element_at, inside, passed, turn}
 
 -- ---- one ASLA
@@ -164,14 +164,6 @@ all-selected P w at t v h = go (eqb t 16) refl
         (λ i. subst (λ (k : ℕ). All P (each attributes_of (elements 1 (at + 2 + k) (drop k v)))) (sym i.0) (h (eqb-true t 16 e) i.1 i.2))
         (list_cases w v))
     go false e = subst (All P) (sym (selected-other w at t v (eqb-false t 16 e))) tt
-
-placed_one : (w : Which) (e : Element) → All Placed (selected w e)
-unfolding selected asla_advertisements each keep
-placed_one w (element at t v) = all-selected Placed w at t v (λ a b c. placed-each (list_elements at v))
-placed_one w (cut at) = tt
-
-pub placed-selected : (w : Which) (es : List Element) → All Placed (each (selected w) es)
-placed-selected w es = all-each Placed (selected w) es (λ e m. placed_one w e)
 
 -- ---- all ASLAs
 

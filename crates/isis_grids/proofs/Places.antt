@@ -4,9 +4,9 @@ use mathlib.Core.Bool.{Bool, true, false, cond}
 use mathlib.Core.List.{List, [], ◌∷◌, ◌++◌, Memᴰ}
 use Prim.Native.Nat.{ℕ, ◌+◌, ◌-◌, ◌≤◌, ◌<◌}
 use native.Mathlib.Omega.{arith}
-use borrow.Author.Tests.{eqb-true, eqb-false, ne_eqb}
+use borrow.Author.Tests.{eqb-true, eqb-false}
 use lib.Dec.{eqb}
-use lib.ListN.{length, take, drop, get_or, length-take, length-drop}
+use lib.ListN.{length, take, drop, length-take, length-drop}
 use lib.Seq.{take-length, take-take, drop_at, length-take-le}
 use Rattle.linkstate.specs.Lists.{each, keep, empty}
 use Rattle.linkstate.specs.Bytes.{bytes_at}
@@ -23,14 +23,15 @@ use Rattle.isis.specs.MaskHeader.{header_length}
 use Rattle.isis.specs.RunA.{list_elements, check_attribute, check_asla, check_a, attributes_of, asla_advertisements, side_a}
 use Rattle.isis.proofs.TypeLaws.{wrong_of_code, right-code, metric-type}
 use Rattle.isis_grids.specs.declared.Which.{Which}
-use Rattle.isis_grids.specs.Grid.{first_row, row_of, bgpls_value}
+use Rattle.isis_grids.specs.Grid.{row_of, bgpls_value}
+use Rattle.std.specs.Prelude.{is_none}
+use Rattle.octets.specs.Spans.{found_in}
 use Rattle.isis_grids.specs.Selected.{selects, selected}
 use Rattle.isis_grids.proofs.Grids.{All, all-member, all-each}
 use Rattle.isis_grids.proofs.Aslas.{headed, list-ok, all-selected, live_all}
 
--- An attribute of run A: its value stands at its place, has a right length, and is the run's own bytes, with a zero in front of a TE metric.
+-- An attribute of run A: its value has a right length, and is the run's own bytes, with a zero in front of a TE metric.
 pub record Stands (a : List ℕ) (t : Attribute) : Type 0 where
-  pub placed : 0 < t.at
   pub right : wrong_of_code t.code t.len ≡ false
   pub there : length (bytes_at a t.at t.len) ≡ t.len
   pub value : t.value ≡ bgpls_value t.code (bytes_at a t.at t.len)
@@ -74,7 +75,6 @@ module _ (check : ℕ → ℕ → List ℕ → Verdict) (right : (at t : ℕ) (v
   unfolding attributes_of attribute bgpls_value
   stands_one at t v h e = (
     record {
-      placed = omega arith;
       right = right at t v h;
       there = ap length e;
       value = ap₂ (λ (b : Bool) (l : List ℕ). cond b (0 ∷ l) l) (metric-type t) (sym e);
@@ -169,8 +169,8 @@ module _ (a : List ℕ) (t : Attribute) (s : Stands a t) where
   within h = omega (arith, s.there, length-take t.len (drop t.at a), length-drop t.at a)
 
 -- A known code has no value exactly where its row is absent.
-pub value_none : (a : List ℕ) (c : ℕ) (ts : List Attribute) → eqb c 1096 ≡ false → wrong_of_code c 0 ≡ true → All (Stands a) ts → empty (value_of c ts) ≡ eqb (get_or (row_of c ts) 0 0) 0
-unfolding row_of value_of first_row first_value empty bgpls_value
+pub value_none : (a : List ℕ) (c : ℕ) (ts : List Attribute) → eqb c 1096 ≡ false → wrong_of_code c 0 ≡ true → All (Stands a) ts → empty (value_of c ts) ≡ is_none (row_of c ts)
+unfolding value_of found_in first_value empty bgpls_value
 value_none a c ts n w h = rw n (go (first-of a c ts h))
   where
     some : (l : List ℕ) → 0 < length l → empty l ≡ false
@@ -181,10 +181,9 @@ value_none a c ts n w h = rw n (go (first-of a c ts h))
     more true l k = omega arith
     more false l k = k
 
-    go : First a c ts → empty (first_value (of_kind c ts)) ≡ eqb (get_or (first_row (of_kind c ts)) 0 0) 0
+    go : First a c ts → empty (first_value (of_kind c ts)) ≡ is_none (found_in (of_kind c ts))
     go (absent e) = rw e
     go (present t us e i s) =
-        let z = s.placed in
         let k : 0 < t.len = some_bytes a t s (ap (λ (x : ℕ). wrong_of_code x 0) i ∙ w) in
-        rw (e, ne_eqb t.at 0 (λ i. omega arith), s.value)
+        rw (e, s.value)
         (some (bgpls_value t.code (bytes_at a t.at t.len)) (more (eqb t.code 1092) (bytes_at a t.at t.len) (omega (arith, s.there))))

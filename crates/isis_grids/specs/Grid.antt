@@ -1,16 +1,13 @@
--- Sets on side A as grids (rule W7): one row per kind, of place and length or absent.
-use Rattle.std.specs.Prelude.{cond, List, [], ◌∷◌, ℕ, eqb}
+-- Rows of sets on side A (rule W7), and what a value of run A is in BGP-LS.
+use Rattle.std.specs.Prelude.{cond, List, ◌∷◌, ℕ, eqb, Option}
 use Rattle.linkstate.specs.Replies.{Verdict, accepted}
+use Rattle.octets.specs.declared.Span.{Span}
+use Rattle.octets.specs.Spans.{found_in}
 use Rattle.linkstate.specs.Attributes.{Attribute, of_kind}
 
--- The row of an attribute, and of none.
-unfoldable pub first_row : List Attribute → List ℕ
-first_row [] = 0 ∷ 0 ∷ []
-first_row (t ∷ ts) = t.at ∷ t.len ∷ []
-
--- W5, W7. The row of a code: place and length of its first value in run A, two zeros where it is absent. No value stands at place 0.
-unfoldable pub row_of : ℕ → List Attribute → List ℕ
-row_of c ts = first_row (of_kind c ts)
+-- W5, W7. The row of a code: place and length of its first value in run A, or none.
+abbrev pub row_of : ℕ → List Attribute → Option Span
+row_of c ts = found_in (of_kind c ts)
 
 -- The check that passes every element: faults by it are those of framing alone.
 unfoldable pub unchecked : ℕ → ℕ → List ℕ → Verdict

@@ -16,6 +16,8 @@ ghost use Rattle.isis_grids.specs.Grid.{row_of, unchecked};
 ghost use Rattle.isis_grids.specs.Selected.{selects, list_at, is_taken, value_at, AslaAt, ReadAt};
 ghost use Rattle.isis_grids.specs.declared.Which.TheVariants.{General};
 
+use octets::Span;
+
 // The type in run A of a code; SRLG has none.
 pub fn type_of(code: usize) -> u8
     requires { (is_code code ≡ true) × (eqb code 1096 ≡ false) }
@@ -59,14 +61,14 @@ fn names_at(a: &[u8], at: usize, n: u32) -> bool
     requires { ReadAt a.now at }
     ensures { result ≡ names n (advertisement (value_at a.now at) []) }
 {
-    let standard = a[at + 2] as usize;
+    let standard = usize::from(a[at + 2]);
     if n < 64 {
         return masks::bit_at(a, at + 4, standard, n);
     }
     if 96 <= n {
         return false;
     }
-    let user = (a[at + 3] % 128) as usize;
+    let user = usize::from(a[at + 3] % 128);
     masks::bit_at(a, at + 4 + standard, user, n - 64)
 }
 
@@ -78,8 +80,8 @@ fn is_alone(a: &[u8], at: usize) -> bool
     if !names_at(a, at, 0) {
         return false;
     }
-    let m = at + 4 + a[at + 2] as usize;
-    let e = m + (a[at + 3] % 128) as usize;
+    let m = at + 4 + usize::from(a[at + 2]);
+    let e = m + usize::from(a[at + 3] % 128);
     masks::rsvp_te_alone(&a[at + 4..m], &a[m..e])
 }
 
@@ -123,31 +125,32 @@ fn list_at(a: &[u8], at: usize, which: Which) -> usize
     ensures { result ≡ list_at which a.now at }
 {
     if is_selected(a, at, which) {
-        return at + 4 + a[at + 2] as usize + (a[at + 3] % 128) as usize;
+        return at + 4 + usize::from(a[at + 2]) + usize::from(a[at + 3] % 128);
     }
-    at + 2 + a[at + 1] as usize
+    at + 2 + usize::from(a[at + 1])
 }
 
 // The row of one kind, by its type, in a list whose first byte is at an offset of run A.
-fn row_in(s: &[u8], base: usize, t: u8) -> [usize; 2]
+fn row_in(s: &[u8], base: usize, t: u8) -> Option<Span>
     requires { (code_of_type t ≡ 0 → ⊥) × (base + length s.now < 18446744073709551616) × (faults run_a unchecked (elements 1 base s.now) ≡ accepted) }
     ensures { result ≡ row_of (code_of_type t) (each attributes_of (elements 1 base s.now)) }
 {
     let mut at = 0;
     while at < s.len() {
-        let n = s[at + 1] as usize;
+        let len = s[at + 1] as usize;
         if s[at] == t {
-            let found = [base + at + 2, n];
-            return found;
+            return Some(Span {
+                place: base + at + 2,
+                len,
+            });
         }
-        at = at + 2 + n;
+        at = at + 2 + len;
     }
-    let none = [0usize; 2];
-    none
+    None
 }
 
 // The row of one kind, by its type, among run A's own elements.
-pub fn legacy_row(a: &[u8], t: u8) -> [usize; 2]
+pub fn legacy_row(a: &[u8], t: u8) -> Option<Span>
     requires { (code_of_type t ≡ 0 → ⊥) × (faults run_a check_a (elements 1 0 a.now) ≡ accepted) }
     ensures { result ≡ row_of (code_of_type t) (side_a a.now).legacy }
 {
@@ -155,7 +158,7 @@ pub fn legacy_row(a: &[u8], t: u8) -> [usize; 2]
 }
 
 // The row of one kind, by its type, in the live ASLA sub-TLVs that are selected.
-pub fn live_row(a: &[u8], which: Which, t: u8) -> [usize; 2]
+pub fn live_row(a: &[u8], which: Which, t: u8) -> Option<Span>
     requires { (code_of_type t ≡ 0 → ⊥) × (faults run_a check_a (elements 1 0 a.now) ≡ accepted) }
     ensures { result ≡ row_of (code_of_type t) (of_live (selects which) (side_a a.now)) }
 {
@@ -167,13 +170,12 @@ pub fn live_row(a: &[u8], which: Which, t: u8) -> [usize; 2]
             let from = list_at(a, at, which);
             if from < next {
                 let row = row_in(&a[from..next], from, t);
-                if row[0] != 0 {
+                if row.is_some() {
                     return row;
                 }
             }
         }
         at = next;
     }
-    let none = [0usize; 2];
-    none
+    None
 }

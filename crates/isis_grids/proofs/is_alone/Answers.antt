@@ -9,17 +9,8 @@ returns-then-not-names_at c = not_first _ _ c.requires _ c.names_at.ensures c.if
 pub bounds-a-at : goal.bounds-a-at
 bounds-a-at c = omega (arith, two_bytes _ _ c.requires.asla)
 
-pub overflow_cast-m : goal.overflow_cast-m
-overflow_cast-m c = omega (arith, (masks-fit _ _ c.requires).0)
-
-pub overflow_add-m-3 : goal.overflow_add-m-3
-overflow_add-m-3 c = omega (arith, (masks-fit _ _ c.requires).2)
-
 pub bounds-a-at-2 : goal.bounds-a-at-2
 bounds-a-at-2 c = omega (arith, two_bytes _ _ c.requires.asla)
-
-pub overflow_add-e-2 : goal.overflow_add-e-2
-overflow_add-e-2 c = omega (arith, (masks-fit _ _ c.requires).2)
 
 pub slice_bounds-rsvp_te_alone-end : goal.slice_bounds-rsvp_te_alone-end
 slice_bounds-rsvp_te_alone-end c = omega (arith, (masks-fit _ _ c.requires).2)
@@ -28,7 +19,7 @@ pub slice_bounds-rsvp_te_alone-end-2 : goal.slice_bounds-rsvp_te_alone-end-2
 slice_bounds-rsvp_te_alone-end-2 c = omega (arith, (masks-fit _ _ c.requires).2)
 
 pub rsvp_te_alone-requires : goal.rsvp_te_alone-requires
-rsvp_te_alone-requires c = lent-short _ _ c.requires
+rsvp_te_alone-requires c = rw (c.from.ensures, c.from-2.ensures) (lent-short _ _ c.requires)
 
 pub returns : goal.returns
-returns c = alone-lent _ _ c.requires _ c.rsvp_te_alone.ensures
+returns c = alone-lent _ _ c.requires _ (rw (c.from.ensures, c.from-2.ensures) at c.rsvp_te_alone.ensures)

@@ -62,24 +62,24 @@ row_in-row-requires c = let l = c.loop-at in
       list-part-framed x.which x.a.now l.at here l.invariant.1 from c.list_at-from.ensures,
     )
 
-pub returns-then-row-ne0 : goal.returns-then-row-ne0
-returns-then-row-ne0 c = let l = c.loop-at in
+pub returns-then-is_some : goal.returns-then-is_some
+returns-then-is_some c = let l = c.loop-at in
     let x = c.args in
     live-row-found (code_of_type x.t) x.which x.a.now l.at c.loop-at-test.true
     l.invariant.1 c.list_at-from.result c.list_at-from.ensures c.row_in-row.result
-    c.row_in-row.ensures c.if-row-ne0.true ∙ l.invariant.2
+    c.row_in-row.ensures (sym c.is_some.ensures ∙ c.if-is_some.true) ∙ l.invariant.2
 
-pub loop-at-smaller-else-row-ne0 : goal.loop-at-smaller-else-row-ne0
-loop-at-smaller-else-row-ne0 c = omega arith
+pub loop-at-smaller-else-is_some : goal.loop-at-smaller-else-is_some
+loop-at-smaller-else-is_some c = omega arith
 
-pub loop-at-preserved-else-row-ne0 : goal.loop-at-preserved-else-row-ne0
-loop-at-preserved-else-row-ne0 c = let l = c.loop-at in
+pub loop-at-preserved-else-is_some : goal.loop-at-preserved-else-is_some
+loop-at-preserved-else-is_some c = let l = c.loop-at in
     let x = c.args in
     let here = c.loop-at-test.true in (
       inside check_a 0 x.a.now l.at here l.invariant.1,
       rest_ok check_a 0 x.a.now l.at here l.invariant.1,
       live-row-next (code_of_type x.t) x.which x.a.now l.at here l.invariant.1 c.list_at-from.result
-          c.list_at-from.ensures c.row_in-row.result c.row_in-row.ensures c.if-row-ne0.false ∙ l.invariant.2,
+          c.list_at-from.ensures c.row_in-row.result c.row_in-row.ensures (sym c.is_some.ensures ∙ c.if-is_some.false) ∙ l.invariant.2,
     )
 
 pub loop-at-smaller-else-from-next : goal.loop-at-smaller-else-from-next

@@ -6,14 +6,11 @@ use Rattle.isis_grids.proofs.names_at.Goals as goal
 pub bounds-a-at : goal.bounds-a-at
 bounds-a-at c = omega (arith, two_bytes _ _ c.requires.asla)
 
-pub overflow_cast-standard : goal.overflow_cast-standard
-overflow_cast-standard c = omega (arith, (masks-fit _ _ c.requires).0)
-
 pub bit_at-requires : goal.bit_at-requires
 bit_at-requires c = omega (arith, (masks-fit _ _ c.requires).2)
 
 pub returns-then-n-lt64 : goal.returns-then-n-lt64
-returns-then-n-lt64 c = named-standard _ _ c.requires _ c.if-n-lt64.true _ c.bit_at.ensures
+returns-then-n-lt64 c = named-standard _ _ c.requires _ c.if-n-lt64.true _ (rw c.from-standard.ensures at c.bit_at.ensures)
 
 pub returns-then-n-ge96 : goal.returns-then-n-ge96
 returns-then-n-ge96 c = named-retired _ _ c.requires _ (omega arith)
@@ -28,4 +25,4 @@ pub bit_at-requires-2 : goal.bit_at-requires-2
 bit_at-requires-2 c = omega (arith, (masks-fit _ _ c.requires).2)
 
 pub returns : goal.returns
-returns c = named-user _ _ c.requires _ (omega arith) (omega arith) _ c.bit_at-2.ensures
+returns c = named-user _ _ c.requires _ (omega arith) (omega arith) _ (rw (c.from-standard.ensures, c.from-user.ensures) at c.bit_at-2.ensures)

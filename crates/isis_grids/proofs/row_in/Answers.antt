@@ -28,14 +28,14 @@ bounds-s-at c = let l = c.loop-at in omega (
       l.at c.loop-at-test.true l.invariant.1,
 )
 
-pub overflow_cast-n : goal.overflow_cast-n
-overflow_cast-n c = omega (arith, c.type_inv.s (c.loop-at.at + 1))
+pub overflow_cast-len : goal.overflow_cast-len
+overflow_cast-len c = omega (arith, c.type_inv.s (c.loop-at.at + 1))
 
-pub overflow_add-found : goal.overflow_add-found
-overflow_add-found c = let l = c.loop-at in omega (arith, c.requires.1)
+pub overflow_add-result : goal.overflow_add-result
+overflow_add-result c = let l = c.loop-at in omega (arith, c.requires.1)
 
-pub overflow_add-found-then-s-at : goal.overflow_add-found-then-s-at
-overflow_add-found-then-s-at c = let l = c.loop-at in omega (
+pub overflow_add-result-then-s-at : goal.overflow_add-result-then-s-at
+overflow_add-result-then-s-at c = let l = c.loop-at in omega (
   arith,
   c.requires.1,
   inside unchecked
