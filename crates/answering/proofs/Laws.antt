@@ -4,7 +4,7 @@ use mathlib.Core.Bool.{Bool, true, false, not}
 use mathlib.Core.List.{List, [], ◌∷◌}
 use Prim.Native.Nat.{ℕ, ◌-◌, ◌≤◌, ◌<◌}
 use native.Mathlib.Omega.{arith}
-use borrow.Author.Tests.{lt-ltb, le-ltb, ne_eqb}
+use borrow.Author.Tests.{lt-ltb, le-ltb}
 use lib.ListN.{length, take, drop}
 use Rattle.linkstate.specs.Lists.{empty, put}
 use Rattle.linkstate.specs.Kinds.{Form, form_of, is_code, is_link_code}
@@ -14,6 +14,9 @@ use Rattle.linkstate.specs.Questions.{srlg_answer, unwritten, first_of}
 use Rattle.kinds.specs.declared.Rule.{Rule}
 use Rattle.kinds.specs.Rules.{rule_of_code, is_known, is_link}
 use Rattle.kinds.proofs.Laws.{code-known, code-link}
+use Rattle.std.specs.Prelude.{Option, Some, None}
+use Rattle.octets.specs.declared.Span.{Span}
+use Rattle.octets.specs.Spans.{found_in}
 use Rattle.answering.specs.Standing.{standing}
 use Rattle.answering.specs.Rows.{row_answer}
 
@@ -39,14 +42,15 @@ module _ (high known : Bool) where
   no-refusal h k = rw (h, k)
 
 -- A row that is absent, and one that is read.
-module _ (s : List ℕ) (spot : ℕ → Place) (code place len : ℕ) where
-  pub row-absent : place ≡ 0 → absent ≡ row_answer s spot code place len
+module _ (s : List ℕ) (spot : ℕ → Place) (code : ℕ) (row : Option Span) where
+  pub row-absent : row ≡ None → absent ≡ row_answer s spot code row
   unfolding row_answer
   row-absent e = rw e
 
-  pub row-found : (x : Reading) (f : Form) → (place ≡ 0 → ⊥) → f ≡ form_of code → x ≡ reading_as f spot (standing s place len) → found x ≡ row_answer s spot code place len
+  pub row-found : (span : Span) → row ≡ Some span → (x : Reading) (f : Form) → f ≡ form_of code → x ≡ reading_as f spot (standing s span.place span.len)
+      → found x ≡ row_answer s spot code row
   unfolding row_answer
-  row-found x f n e h = rw (ne_eqb place 0 n) (ap found (h ∙ ap (λ (g : Form). reading_as g spot (standing s place len)) e))
+  row-found span i x f e h = rw i (ap found (h ∙ ap (λ (g : Form). reading_as g spot (standing s span.place span.len)) e))
 
 -- SRLGs: none, too many, and as many as fit.
 nothing : (ns : List ℕ) → length ns ≡ 0 → empty ns ≡ true
@@ -72,17 +76,16 @@ module _ (ns list : List ℕ) where
   unfolding srlg_answer refused_if unless
   srlgs-written after n h e = rw (something ns n, le-ltb (length list) (length ns) h, e)
 
--- The reply of a kind is that of its first attribute, by its place.
+-- The reply of a kind is that of its first attribute, by where it stands.
 module _ (s : List ℕ) (spot : ℕ → Place) (k : ℕ) (ts : List Attribute) where
-  pub first_absent : ts ≡ [] → first_of spot ts ≡ row_answer s spot k 0 0
-  unfolding first_of row_answer
+  pub first_absent : ts ≡ [] → first_of spot ts ≡ row_answer s spot k (found_in ts)
+  unfolding first_of row_answer found_in
   first_absent e = rw e
 
-  pub first-present : (t : Attribute) (us : List Attribute) → ts ≡ t ∷ us → t.code ≡ k → 0 < t.at
-      → reading_as (form_of k) spot t ≡ reading_as (form_of k) spot (standing s t.at t.len) → first_of spot ts ≡ row_answer s spot k t.at t.len
-  unfolding first_of row_answer reading
-  first-present t us e c p h =
-      rw (e, ne_eqb t.at 0 (λ z. omega arith)) (ap found (ap (λ (x : ℕ). reading_as (form_of x) spot t) c ∙ h))
+  pub first-present : (t : Attribute) (us : List Attribute) → ts ≡ t ∷ us → t.code ≡ k
+      → reading_as (form_of k) spot t ≡ reading_as (form_of k) spot (standing s t.at t.len) → first_of spot ts ≡ row_answer s spot k (found_in ts)
+  unfolding first_of row_answer reading found_in
+  first-present t us e c h = rw e (ap found (ap (λ (x : ℕ). reading_as (form_of x) spot t) c ∙ h))
 
 -- The list's front is what was sorted.
 pub srlg-front : (x : Asked) (l : List ℕ) (k : ℕ) (ns list : List ℕ) → x ≡ srlg_answer (take (k - 0) (drop 0 l)) list → take k l ≡ ns → x ≡ srlg_answer ns list

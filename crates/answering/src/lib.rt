@@ -2,7 +2,7 @@
 
 #![tactic(auto)]
 
-ghost use Rattle.std.specs.Prelude.{◌≡◌, ◌+◌, ◌≤◌, length, take, not};
+ghost use Rattle.std.specs.Prelude.{◌≡◌, ◌+◌, ◌≤◌, length, take, not, Ok};
 ghost use Rattle.linkstate.specs.Bytes.{number, bytes_at};
 ghost use Rattle.linkstate.specs.Attributes.{reading_as};
 ghost use Rattle.kinds.specs.Rules.{told_form};
@@ -14,6 +14,7 @@ ghost use Rattle.linkstate.specs.Questions.{number_too_high, srlg_answer};
 ghost use Rattle.answering.specs.Rows.{ReadableRow, row_answer};
 
 use kinds::Form;
+use octets::Span;
 use replies::{Place, Reading, Reason, Refusal, Run, Subject};
 
 // The number of three or four bytes: a TE metric has three in IS-IS.
@@ -79,22 +80,14 @@ pub fn check_question(whom: Subject, code: usize) -> Result<(), Refusal>
     Ok(())
 }
 
-// The reply of a kind other than SRLG whose first value stands at a place of the run; place 0 says that there is none.
-pub fn answer_row(
-    s: &[u8],
-    run: Run,
-    code: usize,
-    place: usize,
-    len: usize,
-) -> Result<Option<Reading>, Refusal>
-    requires { ReadableRow (form_of code) (length s.now) place len }
-    ensures { told_answer result ≡ row_answer s.now (told_spot run) code place len }
+// The reply of a kind other than SRLG, by where its first value stands in the run.
+pub fn answer_row(s: &[u8], run: Run, code: usize, row: Option<Span>) -> Option<Reading>
+    requires { ReadableRow (form_of code) (length s.now) row }
+    ensures { told_answer (Ok result) ≡ row_answer s.now (told_spot run) code row }
 {
-    if place == 0 {
-        return Ok(None);
-    }
+    let Span { place, len } = row?;
     let form = kinds::form_of(code);
-    Ok(Some(read_value(s, run, form, place, len)))
+    Some(read_value(s, run, form, place, len))
 }
 
 // The reply of SRLG, from the different numbers, ascending: they go to the front of the lent list if they fit.

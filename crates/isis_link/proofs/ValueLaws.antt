@@ -6,7 +6,7 @@ use Prim.Native.Nat.{ℕ, ◌+◌, ◌-◌, ◌≤◌}
 use native.Mathlib.Omega.{arith}
 use borrow.Author.Tests.{eqb-true}
 use lib.Dec.{eqb}
-use lib.ListN.{length, take, drop, get_or}
+use lib.ListN.{length, take, drop}
 use Rattle.linkstate.specs.Lists.{empty}
 use Rattle.linkstate.specs.Bytes.{bytes_at}
 use Rattle.linkstate.specs.Kinds as T
@@ -31,7 +31,11 @@ use Rattle.answering.proofs.ReadingLaws.{own-bytes, zero-in-front}
 use Rattle.answering.specs.Rows.{ReadableRow, row_answer}
 use Rattle.answering.proofs.Laws.{first_absent, first-present}
 use Rattle.isis_grids.specs.declared.Which.TheVariants as W
-use Rattle.isis_grids.specs.Grid.{first_row, row_of, bgpls_value}
+use Rattle.isis_grids.specs.Grid.{row_of, bgpls_value}
+use Rattle.std.specs.Prelude.{Option, Some, None}
+use Rattle.std.proofs.lemmas.Option.{same_Some}
+use Rattle.octets.specs.declared.Span.{Span}
+use Rattle.octets.specs.Spans.{found_in}
 use Rattle.isis_grids.specs.Selected.{selects}
 use Rattle.isis_grids.proofs.Grids.{All, all_append}
 use Rattle.isis_grids.proofs.Places.{Stands, legacy-stands, live-stands, First, absent, present, first-of, some_bytes, within}
@@ -75,17 +79,17 @@ module _ (a : List ℕ) (ok : faults run_a check_a (elements 1 0 a) ≡ accepted
   given-stands b c whom k s = subst (All (Stands a)) (rule-taken whom k (side_a a) ∙ sym (given-in-a a b c whom k s)) (taken-stands (rule_on whom k (side_a a)) k)
 
 -- The row of a kind: absent, or where its first value stands.
-module _ (a : List ℕ) (whom : Subject) (k : ℕ) (m : Names) (x : Bool) (q : AskedInA a whom k m x) (b c row : List ℕ) (e : row ≡ row_of k (given (link_source a b c) whom k)) where
+module _ (a : List ℕ) (whom : Subject) (k : ℕ) (m : Names) (x : Bool) (q : AskedInA a whom k m x) (b c : List ℕ) (row : Option Span) (e : row ≡ row_of k (given (link_source a b c) whom k)) where
   first : First a k (given (link_source a b c) whom k)
   first = first-of a k (given (link_source a b c) whom k) (given-stands a q.passed b c whom k q.other)
 
-  row-absent : of_kind k (given (link_source a b c) whom k) ≡ [] → row ≡ 0 ∷ 0 ∷ []
-  unfolding row_of first_row
-  row-absent i = e ∙ ap first_row i
+  row-absent : of_kind k (given (link_source a b c) whom k) ≡ [] → row ≡ None
+  unfolding found_in
+  row-absent i = e ∙ ap found_in i
 
-  row-present : (t : Attribute) (us : List Attribute) → of_kind k (given (link_source a b c) whom k) ≡ t ∷ us → row ≡ t.at ∷ t.len ∷ []
-  unfolding row_of first_row
-  row-present t us i = e ∙ ap first_row i
+  row-present : (t : Attribute) (us : List Attribute) → of_kind k (given (link_source a b c) whom k) ≡ t ∷ us → row ≡ Some (record { place = t.at; len = t.len })
+  unfolding found_in
+  row-present t us i = e ∙ ap found_in i
 
   -- A value of the kind lies in the run and can be read.
   lies : (t : Attribute) → t.code ≡ k → Stands a t → t.at + t.len ≤ length a
@@ -102,51 +106,41 @@ module _ (a : List ℕ) (whom : Subject) (k : ℕ) (m : Names) (x : Bool) (q : A
           (zero-in-front a (place run_a) t v)
       go false z v = own-bytes a (place run_a) t (form_of k) v
 
-  pub row-readable : ReadableRow (form_of k) (length a) (get_or row 0 0) (get_or row 1 0)
+  pub row-readable : ReadableRow (form_of k) (length a) row
   unfolding wrong_of_code
   row-readable = go first
     where
-      go : First a k (given (link_source a b c) whom k) → ReadableRow (form_of k) (length a) (get_or row 0 0) (get_or row 1 0)
-      go (absent i) = λ z. absurd (z (ap (λ (x : List ℕ). get_or x 0 0) (row-absent i)))
+      go : First a k (given (link_source a b c) whom k) → ReadableRow (form_of k) (length a) row
+      go (absent i) = rw (row-absent i) tt
       go (present t us i j st) =
-          rw (row-present t us i) (λ z. (
-            lies t j st,
-            readable-in-a k t.len q.known q.other
-                (sym (ap (λ (x : ℕ). wrong_of_code x t.len) j) ∙ st.right),
-          ))
+          rw (row-present t us i)
+          (lies t j st, readable-in-a k t.len q.known q.other (sym (ap (λ (x : ℕ). wrong_of_code x t.len) j) ∙ st.right))
 
-  row-reply : first_of (place run_a) (of_kind k (given (link_source a b c) whom k)) ≡ row_answer a (place run_a) k (get_or row 0 0) (get_or row 1 0)
-  row-reply = go first
+  pub row-answers : (r : Reply) → r ≡ row_answer a (place run_a) k row → r ≡ first_of (place run_a) (of_kind k (given (link_source a b c) whom k))
+  row-answers r h = h ∙ ap (row_answer a (place run_a) k) e ∙ sym (go first)
     where
       go : First a k (given (link_source a b c) whom k)
-          → first_of (place run_a) (of_kind k (given (link_source a b c) whom k)) ≡ row_answer a (place run_a) k (get_or row 0 0) (get_or row 1 0)
-      go (absent i) =
-          first_absent a (place run_a) k (of_kind k (given (link_source a b c) whom k)) i ∙ sym
-          (ap (λ (x : List ℕ). row_answer a (place run_a) k (get_or x 0 0) (get_or x 1 0)) (row-absent i))
-      go (present t us i j st) =
-          first-present a (place run_a) k (of_kind k (given (link_source a b c) whom k)) t us i j st.placed (reads t j st)
-          ∙ sym (ap (λ (x : List ℕ). row_answer a (place run_a) k (get_or x 0 0) (get_or x 1 0)) (row-present t us i))
+          → first_of (place run_a) (of_kind k (given (link_source a b c) whom k)) ≡ row_answer a (place run_a) k (row_of k (given (link_source a b c) whom k))
+      go (absent i) = first_absent a (place run_a) k (of_kind k (given (link_source a b c) whom k)) i
+      go (present t us i j st) = first-present a (place run_a) k (of_kind k (given (link_source a b c) whom k)) t us i j (reads t j st)
 
-  pub row-answers : (r : Reply) → r ≡ row_answer a (place run_a) k (get_or row 0 0) (get_or row 1 0) → r ≡ first_of (place run_a) (of_kind k (given (link_source a b c) whom k))
-  row-answers r h = h ∙ sym row-reply
+  module _ (span : Span) (some : row ≡ Some span) where
+    pub row_within : span.place + span.len ≤ length a
+    row_within = (subst (ReadableRow (form_of k) (length a)) some row-readable).0
 
-  pub row_within : (get_or row 0 0 ≡ 0 → ⊥) → get_or row 0 0 + get_or row 1 0 ≤ length a
-  row_within z = (row-readable z).0
+    pub row-part : take (span.place + span.len - span.place) (drop span.place a) ≡ bytes_of_first a (of_kind k (given (link_source a b c) whom k))
+    unfolding bytes_of_first
+    row-part = part-is a span.place span.len ∙ go first
+      where
+        go : First a k (given (link_source a b c) whom k) → bytes_at a span.place span.len ≡ bytes_of_first a (of_kind k (given (link_source a b c) whom k))
+        go (absent i) = let z : None ≡ Some span = sym (row-absent i) ∙ some in cc
+        go (present t us i j st) =
+            ap (λ (x : Span). bytes_at a x.place x.len) (same_Some _ _ (sym some ∙ row-present t us i)) ∙ sym (ap (bytes_of_first a) i)
 
-  pub row-part : (get_or row 0 0 ≡ 0 → ⊥)
-      → take (get_or row 0 0 + get_or row 1 0 - get_or row 0 0) (drop (get_or row 0 0) a) ≡ bytes_of_first a (of_kind k (given (link_source a b c) whom k))
+  pub row-none : row ≡ None → [] ≡ bytes_of_first a (of_kind k (given (link_source a b c) whom k))
   unfolding bytes_of_first
-  row-part z = part-is a (get_or row 0 0) (get_or row 1 0) ∙ go first
-    where
-      go : First a k (given (link_source a b c) whom k) → bytes_at a (get_or row 0 0) (get_or row 1 0) ≡ bytes_of_first a (of_kind k (given (link_source a b c) whom k))
-      go (absent i) = absurd (z (ap (λ (x : List ℕ). get_or x 0 0) (row-absent i)))
-      go (present t us i j st) = ap (λ (x : List ℕ). bytes_at a (get_or x 0 0) (get_or x 1 0)) (row-present t us i) ∙ sym (ap (bytes_of_first a) i)
-
-  pub row-none : get_or row 0 0 ≡ 0 → [] ≡ bytes_of_first a (of_kind k (given (link_source a b c) whom k))
-  unfolding bytes_of_first
-  row-none z = go first
+  row-none none = go first
     where
       go : First a k (given (link_source a b c) whom k) → [] ≡ bytes_of_first a (of_kind k (given (link_source a b c) whom k))
       go (absent i) = sym (ap (bytes_of_first a) i)
-      go (present t us i j st) =
-          let y : t.at ≡ 0 = sym (ap (λ (x : List ℕ). get_or x 0 0) (row-present t us i)) ∙ z in let w = st.placed in absurd (omega arith)
+      go (present t us i j st) = let z : None ≡ Some _ = sym none ∙ row-present t us i in cc

@@ -25,6 +25,7 @@ ghost use Rattle.isis_tlvs_238.specs.Runs.{Passed};
 
 use isis_check::{LinkChecked, Sides};
 use isis_grids::Which;
+use octets::Span;
 use replies::{Answer, Checked, Named, Run, Subject};
 use rules::{Names, Rule};
 
@@ -40,31 +41,23 @@ pub fn check_asked(a: &[u8], b: &[u8], c: &[u8], whom: Subject, code: usize) -> 
 }
 
 // The row of a kind, by its type, in the ASLA sub-TLVs that are selected, else in legacy.
-fn live_first(a: &[u8], which: Which, t: u8) -> [usize; 2]
+fn live_first(a: &[u8], which: Which, t: u8) -> Option<Span>
     requires { (code_of_type t ≡ 0 → ⊥) × (faults run_a check_a (elements 1 0 a.now) ≡ accepted) }
     ensures { result ≡ row_of (code_of_type t) (of_live (selects which) (side_a a.now) ++ (side_a a.now).legacy) }
 {
-    let row = isis_grids::live_row(a, which, t);
-    if row[0] != 0 {
-        return row;
-    }
-    isis_grids::legacy_row(a, t)
+    isis_grids::live_row(a, which, t).or_else(|| isis_grids::legacy_row(a, t))
 }
 
 // In legacy, else in the ASLA sub-TLVs without L.
-fn legacy_first(a: &[u8], t: u8) -> [usize; 2]
+fn legacy_first(a: &[u8], t: u8) -> Option<Span>
     requires { (code_of_type t ≡ 0 → ⊥) × (faults run_a check_a (elements 1 0 a.now) ≡ accepted) }
     ensures { result ≡ row_of (code_of_type t) ((side_a a.now).legacy ++ of_live (selects WithoutL) (side_a a.now)) }
 {
-    let row = isis_grids::legacy_row(a, t);
-    if row[0] != 0 {
-        return row;
-    }
-    isis_grids::live_row(a, Which::WithoutL, t)
+    isis_grids::legacy_row(a, t).or_else(|| isis_grids::live_row(a, Which::WithoutL, t))
 }
 
 // In what a rule takes on side A.
-fn row_by(a: &[u8], rule: Rule, t: u8) -> [usize; 2]
+fn row_by(a: &[u8], rule: Rule, t: u8) -> Option<Span>
     requires { (code_of_type t ≡ 0 → ⊥) × (faults run_a check_a (elements 1 0 a.now) ≡ accepted) × (is_code (code_of_type t) ≡ true) × (eqb (code_of_type t) 1096 ≡ false) }
     ensures { result ≡ row_of (code_of_type t) (taken_by rule (code_of_type t) (side_a a.now)) }
 {
@@ -79,8 +72,8 @@ fn row_by(a: &[u8], rule: Rule, t: u8) -> [usize; 2]
     }
 }
 
-// Place and length of the value that a question asks for, by whom side A names and whether its legacy has a value; place 0 where there is none.
-pub fn find_row(a: &[u8], whom: Subject, code: usize, m: Names, legacy: bool) -> [usize; 2]
+// Where the value that a question asks for stands, by whom side A names and whether its legacy has a value.
+pub fn find_row(a: &[u8], whom: Subject, code: usize, m: Names, legacy: bool) -> Option<Span>
     requires { AskedInA a.now (subject_of whom) code m legacy }
     ensures { (b c : List ℕ) → result ≡ row_of code (given (link_source a.now b c) (subject_of whom) code) }
 {
@@ -93,10 +86,7 @@ pub fn answer_value(a: &[u8], whom: Subject, code: usize, m: Names, legacy: bool
     requires { AskedInA a.now (subject_of whom) code m legacy }
     ensures { (b c : List ℕ) → told_answer result ≡ first_of (place run_a) (of_kind code (given (link_source a.now b c) (subject_of whom) code)) }
 {
-    let row = find_row(a, whom, code, m, legacy);
-    let place = row[0];
-    let len = row[1];
-    answering::answer_row(a, Run::A, code, place, len)
+    answering::answer_row(a, Run::A, code, find_row(a, whom, code, m, legacy))
 }
 
 // The value's bytes as a part of run A.
@@ -104,12 +94,9 @@ pub fn part_of(a: &[u8], whom: Subject, code: usize, m: Names, legacy: bool) -> 
     requires { AskedInA a.now (subject_of whom) code m legacy }
     ensures { (b c : List ℕ) → result.now ≡ bytes_of_first a.now (of_kind code (given (link_source a.now b c) (subject_of whom) code)) }
 {
-    let row = find_row(a, whom, code, m, legacy);
-    let place = row[0];
-    let len = row[1];
-    if place == 0 {
+    let Some(Span { place, len }) = find_row(a, whom, code, m, legacy) else {
         return &a[0..0];
-    }
+    };
     &a[place..place + len]
 }
 

@@ -4,7 +4,7 @@ use mathlib.Core.Bool.{true, false}
 use mathlib.Core.List.{List, [], ◌∷◌, ◌++◌}
 use Prim.Native.Nat.{ℕ}
 use lib.Dec.{eqb}
-use Rattle.std.specs.Prelude.{Option, Some, None, is_some}
+use Rattle.std.specs.Prelude.{Option, Some, None, is_some, MatchOption}
 use Rattle.std.specs.Option.{option_or}
 use Rattle.linkstate.specs.Lists.{keep}
 use Rattle.linkstate.specs.Attributes.{Attribute, of_kind}
@@ -52,3 +52,11 @@ module _ (k : ℕ) (xs ys : List Attribute) where
     pub found_none : ys ≡ [] → is_some o ≡ false → None ≡ found_in (of_kind k (xs ++ ys))
     unfolding found_in of_kind keep
     found_none h g = ap (λ ts. found_in (of_kind k ts)) (sym h) ∙ found-later g
+
+    -- as `or_else` has it, where the closure finds what the other list has
+    pub found-or-else : {P : Type 0} (r : Option Span) → MatchOption o P (λ x. r ≡ Some x) → (P → r ≡ found_in (of_kind k ys)) → r ≡ found_in (of_kind k (xs ++ ys))
+    found-or-else {P} r h f = go o h ∙ joined
+      where
+        go : (o : Option Span) → MatchOption o P (λ x. r ≡ Some x) → r ≡ option_or o (found_in (of_kind k ys))
+        go None p = f p
+        go (Some x) p = p
