@@ -9,14 +9,13 @@ use lib.ListN.{length, take, drop}
 use Rattle.linkstate.specs.Lists.{empty, put}
 use Rattle.linkstate.specs.Kinds.{Form, form_of, is_code, is_link_code}
 use Rattle.linkstate.specs.Replies.{accepted, refused, Refusal, refusal_at, fault, fault_of_call, refused_if, ◌then◌, unless, run_a, Reading, count, absent, found, ask_refused, Asked, Place}
-use Rattle.linkstate.specs.Attributes.{Attribute, reading_as, reading}
-use Rattle.linkstate.specs.Questions.{srlg_answer, unwritten, first_of}
+use Rattle.linkstate.specs.Attributes.{reading_as}
+use Rattle.linkstate.specs.Questions.{srlg_answer, unwritten}
 use Rattle.kinds.specs.declared.Rule.{Rule}
 use Rattle.kinds.specs.Rules.{rule_of_code, is_known, is_link}
 use Rattle.kinds.proofs.Laws.{code-known, code-link}
 use Rattle.std.specs.Prelude.{Option, Some, None}
 use Rattle.octets.specs.declared.Span.{Span}
-use Rattle.octets.specs.Spans.{found_in}
 use Rattle.answering.specs.Standing.{standing}
 use Rattle.answering.specs.Rows.{row_answer}
 
@@ -75,17 +74,6 @@ module _ (ns list : List ℕ) where
   pub srlgs-written : (after : List ℕ) → (length ns ≡ 0 → ⊥) → length ns ≤ length list → after ≡ put list 0 ns → record { reply = found (count (length ns)); list = after } ≡ srlg_answer ns list
   unfolding srlg_answer refused_if unless
   srlgs-written after n h e = rw (something ns n, le-ltb (length list) (length ns) h, e)
-
--- The reply of a kind is that of its first attribute, by where it stands.
-module _ (s : List ℕ) (spot : ℕ → Place) (k : ℕ) (ts : List Attribute) where
-  pub first_absent : ts ≡ [] → first_of spot ts ≡ row_answer s spot k (found_in ts)
-  unfolding first_of row_answer found_in
-  first_absent e = rw e
-
-  pub first-present : (t : Attribute) (us : List Attribute) → ts ≡ t ∷ us → t.code ≡ k
-      → reading_as (form_of k) spot t ≡ reading_as (form_of k) spot (standing s t.at t.len) → first_of spot ts ≡ row_answer s spot k (found_in ts)
-  unfolding first_of row_answer reading found_in
-  first-present t us e c h = rw e (ap found (ap (λ (x : ℕ). reading_as (form_of x) spot t) c ∙ h))
 
 -- The list's front is what was sorted.
 pub srlg-front : (x : Asked) (l : List ℕ) (k : ℕ) (ns list : List ℕ) → x ≡ srlg_answer (take (k - 0) (drop 0 l)) list → take k l ≡ ns → x ≡ srlg_answer ns list

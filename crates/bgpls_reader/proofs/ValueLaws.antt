@@ -2,11 +2,11 @@
 use mathlib.Core.Path.{◌≡◌, refl, sym, ap, ap₂, ◌∙◌, subst}
 use mathlib.Core.Bool.{Bool, true, false, not}
 use mathlib.Core.List.{List, [], ◌∷◌, Memᴰ}
-use Prim.Native.Nat.{ℕ, ◌+◌, ◌-◌, ◌≤◌, ◌<◌}
+use Prim.Native.Nat.{ℕ, ◌+◌, ◌≤◌, ◌<◌}
 use native.Mathlib.Omega.{arith}
 use borrow.Author.Tests.{ne_eqb, eqb-true, ltb-false}
 use lib.Dec.{eqb}
-use lib.ListN.{length, take, drop, length-take, length-drop}
+use lib.ListN.{length, drop, length-take, length-drop}
 use Rattle.linkstate.specs.Lists.{empty}
 use Rattle.linkstate.specs.Bytes.{bytes_at}
 use Rattle.linkstate.specs.Kinds.{is_code, is_link_code, form_of, wrong_at_top, wrong_inside}
@@ -14,11 +14,10 @@ use Rattle.linkstate.specs.Replies.{run_bgp_ls, accepted, place}
 use Rattle.linkstate.specs.Attributes.{Attribute, of_kind}
 use Rattle.linkstate.specs.Sides.{general_set, application_set}
 use Rattle.linkstate.specs.Meaning.{Accepted}
-use Rattle.linkstate.specs.Questions.{number_too_high, set_of, given, first_of, bytes_of_first}
+use Rattle.linkstate.specs.Questions.{number_too_high, set_of, given}
 use Rattle.linkstate.specs.BgpLs.{run_verdict, run_side, run_source}
 use Rattle.linkstate.specs.Masks.{user}
 use Rattle.linkstate.proofs.Computing.{computing}
-use Rattle.octets.proofs.Laws.{part-is}
 use Rattle.kinds.specs.declared.Kind.{Kind}
 use Rattle.kinds.specs.declared.Kind.TheVariants.{Link, Application, Srlg, Asla, Unknown}
 use Rattle.kinds.specs.declared.Size.{Size}
@@ -29,12 +28,10 @@ use Rattle.replies.specs.declared.Subject.TheVariants.{General, Standard, User}
 use Rattle.replies.specs.Told.{subject_of}
 use Rattle.answering.proofs.ReadingLaws.{own-bytes}
 use Rattle.answering.proofs.Lengths.{readable-in-bgpls}
-use Rattle.answering.specs.Rows.{ReadableRow, row_answer}
-use Rattle.answering.proofs.Laws.{first-present}
+use Rattle.answering.proofs.RowLaws.{StandsIn}
 use Rattle.bgpls_find.specs.declared.Set.{Set}
 use Rattle.bgpls_find.specs.declared.Set.TheVariants as Sets
-use Rattle.bgpls_find.specs.declared.Found.TheVariants.{At, Absent}
-use Rattle.bgpls_find.specs.Sets.{attributes_in, found_in}
+use Rattle.bgpls_find.specs.Sets.{attributes_in}
 use Rattle.linkstate.proofs.ListLaws.{keep-mem}
 use Rattle.rivals.proofs.Reader.{From, at_top, in-asla, given-from, Stands, top_right, inner-fits, of-kind}
 
@@ -71,23 +68,6 @@ low-user whom n e h = omega (arith, ltb-false 31 n (sym (ap (λ (w : Whom). numb
 
 -- ---- the first of a kind
 
-pub record First (xs : List Attribute) (p n : ℕ) : Type 0 where
-  pub first : Attribute
-  pub rest : List Attribute
-  pub is : xs ≡ first ∷ rest
-  pub place : first.at ≡ p
-  pub len : first.len ≡ n
-
-pub found_first : (xs : List Attribute) (p n : ℕ) → At p n ≡ found_in xs → First xs p n
-unfolding found_in
-found_first [] p n e = absurd (let z : ◌≡◌ {A = ℕ} 0 1 = cc in omega arith)
-found_first (t ∷ ts) p n e = record { first = t; rest = ts; is = refl; place = cc; len = cc }
-
-pub found_none : (xs : List Attribute) → Absent ≡ found_in xs → xs ≡ []
-unfolding found_in
-found_none [] e = refl
-found_none (t ∷ ts) e = absurd (let z : ◌≡◌ {A = ℕ} 0 1 = cc in omega arith)
-
 no-asla-code : is_code 1122 ≡ false
 unfolding computing
 no-asla-code = refl
@@ -116,58 +96,47 @@ asla-no-code k c = go (eqb k 1122) refl
     go true e = absurd (let z : is_code 1122 ≡ true = sym (ap is_code (eqb-true k 1122 e)) ∙ c in let y : ◌≡◌ {A = ℕ} 0 1 = cc (no-asla-code) in omega arith)
     go false e = e
 
--- The first value of a kind, in an accepted run: it stands at its place, and its length can be read.
+-- The first value of a kind, in an accepted run.
 module _ (r : List ℕ) (ok : run_verdict r ≡ accepted) (whom : Whom) (low : number_too_high (subject_of whom) ≡ false) (k : ℕ) (c : is_code k ≡ true)
-    (d : eqb k 1096 ≡ false) (p n : ℕ)
-    (f : First (of_kind k (given (run_source r) (subject_of whom) k)) p n) where
+    (d : eqb k 1096 ≡ false) where
   accepted-run : Accepted (run_source r)
   unfolding run_source
   accepted-run = ok
 
-  member : Memᴰ f.first (of_kind k (given (run_source r) (subject_of whom) k))
-  member = subst (λ (xs : List Attribute). Memᴰ f.first xs) (sym f.is) (Memᴰ.head refl)
+  module _ (t : Attribute) (us : List Attribute) (f : of_kind k (given (run_source r) (subject_of whom) k) ≡ t ∷ us) where
+    member : Memᴰ t (of_kind k (given (run_source r) (subject_of whom) k))
+    member = subst (λ (xs : List Attribute). Memᴰ t xs) (sym f) (Memᴰ.head refl)
 
-  facts : Stands r f.first × (f.first.code ≡ k) × (empty f.first.value ≡ false)
-  facts = of-kind r accepted-run (subject_of whom) low k c [] f.first d member
+    facts : Stands r t × (t.code ≡ k) × (empty t.value ≡ false)
+    facts = of-kind r accepted-run (subject_of whom) low k c [] t d member
 
-  right : wrong_at_top k f.first.len ≡ false
-  unfolding of_kind
-  right =
-      let q = keep-mem (λ t. eqb k t.code) (given (run_source r) (subject_of whom) k) member in
-      go (given-from r k (subject_of whom) q.1)
-    where
-      at : (wrong_at_top f.first.code (length f.first.value) ≡ false) → wrong_at_top k f.first.len ≡ false
-      at h = sym (ap₂ (λ (x y : ℕ). wrong_at_top x y) facts.1 (sym facts.0.len)) ∙ h
+    right : wrong_at_top k t.len ≡ false
+    unfolding of_kind
+    right =
+        let q = keep-mem (λ t. eqb k t.code) (given (run_source r) (subject_of whom) k) member in
+        go (given-from r k (subject_of whom) q.1)
+      where
+        at : (wrong_at_top t.code (length t.value) ≡ false) → wrong_at_top k t.len ≡ false
+        at h = sym (ap₂ (λ (x y : ℕ). wrong_at_top x y) facts.1 (sym facts.0.len)) ∙ h
 
-      go : From r k f.first → wrong_at_top k f.first.len ≡ false
-      go (at_top i) = at (top_right r accepted-run i (ap (λ (x : ℕ). eqb x 1122) facts.1 ∙ asla-no-code k c))
-      go (in-asla a l i j) =
-          at (sym (inside-top f.first.code (length f.first.value) (ap is_link_code facts.1 ∙ l)) ∙ (inner-fits r accepted-run i j).1)
+        go : From r k t → wrong_at_top k t.len ≡ false
+        go (at_top i) = at (top_right r accepted-run i (ap (λ (x : ℕ). eqb x 1122) facts.1 ∙ asla-no-code k c))
+        go (in-asla a l i j) =
+            at (sym (inside-top t.code (length t.value) (ap is_link_code facts.1 ∙ l)) ∙ (inner-fits r accepted-run i j).1)
 
-  some : 0 < n
-  some = go f.first.value refl
-    where
-      go : (v : List ℕ) → f.first.value ≡ v → 0 < n
-      go [] e = absurd (let z : ◌≡◌ {A = ℕ} 0 1 = cc (sym (ap empty e) ∙ facts.2, nothing-empty) in omega arith)
-      go (b ∷ bs) e = omega (arith, ap length e, facts.0.len, f.len)
+    some : 0 < t.len
+    some = go t.value refl
+      where
+        go : (v : List ℕ) → t.value ≡ v → 0 < t.len
+        go [] e = absurd (let z : ◌≡◌ {A = ℕ} 0 1 = cc (sym (ap empty e) ∙ facts.2, nothing-empty) in omega arith)
+        go (b ∷ bs) e = omega (arith, ap length e, facts.0.len)
 
-  pub placed : p ≡ 0 → ⊥
-  placed z = omega (arith, facts.0.placed, f.place)
-
-  pub lies_within : p + n ≤ length r
-  unfolding bytes_at
-  lies_within = omega (arith, some, f.len, f.place, facts.0.len, ap length facts.0.bytes, length-take f.first.len (drop f.first.at r), length-drop f.first.at r)
-
-  pub readable : ReadableRow (form_of k) (length r) p n
-  unfolding wrong_at_top
-  readable z = (lies_within, readable-in-bgpls k n c d (subst (λ (x : ℕ). wrong_at_top k x ≡ false) f.len right))
-
-  pub answers : first_of (place run_bgp_ls) (of_kind k (given (run_source r) (subject_of whom) k)) ≡ row_answer r (place run_bgp_ls) k p n
-  answers =
-      first-present r (place run_bgp_ls) k (of_kind k (given (run_source r) (subject_of whom) k)) f.first f.rest f.is facts.1 facts.0.placed
-      (own-bytes r (place run_bgp_ls) f.first (form_of k) (sym facts.0.bytes))
-      ∙ ap₂ (row_answer r (place run_bgp_ls) k) f.place f.len
-
-  pub part-is-value : take (p + n - p) (drop p r) ≡ bytes_of_first r (of_kind k (given (run_source r) (subject_of whom) k))
-  unfolding bytes_of_first
-  part-is-value = part-is r p n ∙ sym (ap (bytes_of_first r) f.is ∙ ap₂ (bytes_at r) f.place f.len)
+    pub stands-first : StandsIn r (place run_bgp_ls) k t
+    unfolding wrong_at_top bytes_at
+    stands-first =
+        record {
+          code = facts.1;
+          within = omega (arith, some, facts.0.len, ap length facts.0.bytes, length-take t.len (drop t.at r), length-drop t.at r);
+          readable = readable-in-bgpls k t.len c d right;
+          reads = own-bytes r (place run_bgp_ls) t (form_of k) (sym facts.0.bytes);
+        }

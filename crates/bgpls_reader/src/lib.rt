@@ -13,14 +13,15 @@ ghost use Rattle.linkstate.specs.Kinds.{is_code};
 ghost use Rattle.linkstate.specs.Attributes.{of_kind, srlgs};
 ghost use Rattle.linkstate.specs.Questions.{number_too_high, given, first_of, bytes_of_first, srlg_answer, answer, ask, value, list_named};
 ghost use Rattle.replies.specs.Told.{subject_of, told_answer, told_asked, told_named};
-ghost use Rattle.bgpls_find.specs.Sets.{attributes_in, found_in};
+ghost use Rattle.bgpls_find.specs.Sets.{attributes_in};
+ghost use Rattle.octets.specs.Spans.{found_in};
 ghost use Rattle.bgpls_find.specs.Walks.{Starts, standard_mask, user_mask};
 ghost use Rattle.bgpls_reader.specs.Room.{Counted};
 
 use bgpls_check::read_asla_header;
-use bgpls_find::{Found, Set, Start, is_chosen};
+use bgpls_find::{Set, Start, is_chosen};
 use masks::Applications;
-use octets::read16;
+use octets::{Span, read16};
 use replies::{Answer, Checked, Named, Run, Subject};
 
 // With the masks of a 1122.
@@ -94,7 +95,7 @@ pub fn set_asked(r: &[u8], whom: Subject, code: usize) -> Start
 }
 
 // Where the value that a question asks for stands.
-pub fn find_value(r: &[u8], whom: Subject, code: usize) -> Found
+pub fn find_value(r: &[u8], whom: Subject, code: usize) -> Option<Span>
     requires { (run_verdict r.now ≡ accepted) × (number_too_high (subject_of whom) ≡ false) }
     ensures { result ≡ found_in (of_kind code (given (run_source r.now) (subject_of whom) code)) }
 {
@@ -107,10 +108,7 @@ pub fn answer_value(r: &[u8], whom: Subject, code: usize) -> Answer
     requires { (run_verdict r.now ≡ accepted) × (number_too_high (subject_of whom) ≡ false) × (is_code code ≡ true) × (eqb code 1096 ≡ false) }
     ensures { told_answer result ≡ first_of (place run_bgp_ls) (of_kind code (given (run_source r.now) (subject_of whom) code)) }
 {
-    let Found::At { place, len } = find_value(r, whom, code) else {
-        return Answer::Absent;
-    };
-    answering::answer_row(r, Run::BgpLs, code, place, len)
+    answering::answer_row(r, Run::BgpLs, code, find_value(r, whom, code))
 }
 
 // The value's bytes as a part of the run.
@@ -118,7 +116,7 @@ pub fn part_of(r: &[u8], whom: Subject, code: usize) -> &[u8]
     requires { (run_verdict r.now ≡ accepted) × (number_too_high (subject_of whom) ≡ false) × (is_code code ≡ true) × (eqb code 1096 ≡ false) }
     ensures { result.now ≡ bytes_of_first r.now (of_kind code (given (run_source r.now) (subject_of whom) code)) }
 {
-    let Found::At { place, len } = find_value(r, whom, code) else {
+    let Some(Span { place, len }) = find_value(r, whom, code) else {
         return &r[0..0];
     };
     &r[place..place + len]

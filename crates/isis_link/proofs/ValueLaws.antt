@@ -2,22 +2,20 @@
 use mathlib.Core.Path.{◌≡◌, refl, sym, ap, ◌∙◌, subst}
 use mathlib.Core.Bool.{Bool, true, false, cond}
 use mathlib.Core.List.{List, [], ◌∷◌}
-use Prim.Native.Nat.{ℕ, ◌+◌, ◌-◌, ◌≤◌}
+use Prim.Native.Nat.{ℕ}
 use native.Mathlib.Omega.{arith}
 use borrow.Author.Tests.{eqb-true}
 use lib.Dec.{eqb}
-use lib.ListN.{length, take, drop}
 use Rattle.linkstate.specs.Lists.{empty}
 use Rattle.linkstate.specs.Bytes.{bytes_at}
 use Rattle.linkstate.specs.Kinds as T
 use Rattle.linkstate.specs.Kinds.{Form, is_code, form_of}
-use Rattle.linkstate.specs.Replies.{Reply, accepted, run_a, place}
+use Rattle.linkstate.specs.Replies.{accepted, run_a, place}
 use Rattle.linkstate.specs.Elements.{elements, faults}
 use Rattle.linkstate.specs.Attributes.{Attribute, of_kind, value_of, reading_as}
 use Rattle.linkstate.specs.Sides.{names, of_live, general_set}
-use Rattle.linkstate.specs.Questions.{Subject, given, first_of, bytes_of_first}
+use Rattle.linkstate.specs.Questions.{Subject, given}
 use Rattle.isis_kinds.proofs.Computing.{computing}
-use Rattle.octets.proofs.Laws.{part-is}
 use Rattle.isis.specs.RunA.{check_a, side_a}
 use Rattle.isis.specs.Link.{link_source}
 use Rattle.isis.proofs.TypeLaws.{wrong_of_code, none-wrong}
@@ -28,14 +26,9 @@ use Rattle.rules.specs.Rules.{taken_by, rule_on}
 use Rattle.rules.proofs.Laws.{rule-taken}
 use Rattle.answering.specs.Standing.{standing}
 use Rattle.answering.proofs.ReadingLaws.{own-bytes, zero-in-front}
-use Rattle.answering.specs.Rows.{ReadableRow, row_answer}
-use Rattle.answering.proofs.Laws.{first_absent, first-present}
+use Rattle.answering.proofs.RowLaws.{StandsIn}
 use Rattle.isis_grids.specs.declared.Which.TheVariants as W
-use Rattle.isis_grids.specs.Grid.{row_of, bgpls_value}
-use Rattle.std.specs.Prelude.{Option, Some, None}
-use Rattle.std.proofs.lemmas.Option.{same_Some}
-use Rattle.octets.specs.declared.Span.{Span}
-use Rattle.octets.specs.Spans.{found_in}
+use Rattle.isis_grids.specs.Grid.{bgpls_value}
 use Rattle.isis_grids.specs.Selected.{selects}
 use Rattle.isis_grids.proofs.Grids.{All, all_append}
 use Rattle.isis_grids.proofs.Places.{Stands, legacy-stands, live-stands, First, absent, present, first-of, some_bytes, within}
@@ -78,23 +71,8 @@ module _ (a : List ℕ) (ok : faults run_a check_a (elements 1 0 a) ≡ accepted
   pub given-stands : (b c : List ℕ) (whom : Subject) (k : ℕ) → eqb k 1096 ≡ false → All (Stands a) (given (link_source a b c) whom k)
   given-stands b c whom k s = subst (All (Stands a)) (rule-taken whom k (side_a a) ∙ sym (given-in-a a b c whom k s)) (taken-stands (rule_on whom k (side_a a)) k)
 
--- The row of a kind: absent, or where its first value stands.
-module _ (a : List ℕ) (whom : Subject) (k : ℕ) (m : Names) (x : Bool) (q : AskedInA a whom k m x) (b c : List ℕ) (row : Option Span) (e : row ≡ row_of k (given (link_source a b c) whom k)) where
-  first : First a k (given (link_source a b c) whom k)
-  first = first-of a k (given (link_source a b c) whom k) (given-stands a q.passed b c whom k q.other)
-
-  row-absent : of_kind k (given (link_source a b c) whom k) ≡ [] → row ≡ None
-  unfolding found_in
-  row-absent i = e ∙ ap found_in i
-
-  row-present : (t : Attribute) (us : List Attribute) → of_kind k (given (link_source a b c) whom k) ≡ t ∷ us → row ≡ Some (record { place = t.at; len = t.len })
-  unfolding found_in
-  row-present t us i = e ∙ ap found_in i
-
-  -- A value of the kind lies in the run and can be read.
-  lies : (t : Attribute) → t.code ≡ k → Stands a t → t.at + t.len ≤ length a
-  lies t j st = within a t st (some_bytes a t st (ap (λ (x : ℕ). wrong_of_code x 0) j ∙ none-wrong k q.known q.other))
-
+-- The first value of a kind, if there is one.
+module _ (a : List ℕ) (whom : Subject) (k : ℕ) (m : Names) (x : Bool) (q : AskedInA a whom k m x) (b c : List ℕ) where
   reads : (t : Attribute) → t.code ≡ k → Stands a t → reading_as (form_of k) (place run_a) t ≡ reading_as (form_of k) (place run_a) (standing a t.at t.len)
   unfolding bgpls_value
   reads t j st = go (eqb k 1092) refl (st.value ∙ ap (λ (x : ℕ). bgpls_value x (bytes_at a t.at t.len)) j)
@@ -106,41 +84,21 @@ module _ (a : List ℕ) (whom : Subject) (k : ℕ) (m : Names) (x : Bool) (q : A
           (zero-in-front a (place run_a) t v)
       go false z v = own-bytes a (place run_a) t (form_of k) v
 
-  pub row-readable : ReadableRow (form_of k) (length a) row
+  pub stands-first : (t : Attribute) (us : List Attribute) → of_kind k (given (link_source a b c) whom k) ≡ t ∷ us → StandsIn a (place run_a) k t
   unfolding wrong_of_code
-  row-readable = go first
+  stands-first t us e = go (first-of a k (given (link_source a b c) whom k) (given-stands a q.passed b c whom k q.other))
     where
-      go : First a k (given (link_source a b c) whom k) → ReadableRow (form_of k) (length a) row
-      go (absent i) = rw (row-absent i) tt
-      go (present t us i j st) =
-          rw (row-present t us i)
-          (lies t j st, readable-in-a k t.len q.known q.other (sym (ap (λ (x : ℕ). wrong_of_code x t.len) j) ∙ st.right))
+      at : Stands a t → t.code ≡ k → StandsIn a (place run_a) k t
+      at st j =
+          record {
+            code = j;
+            within = within a t st (some_bytes a t st (ap (λ (x : ℕ). wrong_of_code x 0) j ∙ none-wrong k q.known q.other));
+            readable = readable-in-a k t.len q.known q.other (sym (ap (λ (x : ℕ). wrong_of_code x t.len) j) ∙ st.right);
+            reads = reads t j st;
+          }
 
-  pub row-answers : (r : Reply) → r ≡ row_answer a (place run_a) k row → r ≡ first_of (place run_a) (of_kind k (given (link_source a b c) whom k))
-  row-answers r h = h ∙ ap (row_answer a (place run_a) k) e ∙ sym (go first)
-    where
-      go : First a k (given (link_source a b c) whom k)
-          → first_of (place run_a) (of_kind k (given (link_source a b c) whom k)) ≡ row_answer a (place run_a) k (row_of k (given (link_source a b c) whom k))
-      go (absent i) = first_absent a (place run_a) k (of_kind k (given (link_source a b c) whom k)) i
-      go (present t us i j st) = first-present a (place run_a) k (of_kind k (given (link_source a b c) whom k)) t us i j (reads t j st)
-
-  module _ (span : Span) (some : row ≡ Some span) where
-    pub row_within : span.place + span.len ≤ length a
-    row_within = (subst (ReadableRow (form_of k) (length a)) some row-readable).0
-
-    pub row-part : take (span.place + span.len - span.place) (drop span.place a) ≡ bytes_of_first a (of_kind k (given (link_source a b c) whom k))
-    unfolding bytes_of_first
-    row-part = part-is a span.place span.len ∙ go first
-      where
-        go : First a k (given (link_source a b c) whom k) → bytes_at a span.place span.len ≡ bytes_of_first a (of_kind k (given (link_source a b c) whom k))
-        go (absent i) = let z : None ≡ Some span = sym (row-absent i) ∙ some in cc
-        go (present t us i j st) =
-            ap (λ (x : Span). bytes_at a x.place x.len) (same_Some _ _ (sym some ∙ row-present t us i)) ∙ sym (ap (bytes_of_first a) i)
-
-  pub row-none : row ≡ None → [] ≡ bytes_of_first a (of_kind k (given (link_source a b c) whom k))
-  unfolding bytes_of_first
-  row-none none = go first
-    where
-      go : First a k (given (link_source a b c) whom k) → [] ≡ bytes_of_first a (of_kind k (given (link_source a b c) whom k))
-      go (absent i) = sym (ap (bytes_of_first a) i)
-      go (present t us i j st) = let z : None ≡ Some _ = sym none ∙ row-present t us i in cc
+      go : First a k (given (link_source a b c) whom k) → StandsIn a (place run_a) k t
+      go (absent i) = let z : [] ≡ t ∷ us = sym i ∙ e in cc
+      go (present u vs i j st) =
+          let same : u ≡ t = cc in
+          at (subst (Stands a) same st) (ap (λ (x : Attribute). x.code) (sym same) ∙ j)

@@ -1,5 +1,5 @@
 -- The first of the kind in the set that the question is about.
-use Rattle.bgpls_find.specs.Sets.{found_in}
+use Rattle.octets.specs.Spans.{found_in}
 use Rattle.linkstate.specs.Attributes.{Attribute, of_kind}
 use mathlib.Core.List.{List}
 use mathlib.Core.Path.{ap, ◌∙◌}
