@@ -7,17 +7,12 @@ use native.Mathlib.Omega.{arith}
 use borrow.Author.Tests.{lt-ltb, le-ltb}
 use lib.ListN.{length, take, drop}
 use Rattle.linkstate.specs.Lists.{empty, put}
-use Rattle.linkstate.specs.Kinds.{Form, form_of, is_code, is_link_code}
-use Rattle.linkstate.specs.Replies.{accepted, refused, Refusal, refusal_at, fault, fault_of_call, refused_if, ◌then◌, unless, run_a, Reading, count, absent, found, ask_refused, Asked, Place}
-use Rattle.linkstate.specs.Attributes.{reading_as}
+use Rattle.linkstate.specs.Kinds.{is_code, is_link_code}
+use Rattle.linkstate.specs.Replies.{accepted, refused, Refusal, refusal_at, fault, fault_of_call, refused_if, ◌then◌, unless, run_a, count, absent, found, ask_refused, Asked}
 use Rattle.linkstate.specs.Questions.{srlg_answer, unwritten}
 use Rattle.kinds.specs.declared.Rule.{Rule}
 use Rattle.kinds.specs.Rules.{rule_of_code, is_known, is_link}
 use Rattle.kinds.proofs.Laws.{code-known, code-link}
-use Rattle.std.specs.Prelude.{Option, Some, None}
-use Rattle.octets.specs.declared.Span.{Span}
-use Rattle.answering.specs.Standing.{standing}
-use Rattle.answering.specs.Rows.{row_answer}
 
 -- Whether a code is known is told by its rule's kind.
 pub known-by-kind : (c : ℕ) (r : Rule) → r ≡ rule_of_code c → is_known r.kind ≡ is_code c
@@ -39,17 +34,6 @@ module _ (high known : Bool) where
   pub no-refusal : high ≡ false → known ≡ true → accepted ≡ (refused_if high 6 then refused_if (not known) 7)
   unfolding refused_if ◌then◌
   no-refusal h k = rw (h, k)
-
--- A row that is absent, and one that is read.
-module _ (s : List ℕ) (spot : ℕ → Place) (code : ℕ) (row : Option Span) where
-  pub row-absent : row ≡ None → absent ≡ row_answer s spot code row
-  unfolding row_answer
-  row-absent e = rw e
-
-  pub row-found : (span : Span) → row ≡ Some span → (x : Reading) (f : Form) → f ≡ form_of code → x ≡ reading_as f spot (standing s span.place span.len)
-      → found x ≡ row_answer s spot code row
-  unfolding row_answer
-  row-found span i x f e h = rw i (ap found (h ∙ ap (λ (g : Form). reading_as g spot (standing s span.place span.len)) e))
 
 -- SRLGs: none, too many, and as many as fit.
 nothing : (ns : List ℕ) → length ns ≡ 0 → empty ns ≡ true

@@ -29,7 +29,7 @@ module _ (s : List ℕ) (spot : ℕ → Place) (k : ℕ) where
   readable-first (t ∷ ts) h = let x = h t ts refl in (x.within, x.readable)
 
   answers-first : (ts : List Attribute) → ((t : Attribute) (us : List Attribute) → ts ≡ t ∷ us → StandsIn s spot k t) → row_answer s spot k (found_in ts) ≡ first_of spot ts
-  unfolding found_in first_of row_answer reading
+  unfolding found_in first_of reading
   answers-first [] h = refl
   answers-first (t ∷ ts) h = let x = h t ts refl in sym (ap found (ap (λ (c : ℕ). reading_as (form_of c) spot t) x.code ∙ x.reads))
 

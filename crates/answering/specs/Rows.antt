@@ -7,7 +7,7 @@ use Rattle.octets.specs.declared.Span.{Span}
 use Rattle.answering.specs.Standing.{Readable, standing}
 
 -- K4, R12. Absent, or what stands there reads as.
-unfoldable pub row_answer : List ℕ → (ℕ → Place) → ℕ → Option Span → Reply
+abbrev pub row_answer : List ℕ → (ℕ → Place) → ℕ → Option Span → Reply
 row_answer s spot code None = absent
 row_answer s spot code (Some row) = found (reading_as (form_of code) spot (standing s row.place row.len))
 

@@ -85,9 +85,8 @@ pub fn answer_row(s: &[u8], run: Run, code: usize, row: Option<Span>) -> Option<
     requires { ReadableRow (form_of code) (length s.now) row }
     ensures { told_answer (Ok result) ≡ row_answer s.now (told_spot run) code row }
 {
-    let Span { place, len } = row?;
     let form = kinds::form_of(code);
-    Some(read_value(s, run, form, place, len))
+    row.map(|span| read_value(s, run, form, span.place, span.len))
 }
 
 // The reply of SRLG, from the different numbers, ascending: they go to the front of the lent list if they fit.
