@@ -85,10 +85,10 @@ pub fn rank(keys: &[u64], values: &mut [u64], rows: &mut [[u64; 18]]) -> usize
     ensures { Ranked keys.now values.new result rows.old rows.new }
 {
     let mut count = 0;
-    for key in keys {
-        let v = u64::from(key.number());
-        if count == 0 || values[count - 1] != v {
-            values[count] = v;
+    for (i, key) in keys.iter().enumerate() {
+        let n = key.number();
+        if i == 0 || keys[i - 1].number() != n {
+            values[count] = u64::from(n);
             count += 1;
         }
         let source = (*key / 4294967296) as usize;
