@@ -1,16 +1,19 @@
 -- Laws of parts of a run, of big-endian numbers, of writes into a buffer, and of equal runs.
 -- Assumes nothing.
 use mathlib.Core.Path.{◌≡◌, refl, sym, ◌∙◌, ap}
-use mathlib.Core.Bool.{Bool, true, false, ◌&&◌, and-true, and-false}
+use mathlib.Core.Bool.{Bool, true, false, ◌&&◌}
 use mathlib.Core.List.{List, [], ◌∷◌, ◌++◌, append_assoc}
 use Prim.Native.Nat.{ℕ, zero, suc, ◌+◌, ◌-◌, ◌*◌, ◌/◌, ◌%◌, ◌^◌, ◌≤◌, ◌<◌}
 use lib.Dec.{eqb}
-use lib.ListN.{length, take, drop, get_or, set, length-append, length-drop, drop_of_length-le, length-set, get_or-append}
+use lib.ListN.{length, length-set, take, drop, get_or, set, length-append, length-drop, get_or-append}
 use lib.Seq.{length-take-le, take-add, take-length, ext_get_or, take_at, drop_at, drop-drop, drop-cons, get_or-take, get_or-drop, sets-eq, paste, paste-zero, paste-suc}
-use native.Mathlib.Nat.{zero-add, add_assoc, add-mul, mul_assoc, pow-suc, pow-succ', add-sub_cancel_left, mul-le-mul_right}
+use native.Mathlib.Nat.{zero-add, add_assoc, add-mul, mul_assoc, pow-succ', add-sub_cancel_left, mul-le-mul_right}
 use native.Mathlib.Numerals.{add-one}
 use native.Mathlib.Omega.{arith}
-use borrow.Author.Tests.{eq-eqb, ne_eqb, eqb-true}
+use borrow.Author.Tests.{eq-eqb, eqb-true}
+use Rattle.std.proofs.lemmas.List.{drop-take, take-take}
+use Rattle.std.specs.Int.{w16, w32, from_be_bytes, to_be_bytes}
+use Rattle.std.specs.Cmp.Lexicographic.{pointwise}
 use Rattle.linkstate.specs.Lists.{put, same_bytes}
 use Rattle.linkstate.specs.Bytes.{number, number_from, two, four, bytes_at}
 
@@ -74,11 +77,6 @@ number_from-is n (b ∷ bs) =
 pub number_append : (xs ys : List ℕ) → number (xs ++ ys) ≡ number xs * 256 ^ length ys + number ys
 unfolding number
 number_append xs ys = number_from-append 0 xs ys ∙ number_from-is (number xs) ys
-
--- One byte more at the end.
-pub number-next : (bs : List ℕ) (b : ℕ) → number (bs ++ (b ∷ [])) ≡ number bs * 256 + b
-unfolding number number_from
-number-next bs b = number_from-append 0 bs (b ∷ [])
 
 -- n bytes write a number below 256 to the n.
 pub number_lt : (bs : List ℕ) → Octets bs → number bs < 256 ^ length bs
@@ -151,27 +149,42 @@ four-short bs all e = four-number (0 ∷ bs) front (omega arith)
     front zero = omega arith
     front (suc i) = all i
 
--- ---- a number read byte by byte
-
--- r is the number of the n bytes at an offset.
-abbrev pub Reads : List ℕ → ℕ → ℕ → ℕ → Type 0
-Reads s at n r = (r ≡ number (bytes_at s at n)) × (r < 256 ^ n)
+-- ---- bytes that stand at an offset, and big-endian numbers as the standard library has them
 
 module _ (s : List ℕ) (at : ℕ) where
-  -- b is the byte at an offset, by the contract of `wide`.
-  abbrev Byte : ℕ → ℕ → Type 0
-  Byte k b = (b ≡ get_or s k 0) × (b < 256)
+  pub bytes-one : at < length s → bytes_at s at 1 ≡ get_or s at 0 ∷ []
+  unfolding bytes_at
+  bytes-one h = rw (drop-cons s at 0 h)
 
-  pub read_one : (b : ℕ) → Byte at b → at < length s → Reads s at 1 b
-  unfolding number number_from bytes_at
-  read_one b e h = (rw (drop-cons s at 0 h) (omega arith), e.1)
+module _ (s : List ℕ) (at : ℕ) where
+  pub bytes-two : at + 2 ≤ length s → bytes_at s at 2 ≡ get_or s at 0 ∷ get_or s (at + 1) 0 ∷ []
+  bytes-two h = bytes_at-next s at 1 (omega arith) ∙ rw (bytes-one s at (omega arith)) refl
 
-  -- One byte more, at any width.
-  pub read_next : (n r b : ℕ) → Reads s at n r → Byte (at + n) b → at + n < length s → Reads s at (n + 1) (r * 256 + b)
-  read_next n r b d e h = (
-    rw (bytes_at-next s at n h, number-next (bytes_at s at n) (get_or s (at + n) 0)) (cc),
-    rw (add-one n, pow-suc 256 n) (omega arith),
-  )
+  pub bytes-three : at + 3 ≤ length s → bytes_at s at 3 ≡ get_or s at 0 ∷ get_or s (at + 1) 0 ∷ get_or s (at + 2) 0 ∷ []
+  bytes-three h = bytes_at-next s at 2 (omega arith) ∙ rw (bytes-two (omega arith)) refl
+
+  pub bytes-four : at + 4 ≤ length s → bytes_at s at 4 ≡ get_or s at 0 ∷ get_or s (at + 1) 0 ∷ get_or s (at + 2) 0 ∷ get_or s (at + 3) 0 ∷ []
+  bytes-four h = bytes_at-next s at 3 (omega arith) ∙ rw (bytes-three (omega arith)) refl
+
+pub number-be_two : (a b : ℕ) → from_be_bytes w16 (a ∷ b ∷ []) ≡ number (a ∷ b ∷ [])
+unfolding number number_from
+number-be_two a b = omega arith
+
+pub number-be_three : (a b c : ℕ) → from_be_bytes w32 (0 ∷ a ∷ b ∷ c ∷ []) ≡ number (a ∷ b ∷ c ∷ [])
+unfolding number number_from
+number-be_three a b c = omega arith
+
+pub number-be_four : (a b c d : ℕ) → from_be_bytes w32 (a ∷ b ∷ c ∷ d ∷ []) ≡ number (a ∷ b ∷ c ∷ d ∷ [])
+unfolding number number_from
+number-be_four a b c d = omega arith
+
+pub two-be : (n : ℕ) → n < 65536 → to_be_bytes w16 n ≡ two n
+unfolding two
+two-be n h = let e : n / 256 % 256 ≡ n / 256 = omega arith in ap (λ (k : ℕ). k ∷ n % 256 ∷ []) e
+
+pub four-be : (n : ℕ) → n < 4294967296 → to_be_bytes w32 n ≡ four n
+unfolding four
+four-be n h = let e : n / 16777216 % 256 ≡ n / 16777216 = omega arith in ap (λ (k : ℕ). k ∷ n / 65536 % 256 ∷ n / 256 % 256 ∷ n % 256 ∷ []) e
 
 -- ---- writes into a buffer
 
@@ -206,9 +219,6 @@ module _ {A : Type 0} where
     pub front-is : take (length vs) (put d 0 vs) ≡ vs
     front-is = rw zero-add at (take_put d 0 vs (omega arith))
 
-    pub rest-is : drop (length vs) (put d 0 vs) ≡ drop (length vs) d
-    rest-is = rw zero-add at (drop-put d 0 vs (omega arith))
-
   put-put : (d : List A) (at : ℕ) (vs : List A) (k : ℕ) (ws : List A) → k ≡ at + length vs → k + length ws ≤ length d → put (put d at vs) k ws ≡ put d at (vs ++ ws)
   unfolding put
   put-put d at vs k ws e h =
@@ -233,6 +243,11 @@ module _ {A : Type 0} where
       put_then d (set d at a) (set (set d at a) (at + 1) b) at (a ∷ []) (at + 1) (b ∷ [])
       (put_one d at a (omega arith)) (put_one (set d at a) (at + 1) b (rw length-set (omega arith))) refl (omega arith)
 
+  -- A part written as one.
+  pub part-written : (d : List A) (at k : ℕ) (new vs : List A) → new ≡ vs → k ≡ length vs → take at d ++ (new ++ drop k (drop at d)) ≡ put d at vs
+  unfolding put
+  part-written d at k new vs e f = rw (e, f, drop-drop (length vs) at d) (sym (append_assoc (take at d) vs (drop (at + length vs) d)))
+
   -- A copy, element by element: i of them are copied.
   module _ (d : List A) (at : ℕ) (s : List A) (i : ℕ) (out : List A) (so : out ≡ paste d at s i) where
     pub copy-next : (z : A) → at + i < length d → i < length s → set out (at + i) (get_or s i z) ≡ paste d at s (i + 1)
@@ -247,10 +262,12 @@ pub get_d-bytes_at : (s : List ℕ) (at n i : ℕ) → i < n → get_or (bytes_a
 unfolding bytes_at
 get_d-bytes_at s at n i h = get_or-take n (drop at s) i 0 h ∙ get_or-drop at s i 0
 
-pub copy-part-next : (d : List ℕ) (from n to i : ℕ) (out : List ℕ) → out ≡ paste d to (bytes_at d from n) i → (b : ℕ) → b ≡ get_or d (from + i) 0 → i < n → from + n ≤ to → to + n ≤ length d
-    → set out (to + i) b ≡ paste d to (bytes_at d from n) (i + 1)
-copy-part-next d from n to i out so b e h l k =
-    rw (e ∙ sym (get_d-bytes_at d from n i h)) (copy-next d to (bytes_at d from n) i out so 0 (omega arith) (omega (arith, length-bytes_at d from n (omega arith))))
+-- A part of what stands before an offset.
+pub bytes_at-take : (s : List ℕ) (end at n : ℕ) → at + n ≤ end → bytes_at (take end s) at n ≡ bytes_at s at n
+unfolding bytes_at
+bytes_at-take s end at n h =
+    let e : at + (end - at) ≡ end = omega arith in
+    ap (λ (i : ℕ). take n (drop at (take i s))) (sym e) ∙ ap (take n) (drop-take at (end - at) s) ∙ take-take n (end - at) (drop at s) (omega arith)
 
 -- What is written is read back.
 pub bytes_at-put : (d : List ℕ) (at : ℕ) (vs : List ℕ) → at + length vs ≤ length d → bytes_at (put d at vs) at (length vs) ≡ vs
@@ -277,11 +294,6 @@ module _ (d : List ℕ) (at : ℕ) (vs : List ℕ) (room : at + length vs ≤ le
       let y = length-bytes_at d p n (omega arith) in
       ext_get_or 0 (bytes_at (put d at vs) p n) (bytes_at d p n) (x ∙ sym y) (λ i k.
       get_d-bytes_at (put d at vs) p n i (omega arith) ∙ get_d-before (p + i) (omega arith) ∙ sym (get_d-bytes_at d p n i (omega arith)))
-
--- The halves of a number, written one after the other.
-pub put-halves : (d e f : List ℕ) (at n : ℕ) → e ≡ put d at (two (n / 65536)) → f ≡ put e (at + 2) (two (n % 65536)) → at + 4 ≤ length d → f ≡ put d at (four n)
-unfolding two
-put-halves d e f at n p q h = rw (four_is n) (put_then d e f at (two (n / 65536)) (at + 2) (two (n % 65536)) p q refl (omega arith))
 
 -- ---- equal runs
 
@@ -312,20 +324,10 @@ same_not x y h = go (same_bytes x y) refl
 pub same-lengths : (x y : List ℕ) → (length x ≡ length y → ⊥) → false ≡ same_bytes x y
 same-lengths x y h = same_not x y (λ e. h (ap length e))
 
--- Two runs of one length from an index on, where the bytes before it gave the answer `was`, and with the bytes there it is `next`.
-module _ (x y : List ℕ) (i : ℕ) (level : length x ≡ length y) (was : Bool) where
-  abbrev Step : Bool → Type 0
-  Step next = (next && same_bytes (drop (i + 1) x) (drop (i + 1) y)) ≡ (was && same_bytes (drop i x) (drop i y))
-
-  pub same_next : (next : Bool) → i < length x → get_or x i 0 ≡ get_or y i 0 → next ≡ was → Step next
-  unfolding same_bytes
-  same_next next h e f = rw (f, add-one i, drop-cons x i 0 h, drop-cons y i 0 (omega arith), eq-eqb (get_or x i 0) (get_or y i 0) e)
-
-  pub same-differ : (next : Bool) → i < length x → (get_or x i 0 ≡ get_or y i 0 → ⊥) → next ≡ false → Step next
-  unfolding same_bytes
-  same-differ next h e f =
-      rw (f, drop-cons x i 0 h, drop-cons y i 0 (omega arith), ne_eqb (get_or x i 0) (get_or y i 0) e) (sym (and-false was))
-
-  pub same_end : length x ≤ i → was ≡ (was && same_bytes (drop i x) (drop i y))
-  unfolding same_bytes
-  same_end h = rw (drop_of_length-le x h, drop_of_length-le y {i = i} (omega arith)) (sym (and-true was))
+-- As the standard library compares them.
+pub same-pointwise : (x y : List ℕ) → pointwise eqb x y ≡ same_bytes x y
+unfolding same_bytes
+same-pointwise [] [] = refl
+same-pointwise [] (b ∷ y) = refl
+same-pointwise (a ∷ x) [] = refl
+same-pointwise (a ∷ x) (b ∷ y) = ap (λ (t : Bool). eqb a b && t) (same-pointwise x y)

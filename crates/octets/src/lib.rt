@@ -15,21 +15,12 @@ pub struct Span {
     pub len: usize,
 }
 
-// A byte as a number to reckon with.
-fn wide(x: u8) -> u32
-    ensures { (result ≡ x) × (result < 256) }
-{
-    x as u32
-}
-
 // The number that two bytes write.
 pub fn read16(s: &[u8], at: usize) -> usize
     requires { at + 2 ≤ length s.now }
     ensures { (result ≡ number (bytes_at s.now at 2)) × (result < 65536) }
 {
-    let high = wide(s[at]);
-    let low = wide(s[at + 1]);
-    (high * 256 + low) as usize
+    usize::from(u16::from_be_bytes([s[at], s[at + 1]]))
 }
 
 // The number that three bytes write.
@@ -37,9 +28,7 @@ pub fn read24(s: &[u8], at: usize) -> u32
     requires { at + 3 ≤ length s.now }
     ensures { (result ≡ number (bytes_at s.now at 3)) × (result < 16777216) }
 {
-    let high = read16(s, at) as u32;
-    let low = wide(s[at + 2]);
-    high * 256 + low
+    u32::from_be_bytes([0, s[at], s[at + 1], s[at + 2]])
 }
 
 // The number that four bytes write.
@@ -47,9 +36,7 @@ pub fn read32(s: &[u8], at: usize) -> u32
     requires { at + 4 ≤ length s.now }
     ensures { (result ≡ number (bytes_at s.now at 4)) × (result < 4294967296) }
 {
-    let high = read24(s, at);
-    let low = wide(s[at + 3]);
-    high * 256 + low
+    u32::from_be_bytes([s[at], s[at + 1], s[at + 2], s[at + 3]])
 }
 
 // A number written as two bytes.
@@ -57,8 +44,7 @@ pub fn write16(out: &mut [u8], at: usize, x: u16)
     requires { at + 2 ≤ length out.old }
     ensures { out.new ≡ put out.old at (two x) }
 {
-    out[at] = (x / 256) as u8;
-    out[at + 1] = (x % 256) as u8;
+    copy_all(&x.to_be_bytes(), out, at);
 }
 
 // A number written as four bytes.
@@ -66,24 +52,14 @@ pub fn write32(out: &mut [u8], at: usize, x: u32)
     requires { at + 4 ≤ length out.old }
     ensures { out.new ≡ put out.old at (four x) }
 {
-    write16(out, at, (x / 65536) as u16);
-    write16(out, at + 2, (x % 65536) as u16);
+    copy_all(&x.to_be_bytes(), out, at);
 }
 
-// Whether two runs are equal. The loop has no early return, so it compiles to compares of many bytes at a time.
+// Whether two runs are equal.
 pub fn same(x: &[u8], y: &[u8]) -> bool
     ensures { result ≡ same_bytes x.now y.now }
 {
-    if x.len() != y.len() {
-        return false;
-    }
-    let mut equal = true;
-    for i in 0..x.len() {
-        if x[i] != y[i] {
-            equal = false;
-        }
-    }
-    equal
+    x == y
 }
 
 // Whether n bytes of s from p on equal m bytes of t from q on.
@@ -99,9 +75,7 @@ pub fn copy_all(src: &[u8], out: &mut [u8], at: usize)
     requires { at + length src.now ≤ length out.old }
     ensures { out.new ≡ put out.old at src.now }
 {
-    for i in 0..src.len() {
-        out[at + i] = src[i];
-    }
+    out[at..at + src.len()].copy_from_slice(src);
 }
 
 // n bytes of a run, from a on, copied to an offset of a buffer.
@@ -117,9 +91,8 @@ pub fn copy_on(out: &mut [u8], from: usize, n: usize, to: usize)
     requires { (from + n ≤ to) × (to + n ≤ length out.old) }
     ensures { out.new ≡ put out.old to (bytes_at out.old from n) }
 {
-    for i in 0..n {
-        out[to + i] = out[from + i];
-    }
+    let (before, behind) = out.split_at_mut(to);
+    behind[..n].copy_from_slice(&before[from..from + n]);
 }
 
 // The float whose bits these are. Every NaN pattern lies above that of infinity, and gives the one NaN.
@@ -127,7 +100,7 @@ pub fn float_of(bits: u32) -> f32
     ensures { result ≡ of_bits binary32 bits }
 {
     if 2139095040 < bits % 2147483648 {
-        return 0.0 / 0.0;
+        return f32::NAN;
     }
     f32::from_bits(bits)
 }

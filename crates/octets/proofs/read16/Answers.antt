@@ -1,9 +1,11 @@
--- `octets::read16` meets its contract: the first byte, and one more.
--- Assumes nothing.
+-- The bytes that stand there, in the standard library's order.
+use mathlib.Core.Path.{sym, ap, ◌∙◌}
 use native.Mathlib.Omega.{arith}
-use Rattle.octets.proofs.Laws.{read_one, read_next}
+use Rattle.linkstate.specs.Bytes.{number}
+use Rattle.octets.proofs.Laws.{bytes-two, number-be_two}
 use Rattle.octets.proofs.read16.Goals as goal
 
 pub returns : goal.returns
-returns c = let a = c.args in
-    read_next a.s.now a.at 1 _ _ (read_one a.s.now a.at _ c.wide-high.ensures (omega arith)) c.wide-low.ensures (omega arith)
+returns c =
+    let e = c.from.ensures ∙ c.from_be_bytes.ensures ∙ number-be_two _ _ ∙ ap number (sym (bytes-two c.args.s.now c.args.at c.requires)) in
+    (e, omega arith)

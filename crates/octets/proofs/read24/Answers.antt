@@ -1,9 +1,12 @@
--- `octets::read24` meets its contract: one byte more than `read16`.
--- Assumes nothing.
+-- The bytes that stand there, in the standard library's order.
+use mathlib.Core.Path.{sym, ap, ◌∙◌}
+use Prim.Native.Nat.{◌+◌}
 use native.Mathlib.Omega.{arith}
-use Rattle.octets.proofs.Laws.{read_next}
+use Rattle.linkstate.specs.Bytes.{number}
+use Rattle.octets.proofs.Laws.{bytes-three, number-be_three}
 use Rattle.octets.proofs.read24.Goals as goal
 
 pub returns : goal.returns
-returns c = let a = c.args in
-    read_next a.s.now a.at 2 _ _ c.read16-high.ensures c.wide-low.ensures (omega arith)
+returns c =
+    let e = c.from_be_bytes.ensures ∙ number-be_three _ _ _ ∙ ap number (sym (bytes-three c.args.s.now c.args.at c.requires)) in
+    (e, omega (arith, c.type_inv.s c.args.at, c.type_inv.s (c.args.at + 1), c.type_inv.s (c.args.at + 2)))

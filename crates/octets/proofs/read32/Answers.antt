@@ -1,9 +1,11 @@
--- `octets::read32` meets its contract: one byte more than `read24`.
--- Assumes nothing.
+-- The bytes that stand there, in the standard library's order.
+use mathlib.Core.Path.{sym, ap, ◌∙◌}
 use native.Mathlib.Omega.{arith}
-use Rattle.octets.proofs.Laws.{read_next}
+use Rattle.linkstate.specs.Bytes.{number}
+use Rattle.octets.proofs.Laws.{bytes-four, number-be_four}
 use Rattle.octets.proofs.read32.Goals as goal
 
 pub returns : goal.returns
-returns c = let a = c.args in
-    read_next a.s.now a.at 3 _ _ c.read24-high.ensures c.wide-low.ensures (omega arith)
+returns c =
+    let e = c.from_be_bytes.ensures ∙ number-be_four _ _ _ _ ∙ ap number (sym (bytes-four c.args.s.now c.args.at c.requires)) in
+    (e, omega arith)

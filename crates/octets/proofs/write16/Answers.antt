@@ -1,14 +1,9 @@
--- `octets::write16` meets its contract: two stores are one write.
--- Assumes nothing.
+-- The bytes in the standard library's order.
+use mathlib.Core.Path.{ap, ◌∙◌}
 use native.Mathlib.Omega.{arith}
-use lib.ListN.{length-set}
-use Rattle.linkstate.specs.Bytes.{two}
-use Rattle.octets.proofs.Laws.{set-two}
+use Rattle.linkstate.specs.Lists.{put}
+use Rattle.octets.proofs.Laws.{two-be}
 use Rattle.octets.proofs.write16.Goals as goal
 
-pub bounds-out-at-2 : goal.bounds-out-at-2
-bounds-out-at-2 c = simp length-set (omega arith)
-
 pub returns : goal.returns
-unfolding two
-returns c = set-two _ _ _ _ c.requires
+returns c = c.copy_all.ensures ∙ ap (put _ _) (c.to_be_bytes.ensures ∙ two-be c.args.x (omega arith))
