@@ -48,6 +48,24 @@ module _ (s : Source) (whom : Subject) (k : ℕ) where
   unfolding ◌then◌
   by-nothing q v = before-is ∙ ap (λ (w : Verdict). w then s.verdict) (sym q) ∙ sym v
 
+  pub by-verdict : accepted ≡ Question → s.verdict ≡ before_answer s whom k
+  unfolding ◌then◌
+  by-verdict q = sym (before-is ∙ ap (λ (w : Verdict). w then s.verdict) (sym q))
+
+  -- what the answer may take for granted
+  module _ (e : before_answer s whom k ≡ accepted) where
+    asked : Question ≡ accepted
+    asked = then-first Question s.verdict (sym before-is ∙ e)
+
+    pub asked-low : number_too_high whom ≡ false
+    asked-low = question-low asked
+
+    pub asked-known : is_code k ≡ true
+    asked-known = question-known asked
+
+    pub asked_bytes : s.verdict ≡ accepted
+    asked_bytes = then-second Question s.verdict (sym before-is ∙ e)
+
   -- the question
   pub ask-refused : (list : List ℕ) (x : Refusal) → before_answer s whom k ≡ refused x → record { reply = ask_refused x; list = list } ≡ ask s whom k list
   unfolding ask unless unwritten

@@ -2,7 +2,7 @@
 
 #![tactic(auto)]
 
-ghost use Rattle.std.specs.Prelude.{◌≡◌, true, false, ◌||◌, ℕ, ◌*◌, ◌≤◌, ◌<◌, length, eqb};
+ghost use Rattle.std.specs.Prelude.{◌≡◌, true, false, ◌||◌, ℕ, ◌*◌, ◌≤◌, ◌<◌, length, eqb, Ok};
 ghost use Rattle.linkstate.specs.Masks.{user, in_masks, as_number};
 ghost use Rattle.linkstate.specs.Replies.{accepted, run_bgp_ls, place};
 ghost use Rattle.linkstate.specs.BgpLs.{not_ignored, asla_header, aslas, run_verdict, run_source};
@@ -11,8 +11,8 @@ ghost use Rattle.linkstate.specs.Sides.{names};
 ghost use Rattle.masks.specs.Applications.{in_set};
 ghost use Rattle.linkstate.specs.Kinds.{is_code};
 ghost use Rattle.linkstate.specs.Attributes.{of_kind, srlgs};
-ghost use Rattle.linkstate.specs.Questions.{number_too_high, given, first_of, bytes_of_first, srlg_answer, answer, ask, value, list_named};
-ghost use Rattle.replies.specs.Told.{subject_of, told_answer, told_asked, told_named};
+ghost use Rattle.linkstate.specs.Questions.{number_too_high, given, first_of, bytes_of_first, srlg_answer, before_answer, answer, ask, value, list_named};
+ghost use Rattle.replies.specs.Told.{subject_of, told_answer, told_asked, told_checked, told_named};
 ghost use Rattle.bgpls_find.specs.Sets.{attributes_in};
 ghost use Rattle.octets.specs.Spans.{found_in};
 ghost use Rattle.bgpls_find.specs.Walks.{Starts, standard_mask, user_mask};
@@ -22,7 +22,7 @@ use bgpls_check::read_asla_header;
 use bgpls_find::{Set, Start, is_chosen};
 use masks::Applications;
 use octets::{Span, read16};
-use replies::{Answer, Checked, Named, Run, Subject};
+use replies::{Named, Reading, Refusal, Run, Subject};
 
 // With the masks of a 1122.
 fn join_masks(v: &[u8], m: Applications) -> Applications
@@ -104,9 +104,9 @@ pub fn find_value(r: &[u8], whom: Subject, code: usize) -> Option<Span>
 }
 
 // The reply of a kind other than SRLG.
-pub fn answer_value(r: &[u8], whom: Subject, code: usize) -> Answer
+pub fn answer_value(r: &[u8], whom: Subject, code: usize) -> Option<Reading>
     requires { (run_verdict r.now ≡ accepted) × (number_too_high (subject_of whom) ≡ false) × (is_code code ≡ true) × (eqb code 1096 ≡ false) }
-    ensures { told_answer result ≡ first_of (place run_bgp_ls) (of_kind code (given (run_source r.now) (subject_of whom) code)) }
+    ensures { told_answer (Ok result) ≡ first_of (place run_bgp_ls) (of_kind code (given (run_source r.now) (subject_of whom) code)) }
 {
     answering::answer_row(r, Run::BgpLs, code, find_value(r, whom, code))
 }
@@ -117,7 +117,7 @@ pub fn part_of(r: &[u8], whom: Subject, code: usize) -> &[u8]
     ensures { result.now ≡ bytes_of_first r.now (of_kind code (given (run_source r.now) (subject_of whom) code)) }
 {
     let Some(Span { place, len }) = find_value(r, whom, code) else {
-        return &r[0..0];
+        return &[];
     };
     &r[place..place + len]
 }
@@ -132,7 +132,7 @@ fn answer_words(
     list: &mut [u32],
     xs: &mut [u32],
     tmp: &mut [u32],
-) -> Answer
+) -> Result<Option<Reading>, Refusal>
     requires { Counted r.now start n × (n ≤ length xs.old) × (n ≤ 2 * length tmp.old) }
     ensures { told_asked result list.new ≡ srlg_answer (srlgs (attributes_in start.set r.now)) list.old }
 {
@@ -142,7 +142,12 @@ fn answer_words(
 }
 
 // With room for few numbers, for those of most runs, and for as many as a run can have.
-fn answer_few(r: &[u8], start: Start, n: usize, list: &mut [u32]) -> Answer
+fn answer_few(
+    r: &[u8],
+    start: Start,
+    n: usize,
+    list: &mut [u32],
+) -> Result<Option<Reading>, Refusal>
     requires { Counted r.now start n × (n ≤ 64) }
     ensures { told_asked result list.new ≡ srlg_answer (srlgs (attributes_in start.set r.now)) list.old }
 {
@@ -151,7 +156,12 @@ fn answer_few(r: &[u8], start: Start, n: usize, list: &mut [u32]) -> Answer
     answer_words(r, start, n, list, &mut xs, &mut tmp)
 }
 
-fn answer_many(r: &[u8], start: Start, n: usize, list: &mut [u32]) -> Answer
+fn answer_many(
+    r: &[u8],
+    start: Start,
+    n: usize,
+    list: &mut [u32],
+) -> Result<Option<Reading>, Refusal>
     requires { Counted r.now start n × (n ≤ 512) }
     ensures { told_asked result list.new ≡ srlg_answer (srlgs (attributes_in start.set r.now)) list.old }
 {
@@ -160,7 +170,12 @@ fn answer_many(r: &[u8], start: Start, n: usize, list: &mut [u32]) -> Answer
     answer_words(r, start, n, list, &mut xs, &mut tmp)
 }
 
-fn answer_most(r: &[u8], start: Start, n: usize, list: &mut [u32]) -> Answer
+fn answer_most(
+    r: &[u8],
+    start: Start,
+    n: usize,
+    list: &mut [u32],
+) -> Result<Option<Reading>, Refusal>
     requires { Counted r.now start n × (n ≤ 131072) }
     ensures { told_asked result list.new ≡ srlg_answer (srlgs (attributes_in start.set r.now)) list.old }
 {
@@ -170,7 +185,13 @@ fn answer_most(r: &[u8], start: Start, n: usize, list: &mut [u32]) -> Answer
 }
 
 // With eight times the room until it is enough. The call of itself keeps the large arrays apart: without it the compiler lays them into the frame of every question, whose pages are touched one by one.
-fn answer_in_room(r: &[u8], start: Start, n: usize, room: usize, list: &mut [u32]) -> Answer
+fn answer_in_room(
+    r: &[u8],
+    start: Start,
+    n: usize,
+    room: usize,
+    list: &mut [u32],
+) -> Result<Option<Reading>, Refusal>
     requires { Counted r.now start n × (n ≤ 131072) × (64 ≤ room) }
     ensures { told_asked result list.new ≡ srlg_answer (srlgs (attributes_in start.set r.now)) list.old }
 {
@@ -187,42 +208,54 @@ fn answer_in_room(r: &[u8], start: Start, n: usize, room: usize, list: &mut [u32
 }
 
 // The reply of SRLG, of a run that passed its checks.
-fn answer_srlg(r: &[u8], whom: Subject, list: &mut [u32]) -> Answer
+fn answer_srlg(r: &[u8], whom: Subject, list: &mut [u32]) -> Result<Option<Reading>, Refusal>
     requires { (run_verdict r.now ≡ accepted) × (number_too_high (subject_of whom) ≡ false) }
     ensures { told_asked result list.new ≡ srlg_answer (srlgs (given (run_source r.now) (subject_of whom) 1096)) list.old }
 {
     let start = set_asked(r, whom, 1096);
     let n = bgpls_find::count_words(r, start);
     if n == 0 {
-        return Answer::Absent;
+        return Ok(None);
     }
     answer_in_room(r, start, n, 64, list)
 }
 
 // The answer to a question that nothing refuses but 5.
-fn answer_accepted(r: &[u8], whom: Subject, code: usize, list: &mut [u32]) -> Answer
+fn answer_accepted(
+    r: &[u8],
+    whom: Subject,
+    code: usize,
+    list: &mut [u32],
+) -> Result<Option<Reading>, Refusal>
     requires { (run_verdict r.now ≡ accepted) × (number_too_high (subject_of whom) ≡ false) × (is_code code ≡ true) }
     ensures { told_asked result list.new ≡ answer (place run_bgp_ls) code (given (run_source r.now) (subject_of whom) code) list.old }
 {
     if code == 1096 {
         return answer_srlg(r, whom, list);
     }
-    answer_value(r, whom, code)
+    Ok(answer_value(r, whom, code))
+}
+
+// What comes before the answer to a question: its first refusal, for its own sake or for the run's bytes.
+pub fn check_asked(r: &[u8], whom: Subject, code: usize) -> Result<(), Refusal>
+    ensures { told_checked result ≡ before_answer (run_source r.now) (subject_of whom) code }
+{
+    answering::check_question(whom, code)?;
+    bgpls_check::check_run(r)
 }
 
 // One kind of one subject: absent, found with its reading, or refused. SRLGs go ascending to the front of the lent list; for every other answer the list stays as it was.
 // Left free: which NaN a bandwidth is, where its bytes are a pattern of one (`value` hands back the bytes).
-pub fn ask(r: &[u8], whom: Subject, code: usize, list: &mut [u32]) -> Answer
+pub fn ask(
+    r: &[u8],
+    whom: Subject,
+    code: usize,
+    list: &mut [u32],
+) -> Result<Option<Reading>, Refusal>
     ensures { told_asked result list.new ≡ ask (run_source r.now) (subject_of whom) code list.old }
 {
-    match answering::check_question(whom, code) {
-        Checked::Refused(x) => return Answer::Refused(x),
-        Checked::Accepted => {}
-    }
-    match bgpls_check::check_run(r) {
-        Checked::Refused(x) => Answer::Refused(x),
-        Checked::Accepted => answer_accepted(r, whom, code, list),
-    }
+    check_asked(r, whom, code)?;
+    answer_accepted(r, whom, code, list)
 }
 
 // The same question: the value's bytes as a part of the run; empty where it is absent, refused, or SRLG.
@@ -231,32 +264,17 @@ pub fn ask(r: &[u8], whom: Subject, code: usize, list: &mut [u32]) -> Answer
 pub fn value(r: &[u8], whom: Subject, code: usize) -> &[u8]
     ensures { result.now ≡ value (run_source r.now) (subject_of whom) code }
 {
-    match answering::check_question(whom, code) {
-        Checked::Refused(_) => return &r[0..0],
-        Checked::Accepted => {}
-    }
-    match bgpls_check::check_run(r) {
-        Checked::Refused(_) => return &r[0..0],
-        Checked::Accepted => {}
-    }
-    if code == 1096 {
-        return &r[0..0];
+    if check_asked(r, whom, code).is_err() || code == 1096 {
+        return &[];
     }
     part_of(r, whom, code)
 }
 
 // The applications other than RSVP-TE that the run names.
-pub fn named(r: &[u8]) -> Named
+pub fn named(r: &[u8]) -> Result<Named, Refusal>
     ensures { told_named result ≡ list_named (run_source r.now) }
 {
-    match bgpls_check::check_run(r) {
-        Checked::Refused(x) => Named::Refused(x),
-        Checked::Accepted => {
-            let m = named_masks(r);
-            Named::Listed {
-                standard: m.standard,
-                user: m.user,
-            }
-        }
-    }
+    bgpls_check::check_run(r)?;
+    let Applications { standard, user } = named_masks(r);
+    Ok(Named { standard, user })
 }

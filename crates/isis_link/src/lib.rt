@@ -82,9 +82,9 @@ pub fn find_row(a: &[u8], whom: Subject, code: usize, m: Names, legacy: bool) ->
 }
 
 // The reply of a kind other than SRLG.
-pub fn answer_value(a: &[u8], whom: Subject, code: usize, m: Names, legacy: bool) -> Answer
+pub fn answer_value(a: &[u8], whom: Subject, code: usize, m: Names, legacy: bool) -> Option<Reading>
     requires { AskedInA a.now (subject_of whom) code m legacy }
-    ensures { (b c : List ℕ) → told_answer result ≡ first_of (place run_a) (of_kind code (given (link_source a.now b c) (subject_of whom) code)) }
+    ensures { (b c : List ℕ) → told_answer (Ok result) ≡ first_of (place run_a) (of_kind code (given (link_source a.now b c) (subject_of whom) code)) }
 {
     answering::answer_row(a, Run::A, code, find_row(a, whom, code, m, legacy))
 }
@@ -140,7 +140,7 @@ fn answer_accepted(
         return answer_srlg(b, c, whom, m, names.legacyb, list);
     }
     let m = names.a;
-    answer_value(a, whom, code, m, names.legacya)
+    Ok(answer_value(a, whom, code, m, names.legacya))
 }
 
 // One kind of one subject: absent, found with its reading, or refused. SRLGs go ascending to the front of the lent list; for every other answer the list stays as it was.

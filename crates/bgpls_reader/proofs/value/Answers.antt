@@ -1,39 +1,23 @@
 -- Nothing where it is refused or SRLG, else the part that was found.
-use Rattle.bgpls_reader.proofs.Laws.{of-run, source-bytes}
-use Rattle.answering.proofs.Entries.{question-low, question-known, by-question, by_bytes, by-nothing, value-refused, value-srlg, value-part}
-use Rattle.replies.specs.Told.{subject_of, told_checked}
-use Rattle.linkstate.specs.BgpLs.{run_source}
+use Rattle.bgpls_reader.proofs.Laws.{told-refused, told-accepted, granted, source-bytes}
+use Rattle.answering.proofs.Entries.{value-refused, value-srlg, value-part}
 use borrow.Author.Tests.{ne_eqb}
-use mathlib.Core.Path.{sym, ap, ◌∙◌}
+use mathlib.Core.Path.{sym, ◌∙◌}
 use Rattle.bgpls_reader.proofs.value.Goals as goal
+use Rattle.bgpls_reader.proofs.value.Goals.{then-is_err-via-then-is_err, then-is_err-via-else-is_err+then-code-eq1096}
 
-pub returns-in-Refused : goal.returns-in-Refused
-returns-in-Refused c = let a = c.args in let s = run_source a.r.now in
-    value-refused s (subject_of a.whom) a.code _ (by-question s (subject_of a.whom) a.code _ (sym (ap told_checked c.in-Refused.is) ∙ c.check_question.ensures))
-
-pub returns-in-Refused-check_run : goal.returns-in-Refused-check_run
-returns-in-Refused-check_run c = let a = c.args in let s = run_source a.r.now in
-    let q = sym (ap told_checked c.in-Accepted.is) ∙ c.check_question.ensures in
-    value-refused s (subject_of a.whom) a.code _
-    (by_bytes s (subject_of a.whom) a.code _ q (of-run a.r.now _ (sym (ap told_checked c.in-Refused-check_run.is) ∙ c.check_run.ensures)))
-
-pub returns-then-code-eq1096 : goal.returns-then-code-eq1096
-returns-then-code-eq1096 c = let a = c.args in let s = run_source a.r.now in
-    let q = sym (ap told_checked c.in-Accepted.is) ∙ c.check_question.ensures in
-    let v = of-run a.r.now _ (sym (ap told_checked c.in-Accepted-check_run.is) ∙ c.check_run.ensures) in
-    value-srlg s (subject_of a.whom) a.code (by-nothing s (subject_of a.whom) a.code q v) c.if-code-eq1096.true
+pub returns-then-is_err : goal.returns-then-is_err
+returns-then-is_err c = let e = sym c.check_asked.ensures in
+    let t = c.is_err.ensures.value in
+    elim c.then-is_err.branch [
+      | then-is_err-via-then-is_err w ↦ let r = told-refused _ (sym t ∙ w.if-is_err.true) in value-refused _ _ _ r.0 (e ∙ r.1)
+      | then-is_err-via-else-is_err+then-code-eq1096 w ↦ value-srlg _ _ _ (e ∙ told-accepted _ (sym t ∙ w.if-is_err.false)) w.if-code-eq1096.true
+    ]
 
 pub part_of-requires : goal.part_of-requires
-part_of-requires c = let a = c.args in let s = run_source a.r.now in
-    let q = sym c.check_question.ensures ∙ ap told_checked c.in-Accepted.is in (
-      sym c.check_run.ensures ∙ ap told_checked c.in-Accepted-check_run.is,
-      question-low s (subject_of a.whom) a.code q,
-      question-known s (subject_of a.whom) a.code q,
-      ne_eqb _ 1096 c.if-code-eq1096.false,
-    )
+part_of-requires c = let g = granted _ _ _ (sym c.check_asked.ensures ∙ told-accepted _ (sym c.is_err.ensures.value ∙ c.if-is_err.false)) in
+    (g.0, g.1, g.2, ne_eqb _ 1096 c.if-code-eq1096.false)
 
 pub returns : goal.returns
-returns c = let a = c.args in let s = run_source a.r.now in
-    let q = sym (ap told_checked c.in-Accepted.is) ∙ c.check_question.ensures in
-    let v = of-run a.r.now _ (sym (ap told_checked c.in-Accepted-check_run.is) ∙ c.check_run.ensures) in
-    value-part s (subject_of a.whom) a.code _ (by-nothing s (subject_of a.whom) a.code q v) c.if-code-eq1096.false (source-bytes a.r.now _ _ c.part_of.ensures)
+returns c = value-part _ _ _ _ (sym c.check_asked.ensures ∙ told-accepted _ (sym c.is_err.ensures.value ∙ c.if-is_err.false)) c.if-code-eq1096.false
+    (source-bytes _ _ _ c.part_of.ensures)
