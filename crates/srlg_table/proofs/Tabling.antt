@@ -19,6 +19,7 @@ use Rattle.srlg_sources.proofs.Joins.{any_none, low-source, high-source, class-w
 use Rattle.srlg_table.specs.Chains.{Chain, Search}
 use Rattle.srlg_table.proofs.ChainLaws.{search-start, search-next, search-end, chain_more, chain-none}
 use Rattle.srlg_table.specs.Marks.{mark_of}
+use Rattle.std.specs.Prelude.{None}
 use Rattle.srlg_table.specs.Tables.{Equal, Counts, Rowed, bucket_of, next_of, first_of, Table, Finds, Adds, nothing, another, with_class, Given}
 use Rattle.srlg_table.proofs.Words.{mark-same}
 
@@ -45,18 +46,10 @@ module _ (rows : List (List ℕ)) (words : ℕ) (x : List ℕ) (classes heads : 
     searching-next i h differs so =
         search-next 128 (bucket_of heads) (next_of heads) (first_of buckets) count t.chain (mark % 128) Not i h (λ e. differs (mark-there i h so.low e) e) so
 
-    pub finds-here : (i : ℕ) → 0 < i → Searching count i → Equal (64 * words) (in_words x) (in_class rows (get_or classes i [])) → Finds rows words x classes count i
-    finds-here i h so e = record { low = so.low; found = λ p. e; none = λ z. absurd (omega arith) }
-
-    pub finds-none : (i : ℕ) → i ≡ 0 → Searching count i → Finds rows words x classes count 0
+    pub finds-none : (i : ℕ) → i ≡ 0 → Searching count i → Finds rows words x classes count None
     unfolding bucket_of
-    finds-none i z so =
-        record {
-          low = t.none.0;
-          found = λ p. absurd (omega arith);
-          none = λ e c h l f.
-              search-end 128 (bucket_of heads) (next_of heads) (first_of buckets) count t.chain (mark % 128) Not i z so c h l (ap (λ (m : ℕ). m % 128) (mark-there c h l f)) f;
-        }
+    finds-none i z so c h l f =
+        search-end 128 (bucket_of heads) (next_of heads) (first_of buckets) count t.chain (mark % 128) Not i z so c h l (ap (λ (m : ℕ). m % 128) (mark-there c h l f)) f
 
 -- ---- counted
 
@@ -95,17 +88,15 @@ module _ (rows : List (List ℕ)) (m words low high : ℕ) (x : List ℕ) (class
   unfolding with_class
   kept-count r h = rw (ne_eqb r count (λ e. omega arith))
 
-  pub given-found : (r : ℕ) → 0 < r → Finds rows words x classes count r → Given rows m words low high classes classes heads buckets count r
-  given-found r h f =
-      let l = f.low in
-      record { table = rw (kept-count r l) t; kept = λ c k. refl; here = rw (kept-count r l) l; bits = λ i k. sym (f.found h i k) ∙ bits i k }
+  pub given-found : (r : ℕ) → r < count → Equal (64 * words) (in_words x) (in_class rows (get_or classes r [])) → Given rows m words low high classes classes heads buckets count r
+  given-found r l f = record { table = rw (kept-count r l) t; kept = λ c k. refl; here = rw (kept-count r l) l; bits = λ i k. sym (f i k) ∙ bits i k }
 
   given-empty : Counts (64 * words) (in_words x) 0 → Given rows m words low high classes classes heads buckets count 0
   given-empty so =
       let l = t.none.0 in
       record { table = rw (kept-count 0 l) t; kept = λ c k. refl; here = rw (kept-count 0 l) l; bits = λ i k. t.none.1 i k ∙ sym (count_none (64 * words) (in_words x) 0 so refl i k) ∙ bits i k }
 
-  module _ (n mark : ℕ) (counted : Counts (64 * words) (in_words x) n) (some : n ≡ 0 → ⊥) (is : mark ≡ mark_of words (in_words x)) (none : Finds rows words x classes count 0) (rowed : Rowed m (low ∷ high ∷ []))
+  module _ (n mark : ℕ) (counted : Counts (64 * words) (in_words x) n) (some : n ≡ 0 → ⊥) (is : mark ≡ mark_of words (in_words x)) (none : Finds rows words x classes count None) (rowed : Rowed m (low ∷ high ∷ []))
       (room : (length buckets ≡ 128) × (count < length classes) × (count < length heads)) where
     abbrev class : List ℕ
     class = low ∷ high ∷ n ∷ 0 ∷ []
@@ -136,7 +127,7 @@ module _ (rows : List (List ℕ)) (m words low high : ℕ) (x : List ℕ) (class
     apart c l e = go (order 0 c)
       where
         go : Order 0 c → ⊥
-        go (less h) = none.none refl c h l e
+        go (less h) = none c h l e
         go (more h) = absurd (omega arith)
         go (same z) = some (none-count (64 * words) (in_words x) n counted (λ i k. e i k ∙ ap (λ (c : ℕ). in_class rows (get_or classes c []) i) (sym z) ∙ t.none.1 i k))
 
@@ -205,11 +196,11 @@ module _ (rows : List (List ℕ)) (m words low high : ℕ) (x : List ℕ) (class
           bits = λ i k. ap (λ (c : List ℕ). in_class rows c i) (get_or-set_same classes count class [] room.1) ∙ class-words rows class i;
         }
 
-  pub given-added : (i mark r : ℕ) (classes' heads' : List (List ℕ)) (buckets' : List ℕ) → mark ≡ mark_of words (in_words x) → i ≡ 0 → Finds rows words x classes count i → Rowed m (low ∷ high ∷ [])
+  pub given-added : (mark r : ℕ) (classes' heads' : List (List ℕ)) (buckets' : List ℕ) → mark ≡ mark_of words (in_words x) → Finds rows words x classes count None → Rowed m (low ∷ high ∷ [])
       → (length buckets ≡ 128) × (count < length classes) × (count < length heads) → Adds words x low high mark classes heads buckets count r classes' heads' buckets'
       → Given rows m words low high classes classes' heads' buckets' count r
-  given-added i mark r classes' heads' buckets' is z none rowed room (nothing so e f g h) = rw (e, f, g, h) (given-empty so)
-  given-added i mark r classes' heads' buckets' is z none rowed room (another n so some e f g h) = rw (e, f, g, h) (given-new n mark so some is (rw z at none) rowed room)
+  given-added mark r classes' heads' buckets' is none rowed room (nothing so e f g h) = rw (e, f, g, h) (given-empty so)
+  given-added mark r classes' heads' buckets' is none rowed room (another n so some e f g h) = rw (e, f, g, h) (given-new n mark so some is none rowed room)
 
 -- ---- class 0 alone
 

@@ -6,13 +6,14 @@ use mathlib.Core.List.{List}
 use native.Mathlib.Nat.{zero-add}
 use native.Mathlib.Numerals.{add-one}
 use native.Mathlib.Omega.{arith}
-use lib.Bits.{bit_or, bit_xor}
-use lib.ListN.{length, get_or, drop, length-drop}
+use lib.Bits.{bit_xor}
+use lib.ListN.{length, get_or, take, drop, length-drop}
+use lib.Seq.{get_or-take, length-take-le}
+use Rattle.std.proofs.lemmas.Grind.{same_number_lists}
 use Rattle.linkstate.specs.Masks.{in_number, as_number}
 use Rattle.linkstate.proofs.MaskLaws.{number_same}
-use Rattle.masks.proofs.Laws.{below_suc, number_of}
+use Rattle.masks.proofs.Laws.{number_of}
 use Rattle.srlg_ranks.specs.Ranks.{keep_from, in_words, Inside}
-use Rattle.srlg_ranks.proofs.Bits.{or-none}
 use Rattle.srlg_ranks.proofs.Laws.{rest, word_end}
 use Rattle.srlg_table.specs.Marks.{mixed, words_mark, folded, mark_of}
 use Rattle.srlg_table.specs.Tables.{Equal}
@@ -27,19 +28,24 @@ word-bit x w j h =
 
 -- ---- compared
 
-module _ (x y : List ℕ) where
-  abbrev pub Same : ℕ → Type 0
-  Same i = (w : ℕ) → w < i → get_or x w 0 ≡ get_or y w 0
-
-  pub same_next : (d r i : ℕ) → (d ≡ 0 → Same i) → (r ≡ 0 → get_or x i 0 ≡ get_or y i 0) → bit_or d r ≡ 0 → Same (i + 1)
-  same_next d r i all here e = let (a, b) = or-none d r e in rw (add-one i) (below_suc (λ (w : ℕ). get_or x w 0 ≡ get_or y w 0) i (all a) (here b))
-
-  pub same-equal : (i n : ℕ) → n ≤ i → Same i → Equal (64 * n) (in_words x) (in_words y)
+module _ (x y : List ℕ) (n : ℕ) where
+  pub front-equal : take n x ≡ take n y → Equal (64 * n) (in_words x) (in_words y)
   unfolding in_words
-  same-equal i n h all k l = ap (λ (z : ℕ). in_number z (k % 64)) (all (k / 64) (omega arith))
+  front-equal e k l =
+      ap (λ (z : ℕ). in_number z (k % 64))
+      (sym (get_or-take n x (k / 64) 0 (omega arith)) ∙ ap (λ (a : List ℕ). get_or a (k / 64) 0) e ∙ get_or-take n y (k / 64) 0 (omega arith))
 
-  pub equal_word : (n w : ℕ) → w < n → Equal (64 * n) (in_words x) (in_words y) → (j : ℕ) → j < 64 → in_number (get_or x w 0) j ≡ in_number (get_or y w 0) j
-  equal_word n w h all j l = sym (word-bit x w j l) ∙ all (64 * w + j) (omega arith) ∙ word-bit y w j l
+  -- Words that fit are equal where their bits are.
+  pub equal-front : (n ≤ length x) × (n ≤ length y) → ((w : ℕ) → get_or x w 0 < 2 ^ 64) → ((w : ℕ) → get_or y w 0 < 2 ^ 64) → Equal (64 * n) (in_words x) (in_words y) → take n x ≡ take n y
+  equal-front (lx, ly) fx fy h =
+      same_number_lists (take n x) (take n y) (length-take-le n x lx ∙ sym (length-take-le n y ly))
+      (λ w l.
+      let k : w < n = omega (arith, length-take-le n x lx) in
+      get_or-take n x w 0 k
+      ∙ sym (number_of (get_or x w 0) (fx w))
+      ∙ number_same (in_number (get_or x w 0)) (in_number (get_or y w 0)) (λ j m. sym (word-bit x w j m) ∙ h (64 * w + j) (omega arith) ∙ word-bit y w j m)
+      ∙ number_of (get_or y w 0) (fy w)
+      ∙ sym (get_or-take n y w 0 k))
 
 -- ---- marked
 

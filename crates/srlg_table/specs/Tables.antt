@@ -1,5 +1,5 @@
 -- The table of classes by their bits, with a head for each: its mark, and the next class of its bucket's chain.
-use Rattle.std.specs.Prelude.{◌≡◌, Bool, true, false, cond, List, [], ◌∷◌, ℕ, suc, ◌*◌, ◌%◌, ◌≤◌, ◌<◌, eqb, length, get_or, set}
+use Rattle.std.specs.Prelude.{◌≡◌, Bool, true, false, cond, List, [], ◌∷◌, ℕ, suc, ◌*◌, ◌%◌, ◌≤◌, ◌<◌, eqb, length, get_or, set, Option, MatchOption}
 use Rattle.linkstate.specs.Limits.{most_sources}
 use Rattle.srlg_ranks.specs.Ranks.{keep_from, in_words}
 use Rattle.srlg_sources.specs.Classes.{has_source, in_class}
@@ -38,11 +38,11 @@ pub record Table (rows : List (List ℕ)) (m words : ℕ) (classes heads : List 
   pub marked : (c : ℕ) → 0 < c → c < count → get_or (get_or heads c []) 0 0 ≡ mark_of words (in_class rows (get_or classes c []))
   pub chain : Chain 128 (bucket_of heads) (next_of heads) (first_of buckets) count
 
--- A search for bits: a class that has them, or 0 where none has them but class 0.
-pub record Finds (rows : List (List ℕ)) (words : ℕ) (x : List ℕ) (classes : List (List ℕ)) (count r : ℕ) : Type 0 where
-  pub low : r < count
-  pub found : 0 < r → Equal (64 * words) (in_words x) (in_class rows (get_or classes r []))
-  pub none : r ≡ 0 → (c : ℕ) → 0 < c → c < count → Equal (64 * words) (in_words x) (in_class rows (get_or classes c [])) → ⊥
+-- A search for bits: a class but 0 that has them, or none where none has them but class 0.
+abbrev pub Finds : List (List ℕ) → ℕ → List ℕ → List (List ℕ) → ℕ → Option ℕ → Type 0
+Finds rows words x classes count r =
+    MatchOption r ((c : ℕ) → 0 < c → c < count → Equal (64 * words) (in_words x) (in_class rows (get_or classes c [])) → ⊥)
+    (λ i. (0 < i) × (i < count) × Equal (64 * words) (in_words x) (in_class rows (get_or classes i [])))
 
 -- What became of the tables: nothing, where no bit is set, or a class behind the others, first of its bucket's chain.
 pub data Adds (words : ℕ) (x : List ℕ) (low high mark : ℕ) (classes heads : List (List ℕ)) (buckets : List ℕ) (count r : ℕ) (classes' heads' : List (List ℕ)) (buckets' : List ℕ) : Type 0 where

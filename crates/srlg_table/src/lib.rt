@@ -32,14 +32,8 @@ fn with_source(b: &[u64; 4], x: u64, y: u64, i: usize) -> [u64; 4]
     requires { i < 128 }
     ensures { Part b.now x y i result }
 {
-    if i < 64 {
-        let low = b[2] | (1 << i);
-        let part = [x, y, low, b[3]];
-        return part;
-    }
-    let k = i - 64;
-    let high = b[3] | (1 << k);
-    let part = [x, y, b[2], high];
+    let mut part = [x, y, b[2], b[3]];
+    part[2 + i / 64] |= 1 << (i % 64);
     part
 }
 
@@ -47,10 +41,7 @@ fn with_source(b: &[u64; 4], x: u64, y: u64, i: usize) -> [u64; 4]
 fn without_part(b: &[u64; 4], x: u64, y: u64) -> [u64; 4]
     ensures { Rest b.now x y result }
 {
-    let standard = masks::without(b[0], x);
-    let user = masks::without(b[1], y);
-    let rest = [standard, user, b[2], b[3]];
-    rest
+    [masks::without(b[0], x), masks::without(b[1], y), b[2], b[3]]
 }
 
 // Block k of n, of whose applications source i names those of x and y: if it has others, they stay, and those that are named are a block behind the last.
@@ -85,8 +76,10 @@ fn refine(
     let mut n = count;
     let mut s = rows[i][16] & standard;
     let mut u = rows[i][17] & user;
-    let mut k = 0;
-    while k < count && s | u != 0 {
+    for k in 0..count {
+        if s | u == 0 {
+            break;
+        }
         let x = blocks[k][0] & s;
         let y = blocks[k][1] & u;
         if meets(x, y) {
@@ -94,7 +87,6 @@ fn refine(
             s = masks::without(s, x);
             u = masks::without(u, y);
         }
-        k += 1;
     }
     n
 }
@@ -110,8 +102,7 @@ pub fn blocks_of(
     requires { (2 ≤ sources) × (sources ≤ 128) × (sources ≤ length rows.now) × (0 < size_of (in_words (standard ∷ user ∷ []))) × (size_of (in_words (standard ∷ user ∷ [])) ≤ length blocks.old) }
     ensures { Blocks rows.now standard user blocks.new result sources }
 {
-    let whole = [standard, user, 0, 0];
-    blocks[0] = whole;
+    blocks[0] = [standard, user, 0, 0];
     let mut n = 1;
     for i in 2..sources {
         n = refine(rows, i, standard, user, blocks, n);
@@ -131,11 +122,7 @@ fn same_bits(x: &[u64; 16], y: &[u64; 16], words: usize) -> bool
     requires { words ≤ 16 }
     ensures { (result ≡ true → Equal (64 * words) (in_words x.now) (in_words y.now)) × (result ≡ false → Equal (64 * words) (in_words x.now) (in_words y.now) → ⊥) }
 {
-    let mut d: u64 = 0;
-    for i in 0..words {
-        d = d | srlg_ranks::differing(x[i], y[i]);
-    }
-    d == 0
+    x[..words] == y[..words]
 }
 
 // A mark with a word more.
@@ -160,8 +147,8 @@ fn mark_of(x: &[u64; 16], words: usize) -> u32
     ensures { result ≡ marks.mark_of words (in_words x.now) }
 {
     let mut h: u64 = 0;
-    for i in 0..words {
-        h = mix(h, x[i]);
+    for word in &x[..words] {
+        h = mix(h, *word);
     }
     fold(h)
 }
@@ -172,8 +159,8 @@ fn count_of(x: &[u64; 16], words: usize) -> u64
     ensures { Counts (64 * words) (in_words x.now) result }
 {
     let mut n = 0;
-    for i in 0..words {
-        n += srlg_ranks::word_count(x[i]);
+    for word in &x[..words] {
+        n += srlg_ranks::word_count(*word);
     }
     n as u64
 }
@@ -197,7 +184,7 @@ fn has_bits(
     same_bits(x, &y, words)
 }
 
-// The class that has these bits, 0 where none has them but class 0.
+// The class that has these bits, unless it is class 0, which has none and stands in no chain: 0 ends one.
 fn find(
     x: &[u64; 16],
     used: Used,
@@ -206,19 +193,19 @@ fn find(
     heads: &[[u32; 2]],
     buckets: &[u8],
     mark: u32,
-) -> usize
+) -> Option<usize>
     requires { (used.words ≤ 16) × (used.sources ≤ length rows.now) × (length buckets.now ≡ 128) × (mark ≡ marks.mark_of used.words (in_words x.now)) × ((count : ℕ) × Table rows.now used.sources used.words classes.now heads.now buckets.now count) }
     ensures { (count : ℕ) → Table rows.now used.sources used.words classes.now heads.now buckets.now count → Finds rows.now used.words x.now classes.now count result }
 {
     let b = (mark % 128) as usize;
-    let mut i = buckets[b] as usize;
+    let mut i = usize::from(buckets[b]);
     while i != 0 {
         if has_bits(x, used.words, rows, &classes[i], &heads[i], mark) {
-            return i;
+            return Some(i);
         }
         i = heads[i][1] as usize;
     }
-    0
+    None
 }
 
 // A new class behind the others, first of its bucket's chain; or class 0, where no bit is set.
@@ -239,11 +226,9 @@ fn new_class(
     if n == 0 {
         return 0;
     }
-    let class = [sources[0], sources[1], n, 0];
-    classes[count] = class;
+    classes[count] = [sources[0], sources[1], n, 0];
     let b = (mark % 128) as usize;
-    let head = [mark, buckets[b] as u32];
-    heads[count] = head;
+    heads[count] = [mark, u32::from(buckets[b])];
     buckets[b] = count as u8;
     count
 }
@@ -263,13 +248,12 @@ pub fn class_of(
 {
     let x = srlg_sources::bits_of(rows, sources[0], sources[1], used.words);
     let mark = mark_of(&x, used.words);
-    let i = find(&x, used, rows, classes, heads, buckets, mark);
-    if i != 0 {
-        return i;
+    match find(&x, used, rows, classes, heads, buckets, mark) {
+        Some(i) => i,
+        None => new_class(
+            &x, used.words, sources, mark, classes, heads, buckets, count,
+        ),
     }
-    new_class(
-        &x, used.words, sources, mark, classes, heads, buckets, count,
-    )
 }
 
 // How many classes there are with class c, which may be a new one.

@@ -8,7 +8,7 @@ use Rattle.srlg_ranks.specs.Ranks.{in_words, keep_from}
 use Rattle.srlg_ranks.proofs.Laws.{rest}
 use Rattle.srlg_table.proofs.count_of.Given as goal
 
-abbrev pub invariant-loop-i : goal.invariant-loop-i
-invariant-loop-i l = (l.i ≤ l.words) × (l.n ≤ 64 * l.i)
+abbrev pub invariant-loop-word : goal.invariant-loop-word
+invariant-loop-word l = (l.word-index ≤ l.words) × (l.n ≤ 64 * l.word-index)
     × ((values : List ℕ) → length values ≤ 64 * l.words → ((j : ℕ) → length values ≤ j → j < 64 * l.words → in_words l.x j ≡ false) → l.n + length
-    (rest values l.x l.i) ≡ length (keep_from (in_words l.x) 0 values))
+    (rest values l.x l.word-index) ≡ length (keep_from (in_words l.x) 0 values))

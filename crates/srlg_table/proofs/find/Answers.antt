@@ -3,7 +3,7 @@ use Prim.Native.Nat.{◌<◌}
 use lib.ListN.{length}
 use native.Mathlib.Omega.{arith}
 use Rattle.srlg_table.specs.Tables.{next_of}
-use Rattle.srlg_table.proofs.Tabling.{searching-start, searching-next, finds-here, finds-none}
+use Rattle.srlg_table.proofs.Tabling.{searching-start, searching-next, finds-none}
 use Rattle.srlg_table.proofs.find.Goals as goal
 use Rattle.srlg_table.proofs.find.Goals.{In-loop-i}
 
@@ -16,7 +16,7 @@ low c =
 
 pub loop-i-init : goal.loop-i-init
 loop-i-init c = let a = c.args in
-    λ count t. searching-start a.rows.now a.used.words a.x.now a.classes.now a.heads.now a.buckets.now a.mark c.requires.3 a.used.sources count t
+    λ count t. rw c.from-i.ensures (searching-start a.rows.now a.used.words a.x.now a.classes.now a.heads.now a.buckets.now a.mark c.requires.3 a.used.sources count t)
 
 pub offset_bounds-classes-i : goal.offset_bounds-classes-i
 offset_bounds-classes-i c = omega (arith, (low c).0)
@@ -36,22 +36,13 @@ has_bits-requires c = let l = c.loop-i in
     (c.requires.0, λ j h e. omega (arith, c.requires.1, t.rowed l.i (l.invariant count t).low j h e))
 
 pub returns-then-has_bits : goal.returns-then-has_bits
-returns-then-has_bits c = let l = c.loop-i in
-    let a = c.args in
-    λ count t. finds-here a.rows.now a.used.words a.x.now a.classes.now a.heads.now a.buckets.now a.mark c.requires.3 a.used.sources count t l.i (omega arith)
-    (l.invariant count t) (c.has_bits.ensures.0 c.if-has_bits.true)
+returns-then-has_bits c = λ count t. (omega arith, (c.loop-i.invariant count t).low, c.has_bits.ensures.0 c.if-has_bits.true)
 
 pub offset_bounds-heads-i-in-loop-i : goal.offset_bounds-heads-i-in-loop-i
 offset_bounds-heads-i-in-loop-i c = omega (arith, (low (goal.at.offset_bounds-heads-i-in-loop-i c).In-loop-i).1)
 
 pub bounds-heads-i-else-has_bits : goal.bounds-heads-i-else-has_bits
 bounds-heads-i-else-has_bits c = (low (goal.at.bounds-heads-i-else-has_bits c).In-loop-i).1
-
-pub overflow_cast-i-in-loop-i : goal.overflow_cast-i-in-loop-i
-unfolding next_of
-overflow_cast-i-in-loop-i c = let l = c.loop-i in
-    let (count, t) = c.requires.4 in
-    omega (arith, (low (goal.at.overflow_cast-i-in-loop-i c).In-loop-i).1, t.chain.next_low l.i (omega arith) (l.invariant count t).low)
 
 pub loop-i-smaller : goal.loop-i-smaller
 unfolding next_of

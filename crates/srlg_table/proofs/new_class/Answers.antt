@@ -7,4 +7,4 @@ pub returns-then-n-eq0 : goal.returns-then-n-eq0
 returns-then-n-eq0 c = nothing (rw c.if-n-eq0.true at c.count_of-n.ensures) refl refl refl refl
 
 pub returns : goal.returns
-returns c = another c.count_of-n.result c.count_of-n.ensures c.if-n-eq0.false refl refl refl refl
+returns c = rw c.from.ensures (another c.count_of-n.result c.count_of-n.ensures c.if-n-eq0.false refl refl refl refl)

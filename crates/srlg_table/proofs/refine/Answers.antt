@@ -59,10 +59,10 @@ loop-k-preserved c = let l = c.loop-k in
       )
     ]
 
-pub returns-else-s-u-ne0 : goal.returns-else-s-u-ne0
-returns-else-s-u-ne0 c = let l = c.loop-k in
+pub returns-then-s-u-eq0 : goal.returns-then-s-u-eq0
+returns-then-s-u-eq0 c = let l = c.loop-k in
     let a = c.args in
-    refined-early a.rows.now a.i a.standard a.user l.blocks c.requires.0 a.count l.n l.k l.s l.u l.invariant.2 (masks-none l.s l.u c.if-s-u-ne0.false)
+    refined-early a.rows.now a.i a.standard a.user l.blocks c.requires.0 a.count l.n l.k l.s l.u l.invariant.2 (masks-none l.s l.u c.if-s-u-eq0.true)
 
 pub returns-after-loop-k : goal.returns-after-loop-k
 returns-after-loop-k c = let l = c.loop-k in

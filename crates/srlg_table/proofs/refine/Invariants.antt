@@ -1,5 +1,5 @@
 -- `srlg_table::refine` meets its contract: the blocks before k have source i. Assumes nothing.
-use Prim.Native.Nat.{◌-◌, ◌≤◌}
+use Prim.Native.Nat.{◌≤◌}
 use mathlib.Core.Path.{◌≡◌}
 use lib.ListN.{length}
 use Rattle.srlg_table.proofs.Refines.{Refining}
@@ -8,6 +8,3 @@ use Rattle.srlg_table.proofs.refine.Given as goal
 abbrev pub invariant-loop-k : goal.invariant-loop-k
 invariant-loop-k l = (length l.blocks ≡ length l.initial.blocks) × (l.n ≤ length l.blocks)
     × Refining l.rows l.i l.standard l.user l.blocks l.count l.n l.k l.s l.u
-
-abbrev pub decreases-loop-k : goal.decreases-loop-k
-decreases-loop-k l = l.count - l.k
