@@ -15,13 +15,13 @@ use Rattle.isis.specs.RunA.{check_a}
 use Rattle.isis.specs.RunB.{check_b}
 use Rattle.isis.specs.Link.{link_verdict, link_source}
 use Rattle.replies.specs.declared.Refusal.{Refusal as Fault}
-use Rattle.replies.specs.Told.{told_refusal}
+use Rattle.replies.specs.Told.{told_refusal, told_checked}
 use Rattle.answering.proofs.Entries.{Question, question-low, question-known, by-question, by_bytes, by-nothing}
 use Rattle.isis_check.specs.declared.Sides.{Sides}
-use Rattle.isis_check.specs.declared.LinkChecked.{LinkChecked}
-use Rattle.isis_check.specs.declared.LinkChecked.TheVariants.{Refused, Accepted}
-use Rattle.isis_check.specs.Sides.{told_link, ChecksLink}
-use Rattle.isis_link.specs.Asked.{Asked, AskedBy, ChecksAsked, AskedInA}
+use Rattle.std.specs.Prelude.{Result, Ok, Err}
+use Rattle.rules.specs.Names.{Given}
+use Rattle.isis_check.specs.Sides.{ChecksLink}
+use Rattle.isis_link.specs.Asked.{Asked, ChecksAsked, AskedInA}
 
 -- ---- an accepted link
 
@@ -55,13 +55,13 @@ module _ (a b c : List ℕ) (whom : Subject) (k : ℕ) where
   unfolding link_source
   source-verdict v e = e
 
-  pub refused-first : (x : Fault) → refused (told_refusal x) ≡ Question (link_source a b c) whom k → ChecksAsked a b c whom k (Refused x)
+  pub refused-first : (x : Fault) → refused (told_refusal x) ≡ Question (link_source a b c) whom k → ChecksAsked a b c whom k (Err x)
   refused-first x q = record { told = sym (by-question (link_source a b c) whom k (told_refusal x) q); asked = tt }
 
-  pub as-link : (r : LinkChecked) → accepted ≡ Question (link_source a b c) whom k → ChecksLink a b c r → ChecksAsked a b c whom k r
-  as-link (Refused x) q h =
+  pub as-link : (r : Result Sides Fault) → accepted ≡ Question (link_source a b c) whom k → ChecksLink a b c r → ChecksAsked a b c whom k r
+  as-link (Err x) q h =
       record { told = sym (by_bytes (link_source a b c) whom k (told_refusal x) q (source-verdict (refused (told_refusal x)) h.told)); asked = tt }
-  as-link (Accepted s) q h =
+  as-link (Ok s) q h =
       record {
         told = sym (by-nothing (link_source a b c) whom k q (source-verdict accepted h.told));
         asked =
@@ -74,16 +74,16 @@ module _ (a b c : List ℕ) (whom : Subject) (k : ℕ) where
       }
 
   -- as the entries have them
-  module _ (r : LinkChecked) (h : ChecksAsked a b c whom k r) where
-    pub asked-refused : (x : Fault) → r ≡ Refused x → before_answer (link_source a b c) whom k ≡ refused (told_refusal x)
-    asked-refused x e = sym h.told ∙ ap told_link e
+  module _ (r : Result Sides Fault) (h : ChecksAsked a b c whom k r) where
+    pub asked-refused : (x : Fault) → r ≡ Err x → before_answer (link_source a b c) whom k ≡ refused (told_refusal x)
+    asked-refused x e = sym h.told ∙ ap told_checked e
 
-    module _ (s : Sides) (e : r ≡ Accepted s) where
+    module _ (s : Sides) (e : r ≡ Ok s) where
       pub asked-passed : before_answer (link_source a b c) whom k ≡ accepted
-      asked-passed = sym h.told ∙ ap told_link e
+      asked-passed = sym h.told ∙ ap told_checked e
 
       pub asked-with : Asked a b c whom k s
-      asked-with = subst (λ (x : LinkChecked). AskedBy x a b c whom k) e h.asked
+      asked-with = subst (λ (x : Result Sides Fault). Given (Asked a b c whom k) x) e h.asked
 
-pub asked-in-a : (a b c : List ℕ) (whom : Subject) (k : ℕ) (s : Sides) → Asked a b c whom k s → eqb k 1096 ≡ false → AskedInA a whom k s.a s.legacya
-asked-in-a a b c whom k s q o = record { passed = a-passed a b c q.link; low = q.low; known = q.known; other = o; tells = q.sides.in_a; old = q.sides.old_a }
+pub asked-in-a : (a b c : List ℕ) (whom : Subject) (k : ℕ) (s : Sides) → Asked a b c whom k s → eqb k 1096 ≡ false → AskedInA a whom k s.a
+asked-in-a a b c whom k s q o = record { passed = a-passed a b c q.link; low = q.low; known = q.known; other = o; tells = q.sides.in_a }

@@ -21,7 +21,7 @@ use Rattle.isis.specs.Link.{link_verdict, link_source}
 use Rattle.masks.proofs.Laws.{is_number}
 use Rattle.rivals.proofs.KindLaws.{standard-other}
 use Rattle.rules.specs.declared.Names.{Names}
-use Rattle.rules.specs.Names.{Tells, Joins}
+use Rattle.rules.specs.Names.{Tells, Joins, Given}
 use Rattle.masks.specs.declared.Applications.{Applications}
 use Rattle.masks.specs.Applications.{in_set, at_place}
 use Rattle.masks.proofs.Sets.{place-low, place-high}
@@ -29,9 +29,9 @@ use Rattle.rules.proofs.NameLaws.{side-named}
 use Rattle.answering.proofs.Entries.{ask-answered}
 use Rattle.rules.specs.Rules.{given_on}
 use Rattle.isis_check.specs.declared.Sides.{Sides}
-use Rattle.isis_check.specs.declared.LinkChecked.{LinkChecked}
-use Rattle.isis_check.specs.declared.LinkChecked.TheVariants.{Accepted}
-use Rattle.isis_check.specs.Sides.{OfSides, NamedSides}
+use Rattle.std.specs.Prelude.{Result, Ok}
+use Rattle.replies.specs.declared.Refusal.{Refusal}
+use Rattle.isis_check.specs.Sides.{OfSides}
 use Rattle.isis_link.proofs.Checks.{b-passed, b-short, c-short}
 use Rattle.isis_link.proofs.Given.{given-in-b}
 use Rattle.isis_tlvs_238.specs.Runs.{Passed}
@@ -109,9 +109,8 @@ module _ (a b c : List ℕ) (standard users : ℕ) where
       (λ n h. hu n h ∙ sym (user-is n (side_a a) (side_b b c)))))
 
 -- What the sides tell, as the checks have it.
-pub told_names : (a b c : List ℕ) (r : LinkChecked) → NamedSides r a b c → (s : Sides) → r ≡ Accepted s
-    → OfSides s a b c
-told_names a b c r h s e = subst (λ (x : LinkChecked). NamedSides x a b c) e h
+pub told_names : (a b c : List ℕ) (r : Result Sides Refusal) → Given (OfSides a b c) r → (s : Sides) → r ≡ Ok s → OfSides a b c s
+told_names a b c r h s e = subst (Given (OfSides a b c)) e h
 
 -- What is in the numbers, from what each step says of them: m is whom either side names, with the bytes of masks.
 module _ (a b c : List ℕ) (x y m : Names) (p : Tells (side_a a).live x) (q : Tells (side_b b c).live y) (j : Joins x y m) where

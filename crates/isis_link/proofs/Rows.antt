@@ -17,7 +17,7 @@ use Rattle.rules.specs.declared.Rule.TheVariants.{NamingFirst}
 use Rattle.linkstate.specs.Questions.{Subject, given}
 use Rattle.isis.specs.Link.{link_source}
 use Rattle.isis.proofs.TypeLaws.{none-wrong}
-use Rattle.rules.specs.declared.Names.{Names}
+use Rattle.rules.specs.declared.SideNames.{SideNames}
 use Rattle.rules.specs.Rules.{taken_by, given_on}
 use Rattle.isis_grids.specs.declared.Which.TheVariants as W
 use Rattle.isis_grids.specs.Grid.{row_of}
@@ -62,6 +62,6 @@ module _ (k t : ℕ) (is : code_of_type t ≡ k) where
   type-other other = ap (λ (c : ℕ). eqb c 1096) is ∙ other
 
   -- the row that was looked for by the type is that of what the subject is given
-  pub row-given : (a b c : List ℕ) (whom : Subject) (m : Names) (x : Bool) → AskedInA a whom k m x → (r : Rule) → taken_by r k (side_a a) ≡ given_on whom k (side_a a)
+  pub row-given : (a b c : List ℕ) (whom : Subject) (m : SideNames) → AskedInA a whom k m → (r : Rule) → taken_by r k (side_a a) ≡ given_on whom k (side_a a)
       → (row : Option Span) → row ≡ row_of (code_of_type t) (taken_by r (code_of_type t) (side_a a)) → row ≡ row_of k (given (link_source a b c) whom k)
-  row-given a b c whom m x q r e row h = h ∙ ap (λ (x : ℕ). row_of x (taken_by r x (side_a a))) is ∙ ap (row_of k) (e ∙ sym (given-in-a a b c whom k q.other))
+  row-given a b c whom m q r e row h = h ∙ ap (λ (x : ℕ). row_of x (taken_by r x (side_a a))) is ∙ ap (row_of k) (e ∙ sym (given-in-a a b c whom k q.other))

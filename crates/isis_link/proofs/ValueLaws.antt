@@ -32,7 +32,7 @@ use Rattle.isis_grids.specs.Grid.{bgpls_value}
 use Rattle.isis_grids.specs.Selected.{selects}
 use Rattle.isis_grids.proofs.Grids.{All, all_append}
 use Rattle.isis_grids.proofs.Places.{Stands, legacy-stands, live-stands, First, absent, present, first-of, some_bytes, within}
-use Rattle.rules.specs.declared.Names.{Names}
+use Rattle.rules.specs.declared.SideNames.{SideNames}
 use Rattle.isis_link.specs.Asked.{AskedInA}
 use Rattle.isis_link.proofs.Given.{given-in-a}
 
@@ -72,7 +72,7 @@ module _ (a : List ℕ) (ok : faults run_a check_a (elements 1 0 a) ≡ accepted
   given-stands b c whom k s = subst (All (Stands a)) (rule-taken whom k (side_a a) ∙ sym (given-in-a a b c whom k s)) (taken-stands (rule_on whom k (side_a a)) k)
 
 -- The first value of a kind, if there is one.
-module _ (a : List ℕ) (whom : Subject) (k : ℕ) (m : Names) (x : Bool) (q : AskedInA a whom k m x) (b c : List ℕ) where
+module _ (a : List ℕ) (whom : Subject) (k : ℕ) (m : SideNames) (q : AskedInA a whom k m) (b c : List ℕ) where
   reads : (t : Attribute) → t.code ≡ k → Stands a t → reading_as (form_of k) (place run_a) t ≡ reading_as (form_of k) (place run_a) (standing a t.at t.len)
   unfolding bgpls_value
   reads t j st = go (eqb k 1092) refl (st.value ∙ ap (λ (x : ℕ). bgpls_value x (bytes_at a t.at t.len)) j)

@@ -8,7 +8,7 @@ ghost use Rattle.linkstate.specs.Replies.{accepted, run_a, place};
 ghost use Rattle.linkstate.specs.Elements.{elements, faults};
 ghost use Rattle.linkstate.specs.Kinds.{is_code};
 ghost use Rattle.linkstate.specs.Attributes.{of_kind, srlgs};
-ghost use Rattle.linkstate.specs.Sides.{of_live, has_legacy};
+ghost use Rattle.linkstate.specs.Sides.{of_live};
 ghost use Rattle.linkstate.specs.Questions.{given, first_of, bytes_of_first, number_too_high, srlg_answer, answer, ask, value, list_named};
 ghost use Rattle.isis.specs.Types.{code_of_type};
 ghost use Rattle.isis.specs.RunA.{check_a, side_a};
@@ -20,23 +20,26 @@ ghost use Rattle.isis_grids.specs.Selected.{selects};
 ghost use Rattle.isis_grids.specs.declared.Which.TheVariants.{WithoutL};
 ghost use Rattle.isis_link.specs.Asked.{ChecksAsked, AskedInA, Asked};
 ghost use Rattle.isis.specs.RunB.{side_b};
-ghost use Rattle.rules.specs.Names.{Tells};
+ghost use Rattle.rules.specs.Names.{TellsSide};
 ghost use Rattle.isis_tlvs_238.specs.Runs.{Passed};
 
-use isis_check::{LinkChecked, Sides};
+use isis_check::Sides;
 use isis_grids::Which;
 use octets::Span;
-use replies::{Answer, Checked, Named, Run, Subject};
-use rules::{Names, Rule};
+use replies::{Named, Reading, Refusal, Run, Subject};
+use rules::{Rule, SideNames};
 
 // What comes before the answer to a question: its first refusal, or what the sides of the link tell.
-pub fn check_asked(a: &[u8], b: &[u8], c: &[u8], whom: Subject, code: usize) -> LinkChecked
+pub fn check_asked(
+    a: &[u8],
+    b: &[u8],
+    c: &[u8],
+    whom: Subject,
+    code: usize,
+) -> Result<Sides, Refusal>
     ensures { ChecksAsked a.now b.now c.now (subject_of whom) code result }
 {
-    match answering::check_question(whom, code) {
-        Checked::Refused(x) => return LinkChecked::Refused(x),
-        Checked::Accepted => {}
-    }
+    answering::check_question(whom, code)?;
     isis_check::check_sides(a, b, c)
 }
 
@@ -73,52 +76,51 @@ fn row_by(a: &[u8], rule: Rule, t: u8) -> Option<Span>
 }
 
 // Where the value that a question asks for stands, by whom side A names and whether its legacy has a value.
-pub fn find_row(a: &[u8], whom: Subject, code: usize, m: Names, legacy: bool) -> Option<Span>
-    requires { AskedInA a.now (subject_of whom) code m legacy }
+pub fn find_row(a: &[u8], whom: Subject, code: usize, side: SideNames) -> Option<Span>
+    requires { AskedInA a.now (subject_of whom) code side }
     ensures { (b c : List ℕ) → result ≡ row_of code (given (link_source a.now b c) (subject_of whom) code) }
 {
-    let rule = rules::decide(whom, code, m, legacy);
+    let rule = rules::decide(whom, code, side);
     row_by(a, rule, isis_grids::type_of(code))
 }
 
 // The reply of a kind other than SRLG.
-pub fn answer_value(a: &[u8], whom: Subject, code: usize, m: Names, legacy: bool) -> Option<Reading>
-    requires { AskedInA a.now (subject_of whom) code m legacy }
+pub fn answer_value(a: &[u8], whom: Subject, code: usize, side: SideNames) -> Option<Reading>
+    requires { AskedInA a.now (subject_of whom) code side }
     ensures { (b c : List ℕ) → told_answer (Ok result) ≡ first_of (place run_a) (of_kind code (given (link_source a.now b c) (subject_of whom) code)) }
 {
-    answering::answer_row(a, Run::A, code, find_row(a, whom, code, m, legacy))
+    answering::answer_row(a, Run::A, code, find_row(a, whom, code, side))
 }
 
 // The value's bytes as a part of run A.
-pub fn part_of(a: &[u8], whom: Subject, code: usize, m: Names, legacy: bool) -> &[u8]
-    requires { AskedInA a.now (subject_of whom) code m legacy }
+pub fn part_of(a: &[u8], whom: Subject, code: usize, side: SideNames) -> &[u8]
+    requires { AskedInA a.now (subject_of whom) code side }
     ensures { (b c : List ℕ) → result.now ≡ bytes_of_first a.now (of_kind code (given (link_source a.now b c) (subject_of whom) code)) }
 {
-    let Some(Span { place, len }) = find_row(a, whom, code, m, legacy) else {
+    let Some(Span { place, len }) = find_row(a, whom, code, side) else {
         return &a[0..0];
     };
     &a[place..place + len]
 }
 
-// Any bytes, any subject and any code are taken; every refusal is document 01's, and after one nothing was written.
+// Any bytes, any subject and any code are taken; every refusal is one of the eight, and after one nothing was written.
 
 // The reply of SRLG, by whom side B names and whether run C has a value. Without TLVs 238 and legacy values there is none.
 fn answer_srlg(
     b: &[u8],
     c: &[u8],
     whom: Subject,
-    m: Names,
-    legacy: bool,
+    side: SideNames,
     list: &mut [u32],
-) -> Answer
-    requires { Passed b.now c.now × (number_too_high (subject_of whom) ≡ false) × Tells (side_b b.now c.now).live m × (legacy ≡ has_legacy (side_b b.now c.now)) }
+) -> Result<Option<Reading>, Refusal>
+    requires { Passed b.now c.now × (number_too_high (subject_of whom) ≡ false) × TellsSide (side_b b.now c.now) side }
     ensures { told_asked result list.new ≡ srlg_answer (srlgs (given_on (subject_of whom) 1096 (side_b b.now c.now))) list.old }
 {
     if (b.len() == 0) & (c.len() == 0) {
-        return Answer::Absent;
+        return Ok(None);
     }
     let mut ns = [0u32; 512];
-    let k = isis_tlvs_238::srlgs_of(b, c, whom, m, legacy, &mut ns);
+    let k = isis_tlvs_238::srlgs_of(b, c, whom, side, &mut ns);
     answering::answer_front(&ns, k, list)
 }
 
@@ -129,29 +131,32 @@ fn answer_accepted(
     c: &[u8],
     whom: Subject,
     code: usize,
-    names: Sides,
+    sides: Sides,
     list: &mut [u32],
-) -> Answer
-    requires { Asked a.now b.now c.now (subject_of whom) code names }
+) -> Result<Option<Reading>, Refusal>
+    requires { Asked a.now b.now c.now (subject_of whom) code sides }
     ensures { told_asked result list.new ≡ answer (place run_a) code (given (link_source a.now b.now c.now) (subject_of whom) code) list.old }
 {
     if code == 1096 {
-        let m = names.b;
-        return answer_srlg(b, c, whom, m, names.legacyb, list);
+        return answer_srlg(b, c, whom, sides.b, list);
     }
-    let m = names.a;
-    Ok(answer_value(a, whom, code, m, names.legacya))
+    Ok(answer_value(a, whom, code, sides.a))
 }
 
 // One kind of one subject: absent, found with its reading, or refused. SRLGs go ascending to the front of the lent list; for every other answer the list stays as it was.
 // Left free: which NaN a bandwidth is, where its bytes are a pattern of one (`value` hands back the bytes).
-pub fn ask(a: &[u8], b: &[u8], c: &[u8], whom: Subject, code: usize, list: &mut [u32]) -> Answer
+pub fn ask(
+    a: &[u8],
+    b: &[u8],
+    c: &[u8],
+    whom: Subject,
+    code: usize,
+    list: &mut [u32],
+) -> Result<Option<Reading>, Refusal>
     ensures { told_asked result list.new ≡ ask (link_source a.now b.now c.now) (subject_of whom) code list.old }
 {
-    match check_asked(a, b, c, whom, code) {
-        LinkChecked::Refused(x) => Answer::Refused(x),
-        LinkChecked::Accepted(names) => answer_accepted(a, b, c, whom, code, names, list),
-    }
+    let sides = check_asked(a, b, c, whom, code)?;
+    answer_accepted(a, b, c, whom, code, sides, list)
 }
 
 // The same question: the value's bytes as a part of run A; empty where it is absent, refused, or SRLG.
@@ -166,32 +171,26 @@ pub fn value<'a, 'b, 'c>(
 ) -> &'a [u8]
     ensures { result.now ≡ value (link_source a.now b.now c.now) (subject_of whom) code }
 {
-    match check_asked(a, b, c, whom, code) {
-        LinkChecked::Refused(_) => return &a[0..0],
-        LinkChecked::Accepted(names) => {
-            if code == 1096 {
-                return &a[0..0];
-            }
-            let m = names.a;
-            return part_of(a, whom, code, m, names.legacya);
-        }
+    let Ok(sides) = check_asked(a, b, c, whom, code) else {
+        return &a[0..0];
+    };
+    if code == 1096 {
+        return &a[0..0];
     }
+    part_of(a, whom, code, sides.a)
 }
 
 // The applications other than RSVP-TE that the link names on either side.
-pub fn named(a: &[u8], b: &[u8], c: &[u8]) -> Named
+pub fn named(a: &[u8], b: &[u8], c: &[u8]) -> Result<Named, Refusal>
     ensures { told_named result ≡ list_named (link_source a.now b.now c.now) }
 {
-    match isis_check::check_sides(a, b, c) {
-        LinkChecked::Refused(x) => Named::Refused(x),
-        LinkChecked::Accepted(names) => {
-            let x = names.a;
-            let y = names.b;
-            let m = rules::both(x, y);
-            let who = masks::turned_set(m.named);
-            let standard = masks::without(who.standard, 1);
-            let user = who.user;
-            Named::Listed { standard, user }
-        }
-    }
+    let sides = isis_check::check_sides(a, b, c)?;
+    let x = sides.a.names;
+    let y = sides.b.names;
+    let m = x.both(y);
+    let who = masks::turned_set(m.named);
+    Ok(Named {
+        standard: masks::without(who.standard, 1),
+        user: who.user,
+    })
 }

@@ -8,7 +8,7 @@ ghost use Rattle.linkstate.specs.Bytes.{distinct, words};
 ghost use Rattle.linkstate.specs.Attributes.{srlgs};
 ghost use Rattle.linkstate.specs.Questions.{number_too_high};
 ghost use Rattle.replies.specs.Told.{subject_of};
-ghost use Rattle.rules.specs.Names.{Tells};
+ghost use Rattle.rules.specs.Names.{TellsSide};
 ghost use Rattle.rules.specs.Rules.{taken_by, given_on};
 ghost use Rattle.rules.specs.declared.Rule.TheVariants.{NamingFirst};
 ghost use Rattle.isis.specs.RunB.{side_b, check_b, live_srlg};
@@ -17,13 +17,13 @@ ghost use Rattle.isis_tlvs_238.specs.Runs.{Passed, Fronts, OnSideB};
 ghost use Rattle.linkstate.specs.Lists.{put};
 ghost use Rattle.linkstate.specs.Replies.{accepted, run_b};
 ghost use Rattle.linkstate.specs.Elements.{element, elements, faults};
-ghost use Rattle.linkstate.specs.Sides.{of_live, has_legacy};
+ghost use Rattle.linkstate.specs.Sides.{of_live};
 ghost use Rattle.isis.specs.MaskHeader.{sabm_length, udabm_length, header_length, advertisement};
 ghost use Rattle.isis_check_a.specs.Headers.{header_of};
 
 use isis_check_a::Header;
 use replies::Subject;
-use rules::{Names, Rule};
+use rules::{Rule, SideNames};
 
 // The numbers of the TLVs 238 that name RSVP-TE, and those of run C where these carry none, at the front of the list; how many there are.
 fn naming_first(b: &[u8], c: &[u8], out: &mut [u32]) -> usize
@@ -89,11 +89,11 @@ fn sort_front(out: &mut [u32], k: usize) -> usize
 }
 
 // The SRLGs of a subject, ascending, at the front of the list, by whom side B names and whether run C has a value; how many there are. What stands behind them is of no meaning.
-pub fn srlgs_of(b: &[u8], c: &[u8], whom: Subject, m: Names, legacy: bool, out: &mut [u32]) -> usize
-    requires { Passed b.now c.now × (length b.now / 4 ≤ length out.old) × (length c.now / 4 ≤ length out.old) × (number_too_high (subject_of whom) ≡ false) × Tells (side_b b.now c.now).live m × (legacy ≡ has_legacy (side_b b.now c.now)) }
+pub fn srlgs_of(b: &[u8], c: &[u8], whom: Subject, side: SideNames, out: &mut [u32]) -> usize
+    requires { Passed b.now c.now × (length b.now / 4 ≤ length out.old) × (length c.now / 4 ≤ length out.old) × (number_too_high (subject_of whom) ≡ false) × TellsSide (side_b b.now c.now) side }
     ensures { (take result out.new ≡ srlgs (given_on (subject_of whom) 1096 (side_b b.now c.now))) × (result ≤ 512) × (result ≤ length out.old) }
 {
-    let rule = rules::decide(whom, 1096, m, legacy);
+    let rule = rules::decide(whom, 1096, side);
     let k = words_by(b, c, rule, out);
     sort_front(out, k)
 }

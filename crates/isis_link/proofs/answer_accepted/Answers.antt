@@ -9,7 +9,7 @@ use borrow.Author.Tests.{ne_eqb}
 use Rattle.isis_link.proofs.answer_accepted.Goals as goal
 
 pub answer_srlg-requires : goal.answer_srlg-requires
-answer_srlg-requires c = let p = c.requires in (passed _ _ _ p.link, p.low, p.sides.in_b, p.sides.old_b)
+answer_srlg-requires c = let p = c.requires in (passed _ _ _ p.link, p.low, p.sides.in_b)
 
 pub returns-then-code-eq1096 : goal.returns-then-code-eq1096
 returns-then-code-eq1096 c = let a = c.args in

@@ -8,5 +8,5 @@ row_by-requires c = let t = c.type_of.ensures in let k = type-known _ _ t c.requ
     (k.0, c.requires.passed, k.1, type-other _ _ t c.requires.other)
 
 pub returns : goal.returns
-returns c = λ b d. row-given _ _ c.type_of.ensures c.args.a.now b d _ _ _ c.requires _
-    (c.decide-rule.ensures.s_value (side_a c.args.a.now) c.requires.tells c.requires.old) _ c.row_by.ensures
+returns c = λ b d. row-given _ _ c.type_of.ensures c.args.a.now b d _ _ c.requires _
+    (c.decide-rule.ensures.taken (side_a c.args.a.now) c.requires.tells.0 c.requires.tells.1) _ c.row_by.ensures
