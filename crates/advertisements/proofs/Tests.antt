@@ -5,12 +5,12 @@ use mathlib.Core.List.{List, [], ◌∷◌}
 use Prim.Native.Nat.{ℕ, ◌+◌, ◌-◌, ◌≤◌, ◌<◌}
 use native.Mathlib.Omega.{arith}
 use native.Mathlib.Nat.{add-sub_cancel_left}
-use borrow.Author.Tests.{le-leb, lt-leb, leb-true, leb-false, eq-eqb, ne_eqb, eqb-true, ltb-false}
+use borrow.Author.Tests.{le-leb, lt-leb, leb-true, leb-false, ne_eqb, eqb-true, ltb-false}
 use lib.Dec.{leb, eqb, ltb}
 use lib.ListN.{length, take, drop, get_or, length-drop, drop_of_length-le}
+use Rattle.std.specs.Prelude.{Option, None, Some}
 use Rattle.linkstate.specs.Lists.{any}
-use Rattle.linkstate.specs.Elements.{Element, element, cut, elements}
-use Rattle.linkstate.specs.Masks.{in_masks, others}
+use Rattle.linkstate.specs.Elements.{element, cut, elements}
 use Rattle.linkstate.specs.Attributes.{Attribute}
 use Rattle.linkstate.specs.Sides.{Advertisement, names, general, rsvp_te_alone}
 use Rattle.linkstate.specs.Why.{names_with_l}
@@ -28,30 +28,6 @@ use Rattle.isis_check_a.proofs.Laws.{header-l, header-too-long, header-nobody, h
 use Rattle.advertisements.specs.declared.Test.{Test}
 use Rattle.advertisements.specs.declared.Test.TheVariants.{Names, WithL, General, WithoutL, RsvpTeAlone}
 use Rattle.advertisements.specs.Tests.{seen, passing, stands, is_advertised, is_of, in_list, carries_a, carries_b, such_in}
-
--- ---- one test
-
-module _ (test : Test) (l : Bool) (s u : List ℕ) where
-  module _ (n : ℕ) (x : Bool) (is : x ≡ in_masks s u n) where
-    pub passes-names : test ≡ Names n → x ≡ passing test (seen l s u)
-    unfolding passing names
-    passes-names e = rw e is
-
-    pub passes-l : test ≡ WithL n → (l && x) ≡ passing test (seen l s u)
-    unfolding passing names_with_l names
-    passes-l e = rw (e, is)
-
-  pub passes-general : test ≡ General → (eqb (length s) 0 && eqb (length u) 0) ≡ passing test (seen l s u)
-  unfolding passing general
-  passes-general e = rw e
-
-  pub passes-without : test ≡ WithoutL → not l ≡ passing test (seen l s u)
-  unfolding passing
-  passes-without e = rw e
-
-  pub passes-alone : test ≡ RsvpTeAlone → (x : Bool) → x ≡ in_masks s u 0 && not (any (in_masks s u) others) → x ≡ passing test (seen l s u)
-  unfolding passing rsvp_te_alone names
-  passes-alone e x is = rw e is
 
 -- No test looks at the attributes.
 pub passing-same : (test : Test) (v : List ℕ) (ts : List Attribute) → passing test (advertisement v ts) ≡ passing test (advertisement v [])
@@ -146,67 +122,50 @@ srlg-readable at v t = not-or (mask_too_long v) (ignored v (identifiers at v)) t
 
 -- ---- kinds
 
-module _ (k : ℕ) where
-  pub of_cut : (at : ℕ) → is_of k (cut at) ≡ false
-  unfolding is_of
-  of_cut at = refl
-
-  pub of-whole : (at t : ℕ) (v : List ℕ) (n : ℕ) → length v ≡ n → (eqb t k && (not (eqb k 1096) || leb 4 n)) ≡ is_of k (element at t v)
-  unfolding is_of
-  of-whole at t v n l = rw l
-
-  pub none-asked : (w : ℕ) (s : List ℕ) → k ≡ 0 → true ≡ in_list w k s
-  unfolding in_list
-  none-asked w s e = rw (eq-eqb k 0 e)
-
-  pub one-asked : (w : ℕ) (s : List ℕ) (x : Bool) → (k ≡ 0 → ⊥) → x ≡ any (is_of k) (elements w 0 s) → x ≡ in_list w k s
-  unfolding in_list
-  one-asked w s x n e = rw (ne_eqb k 0 n) e
-
-module _ (k : ℕ) (v : List ℕ) where
-  pub a-none : k ≡ 0 → true ≡ carries_a k v
+module _ (kind : Option ℕ) (v : List ℕ) where
+  pub a-none : kind ≡ None → true ≡ carries_a kind v
   unfolding carries_a
-  a-none e = rw (eq-eqb k 0 e)
+  a-none e = rw e
 
-  pub b-none : k ≡ 0 → true ≡ carries_b k v
+  pub b-none : kind ≡ None → true ≡ carries_b kind v
   unfolding carries_b
-  b-none e = rw (eq-eqb k 0 e)
+  b-none e = rw e
 
-  module _ (z : k ≡ 0 → ⊥) (h : Header) (e : h ≡ header_of v) where
-    pub a-with-l : h.l ≡ true → false ≡ carries_a k v
+  module _ (k : ℕ) (z : kind ≡ Some k) (h : Header) (e : h ≡ header_of v) where
+    pub a-with-l : h.l ≡ true → false ≡ carries_a kind v
     unfolding carries_a
-    a-with-l l = let y : l_flag v ≡ true = sym (header-l h v e) ∙ l in rw (ne_eqb k 0 z, y)
+    a-with-l l = let y : l_flag v ≡ true = sym (header-l h v e) ∙ l in rw (z, y)
 
-    pub b-with-l : h.l ≡ true → false ≡ carries_b k v
+    pub b-with-l : h.l ≡ true → false ≡ carries_b kind v
     unfolding carries_b
-    b-with-l l = let y : l_flag v ≡ true = sym (header-l h v e) ∙ l in rw (ne_eqb k 0 z, y)
+    b-with-l l = let y : l_flag v ≡ true = sym (header-l h v e) ∙ l in rw (z, y)
 
     module _ (l : h.l ≡ false) (n : ℕ) (b : n ≡ bytes_before h) where
       unflagged : l_flag v ≡ false
       unflagged = sym (header-l h v e) ∙ l
 
-      pub a-past : length v < n → false ≡ carries_a k v
+      pub a-past : length v < n → false ≡ carries_a kind v
       unfolding carries_a any
-      a-past p = let y = drop_of_length-le v {i = header_length v} (omega (arith, header-bytes h v e)) in rw (ne_eqb k 0 z, unflagged, y, none_left 1 0)
+      a-past p = let y = drop_of_length-le v {i = header_length v} (omega (arith, header-bytes h v e)) in rw (z, unflagged, y, none_left 1 0)
 
-      pub a-is : (x : Bool) → n ≤ length v → x ≡ any (is_of k) (elements 1 0 (take (length v - n) (drop n v))) → x ≡ carries_a k v
+      pub a-is : (x : Bool) → n ≤ length v → x ≡ any (is_of k) (elements 1 0 (take (length v - n) (drop n v))) → x ≡ carries_a kind v
       unfolding carries_a
       a-is x p i =
           let y : n ≡ header_length v = b ∙ header-bytes h v e in
-          rw (ne_eqb k 0 z, unflagged, sym y) (i ∙ ap (λ (s : List ℕ). any (is_of k) (elements 1 0 s)) (rest-is v n p))
+          rw (z, unflagged, sym y) (i ∙ ap (λ (s : List ℕ). any (is_of k) (elements 1 0 s)) (rest-is v n p))
 
-      pub b-past : length v ≤ n → false ≡ carries_b k v
+      pub b-past : length v ≤ n → false ≡ carries_b kind v
       unfolding carries_b srlg_values
       b-past p =
           let y = lt-leb 4 (length (drop (header_length v + 1 + identifier_bytes v) v))
           (omega (arith, header-bytes h v e, length-drop (header_length v + 1 + identifier_bytes v) v)) in
-          rw (ne_eqb k 0 z, unflagged, y)
+          rw (z, unflagged, y)
 
-      pub b-is : (m : ℕ) → m ≡ get_or v n 0 → leb (n + 1 + m + 4) (length v) ≡ carries_b k v
+      pub b-is : (m : ℕ) → m ≡ get_or v n 0 → leb (n + 1 + m + 4) (length v) ≡ carries_b kind v
       unfolding carries_b srlg_values identifier_bytes
       b-is m i =
           let y : n ≡ header_length v = b ∙ header-bytes h v e in
-          rw (ne_eqb k 0 z, unflagged, sym y, sym i) (room (n + 1 + m))
+          rw (z, unflagged, sym y, sym i) (room (n + 1 + m))
         where
           room : (j : ℕ) → leb (j + 4) (length v) ≡ leb 4 (length (drop j v))
           room j = go (leb (j + 4) (length v)) refl
@@ -244,7 +203,7 @@ unlike x y z e = rw e (go x)
     go true = refl
     go false = refl
 
-module _ (test : Test) (k at t : ℕ) (v : List ℕ) where
+module _ (test : Test) (k : Option ℕ) (at t : ℕ) (v : List ℕ) where
   pub any-asla : any (passing test) (asla_advertisements (element at t v)) ≡ (eqb t 16 && live_asla v) && passing test (advertisement v [])
   unfolding asla_advertisements
   any-asla = any-one (passing test) (eqb t 16 && live_asla v) _ ∙ ap (λ (b : Bool). (eqb t 16 && live_asla v) && b) (passing-same test v _)
@@ -278,7 +237,7 @@ module _ (test : Test) (k at t : ℕ) (v : List ℕ) where
       unfolding such_in
       asla-live y j = ap₂ (λ (p q : Bool). p && q) asla-passing j
 
-module _ (test : Test) (k at t : ℕ) (value : List ℕ) where
+module _ (test : Test) (k : Option ℕ) (at t : ℕ) (value : List ℕ) where
   abbrev after : List ℕ
   after = after_neighbour value
 
@@ -321,7 +280,7 @@ mask-length-short n h = go (eqb n 0) refl (eqb n 4) refl (eqb n 8) refl h
     go false e false f true g h = omega (arith, eqb-true n 8 g)
     go false e false f false g h = let z : ◌≡◌ {A = ℕ} 0 1 = cc in absurd (omega arith)
 
-module _ (test : Test) (k at t : ℕ) (v : List ℕ) where
+module _ (test : Test) (k : Option ℕ) (at t : ℕ) (v : List ℕ) where
   passing-tlv : passing test (L.advertisement at v) ≡ passing test
       (seen false (take (L.sabm_length v) (drop 4 v)) (take (L.udabm_length v) (drop (4 + L.sabm_length v) v)))
   unfolding L.advertisement
@@ -379,16 +338,9 @@ module _ (test : Test) (k at t : ℕ) (v : List ℕ) where
 
 -- ---- by the run
 
-pub such-cut : (run : Run) (test : Test) (k at : ℕ) → such_in run test k (cut at) ≡ false
+pub such-cut : (run : Run) (test : Test) (k : Option ℕ) (at : ℕ) → such_in run test k (cut at) ≡ false
 unfolding such_in
 such-cut A test k at = refl
 such-cut B test k at = refl
 such-cut C test k at = refl
 such-cut BgpLs test k at = refl
-
-pub such_by : (run other : Run) (test : Test) (k : ℕ) (e : Element) (x : Bool) → run ≡ other → x ≡ such_in other test k e → x ≡ such_in run test k e
-such_by run other test k e x i h = h ∙ ap (λ (r : Run). such_in r test k e) (sym i)
-
-pub such-c : (test : Test) (k at t : ℕ) (v : List ℕ) → false ≡ such_in C test k (element at t v)
-unfolding such_in
-such-c test k at t v = refl

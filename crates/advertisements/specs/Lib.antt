@@ -1,3 +1,3 @@
-pub mod Frames
 pub mod Tests
 pub mod Walks
+pub mod Widths

@@ -1,5 +1,5 @@
 -- Which elements of a run are advertisements that pass a test and have a kind: those of the definitions of runs A and B and of BGP-LS.
-use Rattle.std.specs.Prelude.{Bool, false, ◌&&◌, ◌||◌, not, List, [], ℕ, leb, eqb, length, drop}
+use Rattle.std.specs.Prelude.{Bool, true, false, ◌&&◌, ◌||◌, not, List, [], ℕ, leb, eqb, length, drop, Option, None, Some}
 use Rattle.linkstate.specs.Lists.{any}
 use Rattle.linkstate.specs.Elements.{Element, element, cut, elements}
 use Rattle.linkstate.specs.Sides.{Advertisement, names, general, rsvp_te_alone}
@@ -37,20 +37,23 @@ unfoldable pub is_of : ℕ → Element → Bool
 is_of k (element at t v) = eqb t k && (not (eqb k 1096) || leb 4 (length v))
 is_of k (cut at) = false
 
--- Whether a list has one. 0 asks for none.
-unfoldable pub in_list : ℕ → ℕ → List ℕ → Bool
-in_list w k s = eqb k 0 || any (is_of k) (elements w 0 s)
+-- Whether a list has one, where one is asked for.
+unfoldable pub in_list : ℕ → Option ℕ → List ℕ → Bool
+in_list w None s = true
+in_list w (Some k) s = any (is_of k) (elements w 0 s)
 
 -- A3. The list of an ASLA, which is not read with L.
-unfoldable pub carries_a : ℕ → List ℕ → Bool
-carries_a k v = eqb k 0 || (not (l_flag v) && any (is_of k) (elements 1 0 (drop (header_length v) v)))
+unfoldable pub carries_a : Option ℕ → List ℕ → Bool
+carries_a None v = true
+carries_a (Some k) v = not (l_flag v) && any (is_of k) (elements 1 0 (drop (header_length v) v))
 
 -- B3. SRLG values of a TLV 238 that are read: without L, at least one number of four bytes.
-unfoldable pub carries_b : ℕ → List ℕ → Bool
-carries_b k v = eqb k 0 || (not (l_flag v) && leb 4 (length (srlg_values v)))
+unfoldable pub carries_b : Option ℕ → List ℕ → Bool
+carries_b None v = true
+carries_b (Some k) v = not (l_flag v) && leb 4 (length (srlg_values v))
 
--- Whether an element of a run advertises, passes, and has the kind.
-unfoldable pub such_in : Run → Test → ℕ → Element → Bool
+-- Whether an element of a run advertises, passes, and has the kind that is asked for.
+unfoldable pub such_in : Run → Test → Option ℕ → Element → Bool
 such_in run test k (cut at) = false
 such_in A test k (element at t v) = (stands v && any (passing test) (asla_advertisements (element at t v))) && carries_a k v
 such_in B test k (element at t v) = (stands (after_neighbour v) && any (passing test) (srlg_advertisements (element at t v))) && carries_b k (after_neighbour v)

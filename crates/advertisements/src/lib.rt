@@ -4,97 +4,75 @@
 
 ghost use Rattle.std.specs.Prelude.{◌≡◌, ◌&&◌, false, List, ℕ, ◌+◌, ◌<◌, ◌≤◌, leb, length};
 ghost use Rattle.linkstate.specs.Lists.{any};
-ghost use Rattle.linkstate.specs.Elements.{element, elements};
+ghost use Rattle.linkstate.specs.Elements.{elements};
 ghost use Rattle.isis.specs.MaskHeader.{mask_too_long};
 ghost use Rattle.isis.specs.RunA.{live_asla};
-ghost use Rattle.replies.specs.Told.{told_holder};
-ghost use Rattle.frames.specs.Frames.{frame_in};
-ghost use Rattle.advertisements.specs.Frames.{width_of};
+ghost use Rattle.frames.specs.Left.{of_whole, shown};
+ghost use Rattle.advertisements.specs.Widths.{width_of};
 ghost use Rattle.advertisements.specs.Tests.{seen, passing, is_advertised, is_of, in_list, carries_a, carries_b, such_in};
-ghost use Rattle.advertisements.specs.Walks.{first_such};
+ghost use Rattle.advertisements.specs.Walks.{first_with, first_such, held};
 
-use frames::{Frame, frame_one, frame_two};
-use replies::{Holder, Place, Run};
-
-// A byte as a number.
-fn wide(x: u8) -> usize
-    ensures { (result ≡ x) × (result < 256) }
-{
-    x as usize
-}
-
-// What begins at a position of a run.
-fn frame_of(s: &[u8], run: Run, at: usize) -> Frame
-    requires { at ≤ length s.now }
-    ensures { result ≡ frame_in (width_of run) s.now at }
-{
-    match run {
-        Run::A => frame_one(s, at),
-        Run::B => frame_one(s, at),
-        Run::C => frame_one(s, at),
-        Run::BgpLs => frame_two(s, at),
-    }
-}
-
-// How many bytes of an element stand before its value: its type and its length.
-fn header_of(run: Run) -> usize
-    ensures { result ≡ width_of run + width_of run }
-{
-    match run {
-        Run::A => 2,
-        Run::B => 2,
-        Run::C => 2,
-        Run::BgpLs => 4,
-    }
-}
+use frames::{Cut, Element, Elements, One, Two, Width};
+use replies::{Place, Run};
 
 // ---- kinds
 
 // Whether an element is of a kind, by its type; an SRLG TLV needs a number.
-fn is_of(own: usize, len: usize, kind: usize) -> bool
-    ensures { (at : ℕ) (v : List ℕ) → length v ≡ len → result ≡ is_of kind (element at own v) }
+#[tactic(auto, unfolding(crate::specs::Tests::is_of))]
+fn is_of(e: Element<'_>, kind: usize) -> bool
+    ensures { result ≡ is_of kind (of_whole e.entry) }
 {
-    (own == kind) & ((kind != 1096) | (4 <= len))
+    (e.kind == kind) & ((kind != 1096) | (4 <= e.value.len()))
+}
+
+// The same of what an iterator gives; nothing that is cut off is of a kind.
+#[tactic(auto, unfolding(crate::specs::Tests::is_of))]
+fn item_is_of(e: Result<Element<'_>, Cut>, kind: usize) -> bool
+    ensures { result ≡ is_of kind (shown e.entry) }
+{
+    match e {
+        Ok(e) => is_of(e, kind),
+        Err(_) => false,
+    }
 }
 
 // Whether a list has an element of a kind.
+fn list_has<W: Width>(s: &[u8], kind: usize) -> bool
+    ensures { result ≡ any (is_of kind) (elements W.BYTES 0 s.now) }
+{
+    Elements::<W>::new(s, 0).any(|e| item_is_of(e, kind))
+}
+
+// The same of a list of a run.
+#[tactic(auto, unfolding(crate::specs::Widths::width_of))]
 pub fn has_kind(s: &[u8], run: Run, kind: usize) -> bool
     ensures { result ≡ any (is_of kind) (elements (width_of run) 0 s.now) }
 {
-    let head = header_of(run);
-    let mut at = 0;
-    loop {
-        match frame_of(s, run, at) {
-            Frame::End => return false,
-            Frame::Cut => return false,
-            Frame::Whole { kind: own, len } => {
-                if is_of(own, len, kind) {
-                    return true;
-                }
-                at = at + head + len;
-            }
-        }
+    match run {
+        Run::A | Run::B | Run::C => list_has::<One>(s, kind),
+        Run::BgpLs => list_has::<Two>(s, kind),
     }
 }
 
-// The same where a kind may be asked for: 0 is none.
-fn in_list(s: &[u8], run: Run, kind: usize) -> bool
-    ensures { result ≡ in_list (width_of run) kind s.now }
+// The same of the list of a 1122, where a kind may be asked for.
+#[tactic(auto, unfolding(crate::specs::Tests::in_list))]
+fn tlv_carries(s: &[u8], kind: Option<usize>) -> bool
+    ensures { result ≡ in_list 2 kind s.now }
 {
-    if kind == 0 {
+    let Some(kind) = kind else {
         return true;
-    }
-    has_kind(s, run, kind)
+    };
+    list_has::<Two>(s, kind)
 }
 
 // The same of the attribute list of an ASLA, by its value; with L it is not read.
-fn asla_carries(v: &[u8], kind: usize) -> bool
+fn asla_carries(v: &[u8], kind: Option<usize>) -> bool
     requires { 2 ≤ length v.now }
     ensures { result ≡ carries_a kind v.now }
 {
-    if kind == 0 {
+    let Some(kind) = kind else {
         return true;
-    }
+    };
     let h = isis_check_a::read_header(v);
     let l = h.l;
     if l {
@@ -104,17 +82,17 @@ fn asla_carries(v: &[u8], kind: usize) -> bool
     if v.len() < e {
         return false;
     }
-    has_kind(&v[e..], Run::A, kind)
+    list_has::<One>(&v[e..], kind)
 }
 
 // The same of a TLV 238, by what follows its neighbour bytes: whether SRLG values that are read follow the identifiers.
-fn srlg_carries(v: &[u8], kind: usize) -> bool
+fn srlg_carries(v: &[u8], kind: Option<usize>) -> bool
     requires { 2 ≤ length v.now }
     ensures { result ≡ carries_b kind v.now }
 {
-    if kind == 0 {
+    let Some(_) = kind else {
         return true;
-    }
+    };
     let h = isis_check_a::read_header(v);
     let l = h.l;
     if l {
@@ -124,7 +102,7 @@ fn srlg_carries(v: &[u8], kind: usize) -> bool
     if v.len() <= e {
         return false;
     }
-    let n = wide(v[e]);
+    let n = usize::from(v[e]);
     e + 1 + n + 4 <= v.len()
 }
 
@@ -183,10 +161,11 @@ fn live_asla(v: &[u8]) -> bool
     !isis_check_a::l_for_nobody(h)
 }
 
-fn asla_passes(own: usize, v: &[u8], test: Test, kind: usize) -> bool
-    ensures { (at : ℕ) → result ≡ such_in Run.A test kind (element at own v.now) }
+fn asla_passes(e: Element<'_>, test: Test, kind: Option<usize>) -> bool
+    ensures { result ≡ such_in Run.A test kind (of_whole e.entry) }
 {
-    if own != 16 {
+    let v = e.value;
+    if e.kind != 16 {
         return false;
     }
     if !live_asla(v) {
@@ -195,10 +174,11 @@ fn asla_passes(own: usize, v: &[u8], test: Test, kind: usize) -> bool
     header_passes(v, test) && asla_carries(v, kind)
 }
 
-fn srlg_passes(own: usize, value: &[u8], test: Test, kind: usize) -> bool
-    ensures { (at : ℕ) → result ≡ such_in Run.B test kind (element at own value.now) }
+fn srlg_passes(e: Element<'_>, test: Test, kind: Option<usize>) -> bool
+    ensures { result ≡ such_in Run.B test kind (of_whole e.entry) }
 {
-    if own != 238 {
+    let value = e.value;
+    if e.kind != 238 {
         return false;
     }
     if value.len() < 9 {
@@ -211,10 +191,11 @@ fn srlg_passes(own: usize, value: &[u8], test: Test, kind: usize) -> bool
     header_passes(v, test) && srlg_carries(v, kind)
 }
 
-fn tlv_passes(own: usize, v: &[u8], test: Test, kind: usize) -> bool
-    ensures { (at : ℕ) → result ≡ such_in Run.BgpLs test kind (element at own v.now) }
+fn tlv_passes(e: Element<'_>, test: Test, kind: Option<usize>) -> bool
+    ensures { result ≡ such_in Run.BgpLs test kind (of_whole e.entry) }
 {
-    if own != 1122 {
+    let v = e.value;
+    if e.kind != 1122 {
         return false;
     }
     if v.len() < 4 {
@@ -225,43 +206,48 @@ fn tlv_passes(own: usize, v: &[u8], test: Test, kind: usize) -> bool
         return false;
     }
     let m = 4 + h.standard;
-    let e = m + h.user;
-    if v.len() < e {
+    let end = m + h.user;
+    if v.len() < end {
         return false;
     }
-    passes(&v[4..m], &v[m..e], false, test) && in_list(&v[e..], Run::BgpLs, kind)
+    passes(&v[4..m], &v[m..end], false, test) && tlv_carries(&v[end..], kind)
 }
 
 // Whether an element is an advertisement that passes and has the kind.
-fn is_such(own: usize, v: &[u8], run: Run, test: Test, kind: usize) -> bool
-    ensures { (at : ℕ) → result ≡ such_in run test kind (element at own v.now) }
+#[tactic(auto, unfolding(crate::specs::Tests::such_in))]
+fn is_such(e: Element<'_>, run: Run, test: Test, kind: Option<usize>) -> bool
+    ensures { result ≡ such_in run test kind (of_whole e.entry) }
 {
     match run {
-        Run::A => asla_passes(own, v, test, kind),
-        Run::B => srlg_passes(own, v, test, kind),
+        Run::A => asla_passes(e, test, kind),
+        Run::B => srlg_passes(e, test, kind),
         Run::C => false,
-        Run::BgpLs => tlv_passes(own, v, test, kind),
+        Run::BgpLs => tlv_passes(e, test, kind),
     }
 }
 
-// The first advertisement of a run that passes and has the kind, by its type in the run's lists; 0 asks for none, and every 238 has SRLGs alone.
-pub fn first_such(s: &[u8], run: Run, test: Test, kind: usize) -> Holder
-    ensures { told_holder result ≡ first_such run test kind s.now }
+// The first of a list; nothing that is cut off advertises.
+fn first_in<W: Width>(s: &[u8], run: Run, test: Test, kind: Option<usize>) -> Option<Place>
+    ensures { held result ≡ first_with run (such_in run test kind) (elements W.BYTES 0 s.now) }
 {
-    let head = header_of(run);
-    let mut at = 0;
-    loop {
-        match frame_of(s, run, at) {
-            Frame::End => return Holder::Nowhere,
-            Frame::Cut => return Holder::Nowhere,
-            Frame::Whole { kind: own, len } => {
-                let value = at + head;
-                let end = value + len;
-                if is_such(own, &s[value..end], run, test, kind) {
-                    return Holder::At(Place { run, offset: at });
-                }
-                at = end;
-            }
+    for e in Elements::<W>::new(s, 0) {
+        let Ok(e) = e else {
+            continue;
+        };
+        if is_such(e, run, test, kind) {
+            return Some(Place { run, offset: e.at });
         }
+    }
+    None
+}
+
+// The first advertisement of a run that passes and, where a kind is asked for by its type in the run's lists, has it; every 238 has SRLGs alone.
+#[tactic(auto, unfolding(crate::specs::Walks::first_such, crate::specs::Widths::width_of))]
+pub fn first_such(s: &[u8], run: Run, test: Test, kind: Option<usize>) -> Option<Place>
+    ensures { held result ≡ first_such run test kind s.now }
+{
+    match run {
+        Run::A | Run::B | Run::C => first_in::<One>(s, run, test, kind),
+        Run::BgpLs => first_in::<Two>(s, run, test, kind),
     }
 }

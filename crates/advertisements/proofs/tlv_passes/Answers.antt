@@ -4,21 +4,20 @@ use native.Mathlib.Omega.{arith}
 use Rattle.advertisements.proofs.Tests.{tlv-other, tlv-short, tlv-past, tlv-ignored, tlv-is, mask-length-short, and-taken, and_left}
 use Rattle.linkstate.specs.BgpLs.{is_mask_length}
 use Rattle.linkstate.proofs.ListLaws.{and_l, and_r}
-use Rattle.advertisements.specs.Frames.{width_of}
 use Rattle.advertisements.proofs.tlv_passes.Goals as goal
 
-pub returns-then-own-ne1122 : goal.returns-then-own-ne1122
-returns-then-own-ne1122 c = λ at. tlv-other _ _ at _ _ (λ e. omega arith)
+pub returns-then-e-ne1122 : goal.returns-then-e-ne1122
+returns-then-e-ne1122 c = tlv-other _ _ _ _ _ (λ e. omega arith)
 
 pub returns-then-v-lt4 : goal.returns-then-v-lt4
-returns-then-v-lt4 c = λ at. tlv-short _ _ at _ _ c.if-v-lt4.true
+returns-then-v-lt4 c = tlv-short _ _ _ _ _ c.if-v-lt4.true
 
 pub returns-then-not-not_ignored : goal.returns-then-not-not_ignored
 returns-then-not-not_ignored c = let h = c.read_asla_header-h in
-    λ at. tlv-ignored _ _ at _ _ _ _ h.ensures.0 h.ensures.1 _ c.not_ignored.ensures (c.if-not-not_ignored.true)
+    tlv-ignored _ _ _ _ _ _ _ h.ensures.0 h.ensures.1 _ c.not_ignored.ensures (c.if-not-not_ignored.true)
 
-pub returns-then-v-e : goal.returns-then-v-e
-returns-then-v-e c = let h = c.read_asla_header-h in λ at. tlv-past _ _ at _ _ _ _ h.ensures.0 h.ensures.1 (omega arith)
+pub returns-then-v-end : goal.returns-then-v-end
+returns-then-v-end c = let h = c.read_asla_header-h in tlv-past _ _ _ _ _ _ _ h.ensures.0 h.ensures.1 (omega arith)
 
 pub passes-requires : goal.passes-requires
 passes-requires c = let h = c.read_asla_header-h in
@@ -29,13 +28,12 @@ passes-requires c = let h = c.read_asla_header-h in
     (omega arith, omega arith)
 
 pub returns-then-passes : goal.returns-then-passes
-unfolding width_of
 returns-then-passes c = let h = c.read_asla_header-h in
-    λ at. and-taken _ _ _ c.if-passes.true
-    (tlv-is _ _ at _ _ _ _ h.ensures.0 h.ensures.1 _ c.not_ignored.ensures (omega arith) (c.if-not-not_ignored.false)
-    (omega arith) _ _ c.passes.ensures c.in_list.ensures)
+    and-taken _ _ _ c.if-passes.true
+    (tlv-is _ _ _ _ _ _ _ h.ensures.0 h.ensures.1 _ c.not_ignored.ensures (omega arith) (c.if-not-not_ignored.false)
+    (omega arith) _ _ c.passes.ensures c.tlv_carries.ensures)
 
 pub returns-else-passes : goal.returns-else-passes
 returns-else-passes c = let h = c.read_asla_header-h in
-    λ at. and_left _ _ _ c.if-passes.false
-    (tlv-is _ _ at _ _ _ _ h.ensures.0 h.ensures.1 _ c.not_ignored.ensures (omega arith) (c.if-not-not_ignored.false) (omega arith) _ _ c.passes.ensures refl)
+    and_left _ _ _ c.if-passes.false
+    (tlv-is _ _ _ _ _ _ _ h.ensures.0 h.ensures.1 _ c.not_ignored.ensures (omega arith) (c.if-not-not_ignored.false) (omega arith) _ _ c.passes.ensures refl)
