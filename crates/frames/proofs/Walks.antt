@@ -20,7 +20,7 @@ use Rattle.frames.specs.declared.Element.{Element as Item}
 use Rattle.frames.specs.declared.Cut.{Cut}
 use Rattle.frames.specs.Left.{shown}
 use Rattle.frames.specs.Uncut.{left, Uncut}
-use Rattle.frames.proofs.Laws.{IsWhole}
+use Rattle.frames.proofs.Laws.{IsWhole, from_start}
 
 -- ---- what an item says of those that were left
 
@@ -79,7 +79,7 @@ pub left-behind : (w : ℕ) (s : List ℕ) (at : ℕ) → left w 0 s at ≡ elem
 left-behind w s at = ap (λ (i : ℕ). elements w i (drop at s)) (zero-add at)
 
 pub left-all : (w base : ℕ) (s : List ℕ) → left w base s 0 ≡ elements w base s
-left-all w base s = let z : base + 0 ≡ base = omega arith in ap (λ (i : ℕ). elements w i s) z
+left-all = from_start
 
 module _ (w : ℕ) (p : 0 < w) (base : ℕ) (s : List ℕ) (at : ℕ) where
   -- The element at a place, and what is left behind it.

@@ -12,26 +12,26 @@ returns-then-list-place-clause-steps g c =
     let e = left_end g.W.Width.BYTES g.met.W.Width.some it.base it.list.now it.at (omega arith) in
     (e, e)
 
-pub number_at-len-requires : goal.number_at-len-requires
-number_at-len-requires g c =
+pub number_at-n-requires : goal.number_at-n-requires
+number_at-n-requires g c =
     let it = c.args.self.now in
     omega (arith, header-within g.W.Width.BYTES g.met.W.Width.some it.base it.list.now it.at it.uncut (omega arith))
 
 pub invariant_of-self : goal.invariant_of-self
 invariant_of-self g c =
     let it = c.args.self.now in
-    let l = whole-within g.W.Width.BYTES g.met.W.Width.some it.base it.list.now it.at it.uncut (omega arith) _ _ c.BYTES.ensures c.BYTES-2.ensures _ c.number_at-len.ensures.value in
+    let l = whole-within g.W.Width.BYTES g.met.W.Width.some it.base it.list.now it.at it.uncut (omega arith) _ _ c.BYTES.ensures c.BYTES-2.ensures _ c.number_at-n.ensures.value in
     record {
       within = l;
       fits = it.fits;
-      uncut = rest-uncut g.W.Width.BYTES g.met.W.Width.some it.base it.list.now it.at it.uncut (omega arith) _ _ c.BYTES.ensures c.BYTES-2.ensures _ c.number_at-len.ensures.value;
+      uncut = rest-uncut g.W.Width.BYTES g.met.W.Width.some it.base it.list.now it.at it.uncut (omega arith) _ _ c.BYTES.ensures c.BYTES-2.ensures _ c.number_at-n.ensures.value;
     }
 
 pub returns-clause-steps : goal.returns-clause-steps
 returns-clause-steps g c =
     let it = c.args.self.now in
-    gives-whole g.W.Width.BYTES g.met.W.Width.some it.base it.list.now it.at _ c.BYTES.ensures _ _ c.number_at-len.ensures.value c.BYTES-2.ensures _ c.number_at-kind.ensures.value
-    (whole-within g.W.Width.BYTES g.met.W.Width.some it.base it.list.now it.at it.uncut (omega arith) _ _ c.BYTES.ensures c.BYTES-2.ensures _ c.number_at-len.ensures.value)
+    gives-whole g.W.Width.BYTES g.met.W.Width.some it.base it.list.now it.at _ c.BYTES.ensures _ _ c.number_at-n.ensures.value c.BYTES-2.ensures _ c.number_at-kind.ensures.value
+    (whole-within g.W.Width.BYTES g.met.W.Width.some it.base it.list.now it.at it.uncut (omega arith) _ _ c.BYTES.ensures c.BYTES-2.ensures _ c.number_at-n.ensures.value)
 
 pub returns-clause-goes : goal.returns-clause-goes
 returns-clause-goes g c =
