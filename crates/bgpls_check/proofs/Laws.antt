@@ -1,10 +1,10 @@
 -- One law for each way in which a check of a BGP-LS run can go.
-use mathlib.Core.Path.{◌≡◌, refl, sym, ap, ◌∙◌}
+use mathlib.Core.Path.{◌≡◌, refl, sym, ap, ap₂, ◌∙◌}
 use mathlib.Core.Bool.{Bool, true, false, ◌&&◌, ◌||◌, not, and-true, or-false, false≢true}
 use mathlib.Core.List.{List, []}
-use Prim.Native.Nat.{ℕ, ◌%◌, ◌≤◌, ◌<◌}
+use Prim.Native.Nat.{ℕ, ◌+◌, ◌%◌, ◌≤◌, ◌<◌}
 use native.Mathlib.Omega.{arith}
-use borrow.Author.Tests.{lt-ltb, le-ltb, le-leb}
+use borrow.Author.Tests.{lt-ltb, le-ltb, le-leb, eq-eqb}
 use lib.Dec.{leb, eqb}
 use lib.ListN.{length}
 use Rattle.linkstate.specs.Replies.{accepted, fault, fault_of_call, refused_if, ◌then◌, run_bgp_ls}
@@ -12,7 +12,7 @@ use Rattle.linkstate.specs.Elements.{Element, elements, faults, faults_once}
 use Rattle.linkstate.specs.Lists.{keep}
 use Rattle.linkstate.specs.Kinds.{kinds, fits, has_code, is_applications, wrong_inside, wrong_at_top}
 use Rattle.linkstate.proofs.Computing.{computing}
-use Rattle.linkstate.specs.BgpLs.{check_inner, known_inside, check_top, run_verdict}
+use Rattle.linkstate.specs.BgpLs.{sabm_length, udabm_length, asla_header, is_mask_length, not_ignored, check_inner, known_inside, check_asla, check_top, run_verdict}
 use Rattle.repeats.proofs.Once.{Once}
 use Rattle.kinds.specs.declared.Kind.{Kind}
 use Rattle.kinds.specs.declared.Kind.TheVariants.{Link, Application, Srlg, Asla, Unknown}
@@ -88,6 +88,22 @@ two_bytes = omega arith
 
 abbrev pub Listed : ℕ → List ℕ → ℕ → List Element → Type 0
 Listed base s = Once run_bgp_ls known_inside check_inner 2 two_bytes base s 0 (faults_once run_bgp_ls known_inside check_inner [] (elements 2 base s))
+
+-- ---- a 1122
+
+-- By the mask lengths s and u that stand in its first two bytes.
+module _ (v : List ℕ) (s u : ℕ) (e : s ≡ sabm_length v) (f : u ≡ udabm_length v) where
+  pub header-live : is_mask_length s && is_mask_length u ≡ not_ignored v
+  unfolding not_ignored
+  header-live = ap₂ (λ (x y : ℕ). is_mask_length x && is_mask_length y) e f
+
+  pub header-size : 4 + s + u ≡ asla_header v
+  unfolding asla_header
+  header-size = ap₂ (λ (x y : ℕ). 4 + x + y) e f
+
+pub top-asla : (at t : ℕ) (v : List ℕ) → t ≡ 1122 → check_asla at v ≡ check_top at t v
+unfolding check_top
+top-asla at t v e = rw (eq-eqb t 1122 e)
 
 -- ---- a top-level element
 

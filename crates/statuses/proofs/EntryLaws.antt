@@ -20,14 +20,14 @@ use Rattle.kinds.specs.declared.Form.TheVariants.{WholeNumber, TwoNumbers, Float
 use Rattle.kinds.specs.Rules.{told_form}
 use Rattle.answering.specs.Standing.{standing}
 use Rattle.answering.specs.Rows.{row_answer}
-use Rattle.answering.proofs.Laws.{row-found}
+use Rattle.answering.proofs.RowLaws.{StandsIn, row-answers, row-part}
+use Rattle.std.specs.Prelude.{Option, None, Some}
+use Rattle.octets.specs.declared.Span.{Span}
+use Rattle.octets.specs.Spans.{found_in}
 use Rattle.answering.proofs.Entries.{ask-refused, ask-answered, answer-other, value-part}
-use Rattle.isis_grids.specs.Grid.{first_row}
-use Rattle.bgpls_find.specs.declared.Found.TheVariants.{At, Absent}
-use Rattle.bgpls_find.specs.Sets.{found_in}
 use Rattle.statuses.specs.Words.{two, nothing, placed, refusal_words, reading_words, reply_words, ask_words, place_words, value_words}
 use Rattle.statuses.proofs.Laws.{no_bits, status-3}
-use Rattle.statuses.specs.Answered.{Answers}
+use Rattle.statuses.specs.Answered.{Answers, row_words}
 
 -- ---- a question that finds a bandwidth
 
@@ -103,36 +103,17 @@ module _ (s : Source) (whom : Subject) (k : ℕ) where
   unfolding value_words unless
   place-first w e h p = rw (e, ne_eqb k 1096 h) p
 
-pub none_first : (spot : ℕ → Place) (ts : List Attribute) → ts ≡ [] → first_of spot ts ≡ absent
-unfolding first_of
-none_first spot ts e = rw e
-
-first-none : (spot : ℕ → Place) (ts : List Attribute) → first_of spot ts ≡ absent → nothing ≡ place_words spot ts
-unfolding first_of place_words
-first-none spot [] e = refl
-first-none spot (t ∷ ts) e = absurd (let z : ◌≡◌ {A = ℕ} 0 1 = cc in omega arith)
-
-pub row-placed : (run : Run) (row : List ℕ) (ts : List Attribute) → row ≡ first_row ts → (get_or row 0 0 ≡ 0 → ⊥)
-    → placed 4 (get_or row 0 0) (get_or row 1 0) run ≡ place_words (place run) ts
-unfolding first_row place_words place
-row-placed run row [] e h = absurd (h (ap (λ (x : List ℕ). get_or x 0 0) e))
-row-placed run row (t ∷ ts) e h = rw e
-
-pub row-not-placed : (a : List ℕ) (spot : ℕ → Place) (k : ℕ) (row : List ℕ) (ts : List Attribute)
-    → first_of spot ts ≡ row_answer a spot k (get_or row 0 0) (get_or row 1 0)
-    → get_or row 0 0 ≡ 0 → nothing ≡ place_words spot ts
-unfolding row_answer
-row-not-placed a spot k row ts e z = first-none spot ts (e ∙ rw z)
-
-pub found-placed : (run : Run) (ts : List Attribute) (p n : ℕ) → At p n ≡ found_in ts → placed 4 p n run ≡ place_words (place run) ts
+pub row-placed : (run : Run) (row : Option Span) (span : Span) → row ≡ Some span → (ts : List Attribute) → row ≡ found_in ts
+    → placed 4 span.place span.len run ≡ place_words (place run) ts
 unfolding found_in place_words place
-found-placed run [] p n e = absurd (let z : ◌≡◌ {A = ℕ} 0 1 = cc in omega arith)
-found-placed run (t ∷ ts) p n e = let x : p ≡ t.at = cc in let y : n ≡ t.len = cc in rw (x, y)
+row-placed run row span f [] e = let z : Some span ≡ None = sym f ∙ e in cc
+row-placed run row span f (t ∷ ts) e = let z : Some span ≡ Some (record { place = t.at; len = t.len }) = sym f ∙ e in
+    let x : span ≡ record { place = t.at; len = t.len } = cc in rw x
 
-pub found_nowhere : (spot : ℕ → Place) (ts : List Attribute) → Absent ≡ found_in ts → nothing ≡ place_words spot ts
+pub row-not-placed : (run : Run) (row : Option Span) → row ≡ None → (ts : List Attribute) → row ≡ found_in ts → nothing ≡ place_words (place run) ts
 unfolding found_in place_words
-found_nowhere spot [] e = refl
-found_nowhere spot (t ∷ ts) e = absurd (let z : ◌≡◌ {A = ℕ} 0 1 = cc in omega arith)
+row-not-placed run row f [] e = refl
+row-not-placed run row f (t ∷ ts) e = let z : ◌≡◌ {A = Option Span} None (Some (record { place = t.at; len = t.len })) = sym f ∙ e in cc
 
 -- ---- the answer to a question
 
@@ -167,10 +148,21 @@ module _ (s : Source) (whom : Subject) (k : ℕ) (list : List ℕ) where
         answered s whom k list list first (answer-other s whom k s.spot list first other refl ∙ ask-answered s whom k list e) w
         (h ∙ ap (reply_words (number (value s whom k))) (sym f))
 
-    pub asked-row : (b : List ℕ) (p n : ℕ) → first ≡ row_answer b s.spot k p n → (p ≡ 0 → ⊥)
-        → take (p + n - p) (drop p b) ≡ bytes_of_first s.bytes (of_kind k (given s whom k))
-        → (w : List ℕ) → w ≡ reading_words (number (bytes_at b p n)) (reading_as (form_of k) s.spot (standing b p n)) → Answers s whom k list w list
-    asked-row b p n f z v w h =
-        let x = reading_as (form_of k) s.spot (standing b p n) in
-        asked-first (found x) (f ∙ sym (row-found b s.spot k p n x (form_of k) z refl refl)) w
-        (h ∙ ap (λ (l : List ℕ). reading_words (number l) x) (sym (part-is b p n) ∙ value-part s whom k _ e other v))
+    -- by where the first value stands in the source's bytes
+    module _ (b : List ℕ) (stands : (t : Attribute) (us : List Attribute) → of_kind k (given s whom k) ≡ t ∷ us → StandsIn b s.spot k t)
+        (row : Option Span) (is : row ≡ found_in (of_kind k (given s whom k)))
+        (own : (v : List ℕ) → v ≡ bytes_of_first b (of_kind k (given s whom k)) → v ≡ bytes_of_first s.bytes (of_kind k (given s whom k))) where
+      told_by : first ≡ row_answer b s.spot k row
+      told_by = sym (row-answers b s.spot k (of_kind k (given s whom k)) stands row is (row_answer b s.spot k row) refl)
+
+      pub asked-row : (w : List ℕ) → w ≡ row_words b s.spot k row → Answers s whom k list w list
+      asked-row w h = go row refl
+        where
+          go : (q : Option Span) → row ≡ q → Answers s whom k list w list
+          go None j = asked-first absent (told_by ∙ ap (row_answer b s.spot k) j) w (h ∙ ap (row_words b s.spot k) j)
+          go (Some span) j =
+              let x = reading_as (form_of k) s.spot (standing b span.place span.len) in
+              asked-first (found x) (told_by ∙ ap (row_answer b s.spot k) j) w
+              (h ∙ ap (row_words b s.spot k) j
+              ∙ ap (λ (l : List ℕ). reading_words (number l) x)
+              (sym (part-is b span.place span.len) ∙ value-part s whom k _ e other (own _ (row-part b s.spot k (of_kind k (given s whom k)) stands row is span j))))

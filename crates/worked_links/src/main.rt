@@ -1,70 +1,32 @@
-// Document 01's worked links and RFC 9294's illustration, asked and exported through the proved entries; what they answer is held to the file stdout.
+// The worked links and RFC 9294's illustration, asked and exported through the proved entries; what they answer is held to the file stdout.
 
 #![tactic(auto)]
 
-use replies::{Answer, Named, Reading, Refusal, Run, Subject, Written};
-use std::io;
+use replies::{Named, Reading, Refusal, Subject};
+use std::{fmt, io};
 
-fn say(rt: &impl Print, text: &str) -> io::Result<()> {
-    print!(rt; "{text}")
-}
+// An answer: what it reads as, that there is none, or the refusal.
+struct Told(Result<Option<Reading>, Refusal>);
 
-fn say_number(rt: &impl Print, n: u64) -> io::Result<()> {
-    print!(rt; "{n}")
-}
-
-fn wide(n: u32) -> u64 {
-    n as u64
-}
-
-fn say_run(rt: &impl Print, run: Run) -> io::Result<()> {
-    match run {
-        Run::A => say(rt, "A"),
-        Run::B => say(rt, "B"),
-        Run::C => say(rt, "C"),
-        Run::BgpLs => say(rt, "BGP-LS"),
-    }
-}
-
-// A refusal by its number, run and offset.
-fn say_refusal(rt: &impl Print, x: Refusal) -> io::Result<()> {
-    say(rt, "refused ")?;
-    say_number(rt, x.number as u64)?;
-    say(rt, " at ")?;
-    let place = x.place;
-    let run = place.run;
-    say_run(rt, run)?;
-    say(rt, " ")?;
-    say_number(rt, place.offset as u64)
-}
-
-fn say_reading(rt: &impl Print, reading: Reading) -> io::Result<()> {
-    match reading {
-        Reading::Number(n) => say_number(rt, n as u64),
-        Reading::Pair(m, n) => {
-            say_number(rt, m as u64)?;
-            say(rt, " and ")?;
-            say_number(rt, n as u64)
-        }
-        Reading::Bandwidth(_) => say(rt, "a bandwidth"),
-        Reading::Part { place, length } => {
-            say(rt, "bytes at ")?;
-            say_number(rt, place.offset as u64)?;
-            say(rt, ", ")?;
-            say_number(rt, length as u64)
-        }
-        Reading::Count(n) => {
-            say_number(rt, n as u64)?;
-            say(rt, " SRLG")
+impl fmt::Display for Told {
+    fn fmt<W: fmt::Write>(&self, f: &mut fmt::Formatter<W>) -> fmt::Result {
+        match self.0 {
+            Ok(None) => f.write_str("absent"),
+            Ok(Some(reading)) => write!(f, "{reading}"),
+            Err(refusal) => write!(f, "{refusal}"),
         }
     }
 }
 
-fn say_answer(rt: &impl Print, answer: Answer) -> io::Result<()> {
-    match answer {
-        Answer::Absent => say(rt, "absent"),
-        Answer::Found(reading) => say_reading(rt, reading),
-        Answer::Refused(x) => say_refusal(rt, x),
+// Bytes in hexadecimal digits.
+struct Hex<'a>(&'a [u8]);
+
+impl<'a> fmt::Display for Hex<'a> {
+    fn fmt<W: fmt::Write>(&self, f: &mut fmt::Formatter<W>) -> fmt::Result {
+        for byte in self.0 {
+            write!(f, "{byte:02x}")?;
+        }
+        Ok(())
     }
 }
 
@@ -78,40 +40,14 @@ fn ask_link(
     whom: Subject,
 ) -> io::Result<()> {
     let mut list = [0u32; 4];
-    say(rt, label)?;
-    say(rt, ": metric ")?;
-    say_answer(rt, isis_link::ask(a, b, c, whom, 1092, &mut list))?;
-    say(rt, "; SRLGs ")?;
-    say_answer(rt, isis_link::ask(a, b, c, whom, 1096, &mut list))?;
-    say(rt, ", first ")?;
-    say_number(rt, wide(list[0]))?;
-    say(rt, "\n")
+    let metric = Told(isis_link::ask(a, b, c, whom, 1092, &mut list));
+    let srlgs = Told(isis_link::ask(a, b, c, whom, 1096, &mut list));
+    println!(rt; "{label}: metric {metric}; SRLGs {srlgs}, first {}", list[0])
 }
 
 // The first n bytes of a buffer.
 fn front(out: &[u8], n: usize) -> &[u8] {
-    if n <= out.len() {
-        return &out[0..n];
-    }
-    out
-}
-
-fn say_byte(rt: &impl Print, byte: u8) -> io::Result<()> {
-    print!(rt; "{byte:02x}")
-}
-
-fn say_hex(rt: &impl Print, bytes: &[u8]) -> io::Result<()> {
-    for byte in bytes {
-        say_byte(rt, *byte)?;
-    }
-    Ok(())
-}
-
-// All of a buffer, on a line.
-fn say_room(rt: &impl Print, room: &[u8]) -> io::Result<()> {
-    say(rt, "the room: ")?;
-    say_hex(rt, room)?;
-    say(rt, "\n")
+    out.get(..n).unwrap_or(out)
 }
 
 // The export of a link into the lent buffer, on a line: its length and its bytes.
@@ -123,17 +59,10 @@ fn export_link(
     c: &[u8],
     out: &mut [u8],
 ) -> io::Result<()> {
-    say(rt, label)?;
-    say(rt, ", export: ")?;
     match isis_export::export(a, b, c, out) {
-        Written::Bytes(n) => {
-            say_number(rt, n as u64)?;
-            say(rt, " bytes ")?;
-            say_hex(rt, front(out, n))?;
-        }
-        Written::Refused(x) => say_refusal(rt, x)?,
+        Ok(n) => println!(rt; "{label}, export: {n} bytes {}", Hex(front(out, n))),
+        Err(refusal) => println!(rt; "{label}, export: {refusal}"),
     }
-    say(rt, "\n")
 }
 
 fn export_whole(rt: &impl Print, label: &str, a: &[u8], b: &[u8], c: &[u8]) -> io::Result<()> {
@@ -143,47 +72,32 @@ fn export_whole(rt: &impl Print, label: &str, a: &[u8], b: &[u8], c: &[u8]) -> i
 
 fn ask_run(rt: &impl Print, label: &str, r: &[u8], whom: Subject) -> io::Result<()> {
     let mut list = [0u32; 4];
-    say(rt, label)?;
-    say(rt, ": metric ")?;
-    say_answer(rt, bgpls_reader::ask(r, whom, 1092, &mut list))?;
-    say(rt, "\n")
+    let metric = Told(bgpls_reader::ask(r, whom, 1092, &mut list));
+    println!(rt; "{label}: metric {metric}")
 }
 
-fn say_named(rt: &impl Print, label: &str, named: Named) -> io::Result<()> {
-    say(rt, label)?;
+fn say_named(rt: &impl Print, label: &str, named: Result<Named, Refusal>) -> io::Result<()> {
     match named {
-        Named::Listed { standard, user } => {
-            say(rt, ": standard ")?;
-            say_number(rt, standard)?;
-            say(rt, ", user ")?;
-            say_number(rt, user)?;
-        }
-        Named::Refused(x) => {
-            say(rt, ": ")?;
-            say_refusal(rt, x)?;
-        }
+        Ok(Named { standard, user }) => println!(rt; "{label}: standard {standard}, user {user}"),
+        Err(refusal) => println!(rt; "{label}: {refusal}"),
     }
-    say(rt, "\n")
-}
-
-fn say_metric(rt: &impl Print, a: &[u8], whom: Subject) -> io::Result<()> {
-    let mut list = [0u32; 0];
-    say(rt, " ")?;
-    say_answer(rt, isis_link::ask(a, b"", b"", whom, 1092, &mut list))?;
-    say(rt, ";")
 }
 
 // A case of the starred table: the TE metric of RSVP-TE, SR Policy, LFA, standard 6, user 0 and user 5, and the export.
 fn starred(rt: &impl Print, label: &str, a: &[u8]) -> io::Result<()> {
-    say(rt, label)?;
-    say(rt, ":")?;
-    say_metric(rt, a, Subject::Standard(0))?;
-    say_metric(rt, a, Subject::Standard(1))?;
-    say_metric(rt, a, Subject::Standard(2))?;
-    say_metric(rt, a, Subject::Standard(6))?;
-    say_metric(rt, a, Subject::User(0))?;
-    say_metric(rt, a, Subject::User(5))?;
-    say(rt, "\n")?;
+    let subjects = [
+        Subject::Standard(0),
+        Subject::Standard(1),
+        Subject::Standard(2),
+        Subject::Standard(6),
+        Subject::User(0),
+        Subject::User(5),
+    ];
+    print!(rt; "{label}:")?;
+    for whom in subjects {
+        print!(rt; " {};", Told(isis_link::ask(a, b"", b"", whom, 1092, &mut [])))?;
+    }
+    println!(rt)?;
     export_whole(rt, label, a, b"", b"")
 }
 
@@ -244,28 +158,19 @@ fn starred_unread(rt: &impl Print) -> io::Result<()> {
     starred(rt, "a metric cut short", b"\x12\x03\x00\x00")
 }
 
-fn in_just(rt: &impl Print, a: &[u8]) -> io::Result<()> {
-    let mut room = [0xAAu8; 44];
-    export_link(rt, "M S G in 44", a, b"", b"", &mut room)
-}
-
-fn in_more(rt: &impl Print, a: &[u8]) -> io::Result<()> {
-    let mut room = [0xAAu8; 45];
-    export_link(rt, "M S G in 45", a, b"", b"", &mut room)?;
-    say_room(rt, &room)
-}
-
-fn in_less(rt: &impl Print, a: &[u8]) -> io::Result<()> {
-    let mut room = [0xAAu8; 43];
-    export_link(rt, "M S G in 43", a, b"", b"", &mut room)?;
-    say_room(rt, &room)
+// M S G in a room of N bytes, and how the room looks then.
+fn in_room<const N: usize>(rt: &impl Print, label: &str, a: &[u8]) -> io::Result<()> {
+    let mut room = [0xAAu8; N];
+    export_link(rt, label, a, b"", b"", &mut room)?;
+    println!(rt; "the room: {}", Hex(&room))
 }
 
 // M S G in a room of just its length, in one of a byte more, whose last stays as it was, and in one of a byte less, which stays whole.
 fn rooms(rt: &impl Print, a: &[u8]) -> io::Result<()> {
-    in_just(rt, a)?;
-    in_more(rt, a)?;
-    in_less(rt, a)
+    let mut just = [0xAAu8; 44];
+    export_link(rt, "M S G in 44", a, b"", b"", &mut just)?;
+    in_room::<45>(rt, "M S G in 45", a)?;
+    in_room::<43>(rt, "M S G in 43", a)
 }
 
 fn sides(rt: &impl Print, a: &[u8], b: &[u8], c: &[u8]) -> io::Result<()> {
@@ -277,14 +182,10 @@ fn sides(rt: &impl Print, a: &[u8], b: &[u8], c: &[u8]) -> io::Result<()> {
     export_whole(rt, "sides", a, b, c)
 }
 
-fn longest(rt: &impl Print) -> io::Result<()> {
-    let run = [0u8; 2048];
-    ask_link(rt, "2,048 bytes", &run, b"", b"", Subject::General)
-}
-
-fn too_long(rt: &impl Print) -> io::Result<()> {
-    let run = [0u8; 2049];
-    ask_link(rt, "2,049 bytes", &run, b"", b"", Subject::General)
+// A run A of N bytes, all 0.
+fn zeros<const N: usize>(rt: &impl Print, label: &str) -> io::Result<()> {
+    let run = [0u8; N];
+    ask_link(rt, label, &run, b"", b"", Subject::General)
 }
 
 fn illustration(rt: &impl Print, a: &[u8], b: &[u8], c: &[u8]) -> io::Result<()> {
@@ -333,8 +234,8 @@ fn main(rt: HostRuntime) -> io::Result<()> {
         b"",
     )?;
     // Run A of the greatest size, and one byte more.
-    longest(&rt)?;
-    too_long(&rt)?;
+    zeros::<2048>(&rt, "2,048 bytes")?;
+    zeros::<2049>(&rt, "2,049 bytes")?;
     // RFC 9294 section 4.1: an ASLA for S, F and X; general SRLGs; SRLGs for X.
     illustration(
         &rt,
@@ -342,12 +243,12 @@ fn main(rt: HostRuntime) -> io::Result<()> {
         b"\xee\x18\x00\x00\x00\x00\x00\x00\x00\x00\x00\x0a\x04\x08\x00\x00\x00\x01\x00\x00\x00\x02\x00\x00\x00\x05\xee\x19\x00\x00\x00\x00\x00\x00\x00\x01\x00\x10\x0a\x04\x08\x00\x00\x00\x01\x00\x00\x00\x02\x00\x00\x00\x06",
         b"",
     )?;
-    // The export of M S G, as document 01 gives it, read back; and the same cut short.
+    // The export of M S G read back; and the same cut short.
     read_back(
         &rt,
         b"\x04\x44\x00\x04\x00\x00\x00\x0a\x04\x62\x00\x0c\x00\x00\x00\x00\x04\x44\x00\x04\x00\x00\x00\x1e\x04\x62\x00\x10\x04\x00\x00\x00\x40\x00\x00\x00\x04\x44\x00\x04\x00\x00\x00\x14",
     )?;
-    // User bits 32 to 63 are retired (document 02, E12): an ASLA for user 32 alone before G; masks of 8 bytes in A and in a run, and one of 6 in B.
+    // User bits 32 to 63 are retired (E12): an ASLA for user 32 alone before G; masks of 8 bytes in A and in a run, and one of 6 in B.
     retired(
         &rt,
         b"\x10\x0c\x00\x05\x00\x00\x00\x00\x80\x12\x03\x00\x00\x14\x10\x07\x00\x00\x12\x03\x00\x00\x1e",

@@ -9,20 +9,20 @@ use lib.ListN.{length}
 use mathlib.Core.Path.{sym, ap, ◌∙◌, subst}
 use Rattle.statuses.proofs.standing_words.Goals as goal
 
-pub bits_words-requires : goal.bits_words-requires
-bits_words-requires c = let a = c.args in
+pub of_bits-requires : goal.of_bits-requires
+of_bits-requires c = let a = c.args in
     let e = sym c.form_of-form.ensures ∙ ap told_form c.in-Float.is in
-    ap length (part-is a.s.now a.place a.len) ∙ length-bytes_at a.s.now a.place a.len c.requires.0 ∙ subst (λ (f : Form). Readable f a.len) e c.requires.1
+    ap length (part-is a.s.now a.span.place a.span.len) ∙ length-bytes_at a.s.now a.span.place a.span.len c.requires.0 ∙ subst (λ (f : Form). Readable f a.span.len) e c.requires.1
 
 pub returns-in-Float : goal.returns-in-Float
 returns-in-Float c = let a = c.args in
-    c.bits_words.ensures ∙ float-words a.s.now (told_spot a.run) a.place a.len _
+    c.of_bits.ensures ∙ float-words a.s.now (told_spot a.run) a.span.place a.span.len _
     (sym c.form_of-form.ensures ∙ ap told_form c.in-Float.is)
 
 pub read_value-requires : goal.read_value-requires
-read_value-requires c = (c.requires.0, subst (λ (f : Form). Readable f c.args.len) (sym c.form_of-form.ensures) c.requires.1)
+read_value-requires c = (c.requires.0, subst (λ (f : Form). Readable f c.args.span.len) (sym c.form_of-form.ensures) c.requires.1)
 
 pub returns : goal.returns
 returns c = let a = c.args in
-    other-words a.s.now (told_spot a.run) a.place a.len c.form_of-form.result c.in_default.not-Float _
-    c.form_of-form.ensures _ c.read_value.ensures _ c.reading_words.ensures
+    other-words a.s.now (told_spot a.run) a.span.place a.span.len c.form_of-form.result c.in_default.not-Float _
+    c.form_of-form.ensures _ c.read_value.ensures _ c.from.ensures
