@@ -1,5 +1,5 @@
 -- What one turn of a walk over a run does: to the 1122s of a set that are left, to the attributes, and to what is found.
-use mathlib.Core.Path.{◌≡◌, refl, sym, ap, ap₂, ◌∙◌, subst}
+use mathlib.Core.Path.{◌≡◌, refl, sym, ap, ap₂, ◌∙◌}
 use mathlib.Core.Bool.{Bool, true, false, cond, ◌&&◌, not, and-false}
 use mathlib.Core.List.{List, [], ◌∷◌, ◌++◌}
 use Prim.Native.Nat.{ℕ, ◌+◌, ◌-◌, ◌/◌, ◌≤◌, ◌<◌}
@@ -10,27 +10,25 @@ use lib.Dec.{eqb, ltb, leb}
 use lib.ListN.{length, take, drop, length-take, length-drop}
 use lib.Seq.{length-take-le}
 use Rattle.linkstate.specs.Lists.{keep, each}
-use Rattle.linkstate.specs.Bytes.{number, bytes_at}
+use Rattle.linkstate.specs.Bytes.{bytes_at}
 use Rattle.linkstate.specs.Masks.{bit, in_masks}
-use Rattle.linkstate.specs.Replies.{Verdict, accepted, fault, run_bgp_ls, ◌then◌}
-use Rattle.linkstate.specs.Elements.{Element, element, cut, length_of, elements, faults, faults_once}
-use Rattle.linkstate.specs.Attributes.{Attribute, attribute, of_kind}
+use Rattle.linkstate.specs.Replies.{accepted, fault, run_bgp_ls}
+use Rattle.linkstate.specs.Elements.{Element, element, elements, faults, faults_once}
+use Rattle.linkstate.specs.Attributes.{attribute, of_kind}
 use Rattle.linkstate.specs.Sides.{Advertisement}
-use Rattle.linkstate.specs.BgpLs.{sabm_length, udabm_length, asla_header, not_ignored, check_asla, check_top, attributes_of, advertisement, advertisements_of, inner_elements}
-use Rattle.linkstate.proofs.WalkLaws.{left, left_end, left-whole, type-two, length_two, faults-whole, faults-passed, then-first, then-second, not-accepted}
-use Rattle.octets.proofs.Laws.{length-bytes_at, part-is}
+use Rattle.linkstate.specs.BgpLs.{sabm_length, udabm_length, is_mask_length, asla_header, not_ignored, check_asla, check_top, attributes_of, advertisement, advertisements_of, inner_elements}
+use Rattle.linkstate.proofs.WalkLaws.{left, left_end, left-whole, then-first, then-second, not-accepted}
+use Rattle.octets.proofs.Laws.{length-bytes_at}
 use Rattle.masks.proofs.Laws.{bit-beyond}
 use Rattle.frames.proofs.Laws.{IsWhole}
-use Rattle.bgpls_check.proofs.Laws.{top-asla}
 use Rattle.rivals.proofs.RunLaws.{asla-checked}
 use Rattle.linkstate.proofs.ListLaws.{and_l, and_r}
 use Rattle.bgpls_find.specs.declared.Set.{Set}
 use Rattle.bgpls_find.specs.declared.Set.TheVariants.{Top, Every, General, Naming}
-use Rattle.octets.specs.declared.Span.{Span}
-use Rattle.std.specs.Prelude.{Option, Some, None}
+use Rattle.std.specs.Prelude.{Some, None}
 use Rattle.bgpls_find.specs.Sets.{chosen_by, ends_before, chosen}
 use Rattle.octets.specs.Spans.{found_in}
-use Rattle.bgpls_find.specs.Walks.{rest, Passes, any_element, aslas_from, standard_mask, user_mask, Sound, IsAsla}
+use Rattle.bgpls_find.specs.Walks.{rest, Passes, aslas_from, standard_mask, user_mask, Sound, IsAsla}
 
 -- ---- the elements that are left
 
@@ -51,39 +49,15 @@ module _ (r : List ℕ) (at : ℕ) where
       (ap₂ (λ (i k : ℕ). element i k (bytes_at r (at + 4) n)) z f.type)
       (ap (λ (i : ℕ). elements 2 i (drop (at + 4 + n) r)) y)
 
--- Where no element is refused, the one that begins is whole: its type and its length are what the code reads there.
-module _ (check : ℕ → ℕ → List ℕ → Verdict) (base : ℕ) (s : List ℕ) (at : ℕ) (h : at < length s)
-    (p : faults run_bgp_ls check (left 2 base s at) ≡ accepted) where
-  fits_in : at + 4 + length_of 2 (drop at s) ≤ length s
-  fits_in = faults-whole run_bgp_ls check 2 (omega arith) base s at h p
-
-  pub head-fits : at + 4 ≤ length s
-  head-fits = omega (arith, fits_in)
-
-  pub whole_here : (t n : ℕ) → t ≡ number (bytes_at s at 2) → n ≡ number (bytes_at s (at + 2) 2) → IsWhole 2 s at t n
-  whole_here t n d e =
-      let z = length_two s at ∙ sym e in
-      record { type = type-two s at ∙ sym d; size = z; within = omega (arith, fits_in, z) }
-
-  -- and the others are not refused
-  pub others-pass : (t n : ℕ) → IsWhole 2 s at t n → faults run_bgp_ls check (left 2 base s (at + 4 + n)) ≡ accepted
-  others-pass t n f = (faults-passed run_bgp_ls check 2 (omega arith) base s at n f.size h p).2
-
-pub left-passes : (r : List ℕ) (at : ℕ) → Passes r at → faults run_bgp_ls check_top (left 2 0 r at) ≡ accepted
-left-passes r at p = ap (faults run_bgp_ls check_top) (rest-left r at) ∙ p
-
--- What passes any check is not cut off.
-pub uncut : (check : ℕ → ℕ → List ℕ → Verdict) (es : List Element) → faults run_bgp_ls check es ≡ accepted → faults run_bgp_ls any_element es ≡ accepted
-unfolding faults any_element ◌then◌
-uncut check [] h = refl
-uncut check (cut at ∷ es) h = h
-uncut check (element at t v ∷ es) h = uncut check es (then-second (check at t v) (faults run_bgp_ls check es) h)
-
 pub passes-end : (r : List ℕ) (at : ℕ) → length r ≤ at → Passes r at
 unfolding faults
 passes-end r at h = ap (faults run_bgp_ls check_top) (rest_end r at h)
 
 -- ---- a 1122 that passed
+
+top-asla : (at t : ℕ) (v : List ℕ) → t ≡ 1122 → check_asla at v ≡ check_top at t v
+unfolding check_top
+top-asla at t v e = rw (eq-eqb t 1122 e)
 
 pub sound : (at t : ℕ) (v : List ℕ) → check_top at t v ≡ accepted → t ≡ 1122 → Sound v
 unfolding check_asla
@@ -104,6 +78,14 @@ sound at t v h e = record { fixed = go (ltb (length v) 4) refl checked; masks = 
 -- ---- the masks of a 1122 that has room for them
 
 module _ (v : List ℕ) (s u : ℕ) (e : s ≡ sabm_length v) (f : u ≡ udabm_length v) where
+  pub header-live : is_mask_length s && is_mask_length u ≡ not_ignored v
+  unfolding not_ignored
+  header-live = ap₂ (λ (x y : ℕ). is_mask_length x && is_mask_length y) e f
+
+  pub header-size : 4 + s + u ≡ asla_header v
+  unfolding asla_header
+  header-size = ap₂ (λ (x y : ℕ). 4 + x + y) e f
+
   -- They are the code's parts.
   pub standard-part : take (4 + s - 4) (drop 4 v) ≡ standard_mask v
   unfolding standard_mask
@@ -195,10 +177,6 @@ module _ (set : Set) (r : List ℕ) (at : ℕ) where
         go true = refl
         go false = refl
 
-    -- What the code asks of the slice from at + 4 to at + 4 + n.
-    pub part-taken : (b : Bool) → b ≡ taken (take (at + 4 + n - (at + 4)) (drop (at + 4) r)) → taken value ≡ b
-    part-taken b e = ap taken (sym (part-is r (at + 4) n)) ∙ sym e
-
     pub aslas-passed : taken value ≡ false → aslas_from set r (at + 4 + n) ≡ aslas_from set r at
     aslas-passed e = sym (aslas-turn ∙ rw e)
 
@@ -212,9 +190,6 @@ module _ (set : Set) (r : List ℕ) (at : ℕ) where
       unfolding faults
       rest-passes = then-second (check_top at t value) (faults run_bgp_ls check_top (rest r (at + 4 + n)))
           (sym (ap (faults run_bgp_ls check_top) (rest-whole r at t n f)) ∙ p)
-
-      pub part_sound : t ≡ 1122 → Sound (take (at + 4 + n - (at + 4)) (drop (at + 4) r))
-      part_sound e = subst Sound (sym (part-is r (at + 4) n)) (sound at t value element-passes e)
 
       -- the next 1122 of the set
       pub is-asla : (from : ℕ) → from ≤ at → aslas_from set r at ≡ aslas_from set r from → taken value ≡ true → IsAsla set r from at n
@@ -237,43 +212,17 @@ module _ (set : Set) (r : List ℕ) (at : ℕ) where
             left = sym e ∙ aslas-turn ∙ rw k;
           }
 
--- ---- the attributes of a list of elements, whose first byte is at an offset of the run
-
-module _ (base : ℕ) (s : List ℕ) (at : ℕ) where
-  abbrev pub attributes_left : List Attribute
-  attributes_left = each attributes_of (left 2 base s at)
-
-  pub attributes-end : length s ≤ at → attributes_left ≡ []
-  unfolding each
-  attributes-end h = ap (each attributes_of) (left_end 2 (omega arith) base s at h)
-
-  pub attributes-turn : (t n : ℕ) → IsWhole 2 s at t n
-      → attributes_left ≡ attribute 2 (base + at) (bytes_at s (at + 4) n) t (bytes_at s (at + 4) n) ∷ each attributes_of (left 2 base s (at + 4 + n))
-  unfolding each attributes_of
-  attributes-turn t n f =
-      ap (each attributes_of) (left-whole 2 (omega arith) base s at n f.size f.within)
-      ∙ ap (λ (k : ℕ). attribute 2 (base + at) (bytes_at s (at + 4) n) k (bytes_at s (at + 4) n) ∷ each attributes_of (left 2 base s (at + 4 + n))) f.type
-
 -- ---- the first of a kind
 
-module _ (base : ℕ) (s : List ℕ) (at k : ℕ) where
-  abbrev found : ℕ → Option Span
-  found i = found_in (of_kind k (attributes_left base s i))
+module _ {es rest : List Element} {o t : ℕ} {v : List ℕ} (e : es ≡ element o t v ∷ rest) (k : ℕ) where
+  pub first-here : t ≡ k → Some (record { place = o + 4; len = length v }) ≡ found_in (of_kind k (each attributes_of es))
+  unfolding found_in of_kind keep attribute each attributes_of
+  first-here i = rw (e, eq-eqb k t (sym i)) refl
 
-  pub first-end : length s ≤ at → None ≡ found at
-  unfolding found_in of_kind keep
-  first-end h = sym (ap (λ (ts : List Attribute). found_in (of_kind k ts)) (attributes-end base s at h))
+  pub first-later : (t ≡ k → ⊥) → found_in (of_kind k (each attributes_of rest)) ≡ found_in (of_kind k (each attributes_of es))
+  unfolding of_kind keep attribute each attributes_of
+  first-later h = rw (e, ne_eqb k t (λ i. h (sym i))) refl
 
-  module _ (t n : ℕ) (f : IsWhole 2 s at t n) where
-    turn : found at ≡ found_in (of_kind k (attribute 2 (base + at) (bytes_at s (at + 4) n) t (bytes_at s (at + 4) n) ∷ attributes_left base s (at + 4 + n)))
-    turn = ap (λ (ts : List Attribute). found_in (of_kind k ts)) (attributes-turn base s at t n f)
-
-    pub first-here : t ≡ k → Some (record { place = base + (at + 4); len = n }) ≡ found at
-    unfolding found_in of_kind keep attribute
-    first-here e =
-        let z : base + (at + 4) ≡ base + at + 4 = omega arith in
-        sym (turn ∙ rw (eq-eqb k t (sym e)) (ap₂ (λ (p l : ℕ). Some (record { place = p; len = l })) (sym z) (length-bytes_at s (at + 4) n f.within)))
-
-    pub first-later : (t ≡ k → ⊥) → found (at + 4 + n) ≡ found at
-    unfolding of_kind keep attribute
-    first-later h = sym (turn ∙ rw (ne_eqb k t (λ e. h (sym e))))
+pub first-end : {es : List Element} (k : ℕ) → es ≡ [] → None ≡ found_in (of_kind k (each attributes_of es))
+unfolding found_in of_kind keep each
+first-end k e = rw e refl

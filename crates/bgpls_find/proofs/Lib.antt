@@ -1,3 +1,4 @@
 pub mod SrlgLaws
 pub mod Laws
 pub mod SetLaws
+pub mod Turns

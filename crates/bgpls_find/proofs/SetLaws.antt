@@ -23,8 +23,10 @@ use Rattle.rivals.proofs.RunLaws.{no-L, named_set}
 use Rattle.bgpls_find.specs.declared.Set.{Set}
 use Rattle.bgpls_find.specs.declared.Set.TheVariants.{Top, Every, General, Naming}
 use Rattle.bgpls_find.specs.Sets.{is_top, chosen_by, chosen, attributes_in}
-use Rattle.bgpls_find.specs.Walks.{Passes, any_element, aslas_from, attributes_from, bytes_up_to, IsAsla, IsPart, AtList, Starts}
-use Rattle.bgpls_find.proofs.Laws.{rest_end, passes-end, aslas-end, uncut}
+use Rattle.bgpls_find.specs.Walks.{Passes, aslas_from, attributes_from, bytes_up_to, IsAsla, IsPart, AtList, Starts}
+use Rattle.bgpls_find.proofs.Laws.{rest_end, passes-end, aslas-end}
+use Rattle.frames.specs.Uncut.{uncut as is_uncut}
+use Rattle.frames.proofs.Walks.{uncut}
 
 -- ---- a run that passed
 
@@ -90,8 +92,8 @@ module _ (set : Set) (r : List ℕ) (from : ℕ) where
           start = omega arith;
           order = omega arith;
           within = w;
-          uncut = ap₂ (λ (i : ℕ) (l : List ℕ). faults run_bgp_ls any_element (elements 2 i l)) e l
-              ∙ uncut check_inner (elements 2 (at + 4 + h) (drop h v)) a.inner;
+          uncut = ap₂ (λ (i : ℕ) (l : List ℕ). is_uncut (elements 2 i l)) e l
+              ∙ uncut run_bgp_ls check_inner (elements 2 (at + 4 + h) (drop h v)) a.inner;
           passes = a.passes;
           some = rw a.left;
           left =
@@ -116,7 +118,7 @@ starts-top r ok =
           record {
             order = omega arith;
             within = omega arith;
-            uncut = ap (λ (l : List ℕ). faults run_bgp_ls any_element (elements 2 0 l)) whole ∙ uncut check_top (elements 2 0 r) (run-passes r ok);
+            uncut = ap (λ (l : List ℕ). is_uncut (elements 2 0 l)) whole ∙ uncut run_bgp_ls check_top (elements 2 0 r) (run-passes r ok);
             passes = passes-end r (length r) (omega arith);
             top = λ e. omega arith;
           };
@@ -146,7 +148,7 @@ module _ (set : Set) (r : List ℕ) (inside : is_top set ≡ false) where
             record {
               order = omega arith;
               within = omega arith;
-              uncut = ap (faults run_bgp_ls any_element) nowhere;
+              uncut = ap is_uncut nowhere;
               passes = passes-end r (length r) (omega arith);
               top = λ e. not-true e (length r);
             };

@@ -2,24 +2,23 @@
 use mathlib.Core.Path.{◌≡◌, refl, sym, ap, ◌∙◌, subst}
 use mathlib.Core.Bool.{Bool, true, false, cond}
 use mathlib.Core.List.{List, [], ◌∷◌, ◌++◌, map}
-use Prim.Native.Nat.{ℕ, ◌+◌, ◌-◌, ◌≤◌, ◌<◌}
+use Prim.Native.Nat.{ℕ, ◌+◌, ◌*◌, ◌≤◌, ◌<◌}
 use native.Mathlib.Omega.{arith}
 use borrow.Author.Tests.{eq-eqb, ne_eqb, ltb-true, ltb-false}
 use lib.Dec.{eqb, ltb}
-use lib.ListN.{length, take, drop, length-append}
+use lib.ListN.{length, take, drop, length-append, length-drop}
 use Rattle.linkstate.specs.Lists.{keep, each, put}
-use Rattle.linkstate.specs.Bytes.{words, bytes_at}
-use Rattle.linkstate.specs.Elements.{Element, element, cut, elements}
+use Rattle.linkstate.specs.Bytes.{words}
+use Rattle.linkstate.specs.Elements.{Element, element, cut, type_of, length_of, size_of, elements}
 use Rattle.linkstate.specs.Attributes.{Attribute, attribute, of_kind}
 use Rattle.linkstate.specs.BgpLs.{attributes_of}
-use Rattle.linkstate.proofs.ElementLaws.{moved, elements-moved}
-use Rattle.linkstate.proofs.WalkLaws.{left}
-use Rattle.octets.proofs.Laws.{part-is, put-nil, put_then, length-put}
+use Rattle.linkstate.proofs.ElementLaws.{moved, elements-moved, Framed, done, short, step, framed, value-length}
+use Rattle.octets.proofs.Laws.{put-nil, put_then, length-put}
 use Rattle.linkstate.proofs.ListLaws.{keep_append, each_append}
-use Rattle.frames.proofs.Laws.{IsWhole}
+use Rattle.frames.specs.Uncut.{uncut}
+use Rattle.srlg.proofs.Laws.{length-words}
 use Rattle.bgpls_find.specs.declared.Set.{Set}
-use Rattle.bgpls_find.specs.Walks.{attributes_from, bytes_up_to, list_at}
-use Rattle.bgpls_find.proofs.Laws.{attributes-end, attributes-turn}
+use Rattle.bgpls_find.specs.Walks.{Uncut, attributes_from, bytes_up_to, list_at}
 use Rattle.bgpls_find.proofs.SetLaws as Set
 use Rattle.bgpls_find.specs.Words.{srlg_words, list_words, element_words}
 
@@ -69,24 +68,54 @@ list-words base s =
 
 -- ---- what is left of a list
 
-module _ (s : List ℕ) (at : ℕ) where
-  abbrev pub words_left : List ℕ
-  words_left = srlg_words (each attributes_of (left 2 0 s at))
+abbrev pub words_left : List Element → List ℕ
+words_left es = srlg_words (each attributes_of es)
 
-  pub words-end : length s ≤ at → words_left ≡ []
-  unfolding srlg_words of_kind keep each
-  words-end h = ap srlg_words (attributes-end 0 s at h)
+pub words-end : {es : List Element} → es ≡ [] → words_left es ≡ []
+unfolding srlg_words of_kind keep each
+words-end e = ap words_left e
 
-  -- the element there has the code's slice as its value
-  pub words-turn : (t n : ℕ) → IsWhole 2 s at t n
-      → words_left ≡ element_words t (take (at + 4 + n - (at + 4)) (drop (at + 4) s)) ++ srlg_words (each attributes_of (left 2 0 s (at + 4 + n)))
-  words-turn t n f =
-      ap srlg_words (attributes-turn 0 s at t n f)
-      ∙ srlg-cons (0 + at) t (bytes_at s (at + 4) n) (each attributes_of (left 2 0 s (at + 4 + n)))
-      ∙ ap (λ (v : List ℕ). element_words t v ++ srlg_words (each attributes_of (left 2 0 s (at + 4 + n)))) (sym (part-is s (at + 4) n))
+pub words-turn : {es rest : List Element} {o t : ℕ} {v : List ℕ} → es ≡ element o t v ∷ rest → words_left es ≡ element_words t v ++ words_left rest
+unfolding each attributes_of
+words-turn {rest = rest} {o} {t} {v} e = ap words_left e ∙ srlg-cons o t v (each attributes_of rest)
 
-pub words-start : (s : List ℕ) → words_left s 0 ≡ list_words s
-words-start s = list-words (0 + 0) s
+pub words-start : (s : List ℕ) → words_left (elements 2 0 s) ≡ list_words s
+words-start s = list-words 0 s
+
+-- Four bytes make a number, so a list has no more than that.
+length-element : (t : ℕ) (v : List ℕ) → length (element_words t v) * 4 ≤ length v
+unfolding element_words
+length-element t v = go (eqb 1096 t)
+  where
+    go : (b : Bool) → length (cond b (words v) []) * 4 ≤ length v
+    go true = omega (arith, length-words v)
+    go false = omega arith
+
+framed-words : {at : ℕ} {s : List ℕ} {es : List Element} → Framed 2 at s es → length (words_left es) * 4 ≤ length s
+unfolding size_of srlg_words of_kind keep each attributes_of
+framed-words done = omega arith
+framed-words (short h) = omega arith
+framed-words {at} {s} (step {es = es} h f) =
+    let t = type_of 2 s in
+    let v = take (length_of 2 s) (drop 4 s) in
+    let e : words_left (element at t v ∷ es) ≡ element_words t v ++ words_left es = words-turn {es = element at t v ∷ es} {rest = es} refl in
+    omega (arith, ap length e, length-append (element_words t v) (words_left es), length-element t v, value-length 2 s h, framed-words f, length-drop (size_of 2 s) s)
+
+pub few-words : (s : List ℕ) → length (list_words s) * 4 ≤ length s
+few-words s = omega (arith, ap length (words-start s), framed-words (framed 2 (omega arith) 0 s))
+
+-- ---- whether an element is cut off does not turn on where its list begins
+
+uncut-moved : (d : ℕ) (es : List Element) → uncut (map (moved d) es) ≡ uncut es
+unfolding moved
+uncut-moved d [] = refl
+uncut-moved d (cut at ∷ es) = refl
+uncut-moved d (element at t v ∷ es) = uncut-moved d es
+
+pub uncut_alone : (base : ℕ) (s : List ℕ) → Uncut base s → Uncut 0 s
+uncut_alone base s u =
+    let z : base ≡ base + 0 = omega arith in
+    sym (uncut-moved base (elements 2 0 s)) ∙ ap uncut (sym (elements-moved 2 base 0 s)) ∙ ap (λ (i : ℕ). uncut (elements 2 i s)) (sym z) ∙ u
 
 -- ---- what is left of a run
 

@@ -2,8 +2,9 @@
 use Rattle.std.specs.Prelude.{◌≡◌, true, false, cond, List, [], ◌∷◌, ◌++◌, ℕ, ◌+◌, ◌-◌, ◌≤◌, ◌<◌, length, take, drop, Option, Some, None}
 use Rattle.linkstate.specs.Lists.{keep, each, empty}
 use Rattle.linkstate.specs.Bytes.{bytes_at}
-use Rattle.linkstate.specs.Replies.{Verdict, accepted, run_bgp_ls}
+use Rattle.linkstate.specs.Replies.{accepted, run_bgp_ls}
 use Rattle.linkstate.specs.Elements.{Element, elements, faults}
+use Rattle.frames.specs.Uncut as frames
 use Rattle.linkstate.specs.Attributes.{Attribute}
 use Rattle.linkstate.specs.Sides.{Advertisement}
 use Rattle.linkstate.specs.BgpLs.{sabm_length, udabm_length, asla_header, not_ignored, inner_elements, check_inner, check_top, attributes_of, advertisements_of, advertisement}
@@ -19,11 +20,8 @@ abbrev pub Passes : List ℕ → ℕ → Type 0
 Passes r at = faults run_bgp_ls check_top (rest r at) ≡ accepted
 
 -- No element of a list, whose first byte is at an offset of the run, is cut off.
-unfoldable pub any_element : ℕ → ℕ → List ℕ → Verdict
-any_element at t v = accepted
-
 abbrev pub Uncut : ℕ → List ℕ → Type 0
-Uncut base s = faults run_bgp_ls any_element (elements 2 base s) ≡ accepted
+Uncut base s = frames.Uncut (elements 2 base s)
 
 -- The 1122s of a set that are left, and the attributes.
 unfoldable pub aslas_from : Set → List ℕ → ℕ → List Advertisement

@@ -15,8 +15,9 @@ ghost use Rattle.linkstate.specs.Attributes.{of_kind};
 ghost use Rattle.linkstate.specs.Sides.{general_set, application_set};
 
 use bgpls_check::{AslaHeader, not_ignored, read_asla_header};
+use frames::{Element, Two, Whole};
 use masks::names;
-use octets::{Span, read16};
+use octets::Span;
 
 // A set of attributes: the TLVs at the top of the run, or those inside its 1122s: all that are not ignored, the general ones, or those that name an application.
 #[derive(Clone, Copy)]
@@ -82,18 +83,14 @@ pub fn next_part(r: &[u8], from: usize, set: Set) -> Option<Part>
     requires { (from ≤ length r.now) × (is_top set ≡ false) × Passes r.now from }
     ensures { NextPart set r.now from result }
 {
-    let mut at = from;
-    while at < r.len() {
-        let code = read16(r, at);
-        let len = read16(r, at + 2);
-        let value = at + 4;
-        let next = value + len;
-        if is_chosen(&r[value..next], code, set) {
-            let h = read_asla_header(&r[value..next]);
-            let first = value + 4 + h.standard + h.user;
-            return Some(Part { first, next });
+    for Element { at, kind, value } in Whole::<Two>::behind(r, from) {
+        if is_chosen(value, kind, set) {
+            let h = read_asla_header(value);
+            return Some(Part {
+                first: at + 8 + h.standard + h.user,
+                next: at + 4 + value.len(),
+            });
         }
-        at = next;
     }
     None
 }
@@ -103,18 +100,13 @@ fn first_element(s: &[u8], base: usize, code: usize) -> Option<Span>
     requires { (base + length s.now ≤ 524288) × Uncut base s.now }
     ensures { result ≡ found_in (of_kind code (each attributes_of (elements 2 base s.now))) }
 {
-    let mut at = 0;
-    while at < s.len() {
-        let t = read16(s, at);
-        let len = read16(s, at + 2);
-        let value = at + 4;
-        if t == code {
+    for Element { at, kind, value } in Whole::<Two>::new(s, base) {
+        if kind == code {
             return Some(Span {
-                place: base + value,
-                len,
+                place: at + 4,
+                len: value.len(),
             });
         }
-        at = value + len;
     }
     None
 }
@@ -198,14 +190,8 @@ fn count_list(s: &[u8]) -> usize
     ensures { (result ≡ length (list_words s.now)) × (result * 4 ≤ length s.now) }
 {
     let mut n = 0;
-    let mut at = 0;
-    while at < s.len() {
-        let code = read16(s, at);
-        let len = read16(s, at + 2);
-        let value = at + 4;
-        let next = value + len;
-        n += count_element(&s[value..next], code);
-        at = next;
+    for e in Whole::<Two>::new(s, 0) {
+        n += count_element(e.value, e.kind);
     }
     n
 }
@@ -249,14 +235,8 @@ fn write_list(s: &[u8], out: &mut [u32], start: usize) -> usize
     ensures { (result ≡ start + length (list_words s.now)) × (out.new ≡ put out.old start (list_words s.now)) }
 {
     let mut k = start;
-    let mut at = 0;
-    while at < s.len() {
-        let code = read16(s, at);
-        let len = read16(s, at + 2);
-        let value = at + 4;
-        let next = value + len;
-        k = write_element(&s[value..next], code, out, k);
-        at = next;
+    for e in Whole::<Two>::new(s, 0) {
+        k = write_element(e.value, e.kind, out, k);
     }
     k
 }

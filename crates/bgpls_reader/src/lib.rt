@@ -20,8 +20,9 @@ ghost use Rattle.bgpls_reader.specs.Room.{Counted};
 
 use bgpls_check::read_asla_header;
 use bgpls_find::{Set, Start, is_chosen};
+use frames::{Two, Whole};
 use masks::Applications;
-use octets::{Span, read16};
+use octets::Span;
 use replies::{Named, Reading, Refusal, Run, Subject};
 
 // With the masks of a 1122.
@@ -39,17 +40,10 @@ fn all_masks(r: &[u8]) -> Applications
     ensures { (n : ℕ) → in_set result n ≡ any (names n) (aslas r.now) }
 {
     let mut m = masks::nobody();
-    let mut at = 0;
-    while at < r.len() {
-        let code = read16(r, at);
-        let len = read16(r, at + 2);
-        let value = at + 4;
-        let next = value + len;
-        if is_chosen(&r[value..next], code, Set::Every) {
-            let j = join_masks(&r[value..next], m);
-            m = j;
+    for e in Whole::<Two>::new(r, 0) {
+        if is_chosen(e.value, e.kind, Set::Every) {
+            m = join_masks(e.value, m);
         }
-        at = next;
     }
     m
 }

@@ -1,10 +1,9 @@
 -- `bgpls_find::is_chosen` meets its contract: not a 1122, a mask too short, ignored, or what the set says of its masks.
-use Rattle.bgpls_find.proofs.Laws.{Taken, not-asla, not_chosen, ends-unnamed, not_live, by-set, names-part, general-lengths}
+use Rattle.bgpls_find.proofs.Laws.{Taken, not-asla, not_chosen, ends-unnamed, not_live, by-set, names-part, general-lengths, header-live, header-size}
 use Rattle.bgpls_find.specs.Walks.{standard_mask, user_mask}
 use Rattle.bgpls_find.specs.Sets.{chosen_by}
 use Rattle.bgpls_find.specs.declared.Set.TheVariants.{Top, Every, General, Naming}
 use Rattle.bgpls_find.specs.declared.Set.{Set}
-use Rattle.bgpls_check.proofs.Laws.{header-live, header-size}
 use Rattle.bgpls_check.specs.declared.AslaHeader.{AslaHeader}
 use Rattle.linkstate.specs.BgpLs.{sabm_length, udabm_length, not_ignored}
 use lib.ListN.{length}
