@@ -7,21 +7,20 @@ use native.Mathlib.Omega.{arith}
 use native.Mathlib.Nat.{div-eq_of_lt}
 use borrow.Author.Tests.{le-ltb, eqb-true, ne_eqb}
 use lib.Dec.{eqb}
-use lib.ListN.{take, drop}
+use lib.ListN.{length, take, drop}
 use Rattle.linkstate.specs.Lists.{keep, each, any, member}
-use Rattle.linkstate.specs.Bytes.{bytes_at}
 use Rattle.linkstate.specs.Masks.{user, in_masks, as_number, in_number, others}
-use Rattle.linkstate.specs.Elements.{elements}
-use Rattle.linkstate.specs.Sides.{Advertisement, names, named}
-use Rattle.linkstate.specs.BgpLs.{sabm_length, udabm_length, is_mask_length, not_ignored, advertisement, advertisements_of, aslas, run_side, run_source}
-use Rattle.octets.proofs.Laws.{part-is}
+use Rattle.linkstate.specs.Elements.{Element, element, elements}
+use Rattle.linkstate.specs.Sides.{names, named}
+use Rattle.linkstate.specs.BgpLs.{sabm_length, udabm_length, is_mask_length, asla_header, not_ignored, advertisement, advertisements_of, aslas, run_side, run_source}
 use Rattle.masks.proofs.Laws.{is_number}
 use Rattle.linkstate.proofs.ListLaws.{and_l, and_r}
 use Rattle.rivals.proofs.KindLaws.{standard-other}
 use Rattle.linkstate.proofs.Retired.{none-retired, user-among}
 use Rattle.bgpls_find.specs.declared.Set.TheVariants.{Every}
-use Rattle.bgpls_find.specs.Sets.{chosen, chosen_by}
-use Rattle.bgpls_find.specs.Walks.{aslas_from, standard_mask, user_mask, IsAsla}
+use Rattle.bgpls_find.specs.Sets.{chosen_by}
+use Rattle.bgpls_find.proofs.Laws.{Taken}
+use Rattle.bgpls_find.specs.Walks.{standard_mask, user_mask, Sound}
 use Rattle.masks.specs.declared.Applications.{Applications}
 use Rattle.masks.specs.Applications.{in_set, at_place}
 use Rattle.masks.proofs.Sets.{place-low, place-high, set-none}
@@ -53,51 +52,58 @@ pub masks-read : (v : List ℕ) (s u : ℕ) (m j : Applications) → s ≡ sabm_
 unfolding standard_mask user_mask
 masks-read v s u m j e f h n = h n ∙ ap₂ (λ (x y : ℕ). in_set m n || in_masks (take x (drop 4 v)) (take y (drop (4 + x) v)) n) e f
 
--- ---- from a position on
+-- ---- with what is left
 
--- The set holds what is named before it: with what is named from it on, that is all.
-abbrev pub Held : Applications → List ℕ → ℕ → Type 0
-Held m r from = (n : ℕ) → in_set m n || any (names n) (aslas_from Every r from) ≡ any (names n) (aslas r)
+-- The set holds what is named by the elements before: with what those that are left name, that is all.
+abbrev pub Held : Applications → List ℕ → List Element → Type 0
+Held m r es = (n : ℕ) → in_set m n || any (names n) (each advertisements_of es) ≡ any (names n) (aslas r)
 
-keep-every : (ds : List Advertisement) → keep (chosen Every) ds ≡ ds
-unfolding keep chosen chosen_by
-keep-every [] = refl
-keep-every (d ∷ ds) = ap (λ (l : List Advertisement). d ∷ l) (keep-every ds)
+pub held_start : {es : List Element} (r : List ℕ) (m : Applications) → es ≡ elements 2 0 r → ((p : ℕ) → at_place m p ≡ false) → Held m r es
+unfolding aslas
+held_start r m e h n = rw (set-none m h n, e)
 
-every : (r : List ℕ) → aslas_from Every r 0 ≡ aslas r
-unfolding aslas_from aslas
-every r = keep-every (each advertisements_of (elements 2 0 r))
-
-pub held_start : (r : List ℕ) (m : Applications) → ((p : ℕ) → at_place m p ≡ false) → Held m r 0
-held_start r m e n = rw (set-none m e n, every r)
-
-pub held-end : (r : List ℕ) (m : Applications) (from : ℕ) → Held m r from → aslas_from Every r from ≡ [] → (n : ℕ) → in_set m n ≡ any (names n) (aslas r)
-unfolding any
-held-end r m from held e n = sym (or-false (in_set m n)) ∙ ap (λ (ds : List Advertisement). in_set m n || any (names n) ds) (sym e) ∙ held n
-
--- Past an element that is no such 1122.
-pub held-skip : (r : List ℕ) (m : Applications) (at next : ℕ) → Held m r at → aslas_from Every r next ≡ aslas_from Every r at → Held m r next
-held-skip r m at next held e n = ap (λ (ds : List Advertisement). in_set m n || any (names n) ds) e ∙ held n
+pub held-end : {es : List Element} (r : List ℕ) (m : Applications) → Held m r es → es ≡ [] → (n : ℕ) → in_set m n ≡ any (names n) (aslas r)
+unfolding any each
+held-end r m held e n = sym (or-false (in_set m n)) ∙ ap (λ (es : List Element). in_set m n || any (names n) (each advertisements_of es)) (sym e) ∙ held n
 
 -- A 1122's masks, by its value.
 masks-name : (at : ℕ) (v : List ℕ) (n : ℕ) → names n (advertisement at v) ≡ in_masks (standard_mask v) (user_mask v) n
 unfolding names advertisement standard_mask user_mask
 masks-name at v n = refl
 
-pub held_next : (r : List ℕ) (m j : Applications) (from at n : ℕ) → Held m r from → IsAsla Every r from at n
-    → ((k : ℕ) → in_set j k ≡ in_set m k || in_masks (standard_mask (take (at + 4 + n - (at + 4)) (drop (at + 4) r)))
-    (user_mask (take (at + 4 + n - (at + 4)) (drop (at + 4) r))) k)
-    → Held j r (at + 4 + n)
-unfolding any
-held_next r m j from at n held a both k =
-    let d = advertisement at (bytes_at r (at + 4) n) in
-    let is : in_masks (standard_mask (take (at + 4 + n - (at + 4)) (drop (at + 4) r)))
-    (user_mask (take (at + 4 + n - (at + 4)) (drop (at + 4) r))) k ≡ names k d =
-    ap (λ (v : List ℕ). in_masks (standard_mask v) (user_mask v) k) (part-is r (at + 4) n) ∙ sym (masks-name at (bytes_at r (at + 4) n) k) in
-    ap (λ (z : Bool). z || any (names k) (aslas_from Every r (at + 4 + n))) (both k ∙ ap (λ (z : Bool). in_set m k || z) is)
-    ∙ or_assoc (in_set m k) (names k d) (any (names k) (aslas_from Every r (at + 4 + n)))
-    ∙ ap (λ (ds : List Advertisement). in_set m k || any (names k) ds) (sym a.left)
-    ∙ held k
+every : (t : ℕ) (v : List ℕ) → Taken Every t v ≡ eqb t 1122 && not_ignored v
+unfolding chosen_by
+every t v = and-true (eqb t 1122 && not_ignored v)
+
+-- A 1122 that is not ignored has room for its masks.
+pub record Room (v : List ℕ) : Type 0 where
+  pub fixed : 4 ≤ length v
+  pub live : not_ignored v ≡ true
+  pub masks : asla_header v ≤ length v
+
+pub room : (t : ℕ) (v : List ℕ) → (t ≡ 1122 → Sound v) → Taken Every t v ≡ true → Room v
+room t v sound h =
+    let k = sym (every t v) ∙ h in
+    let s = sound (eqb-true t 1122 (and_l (eqb t 1122) (not_ignored v) k)) in
+    let l = and_r (eqb t 1122) (not_ignored v) k in
+    record { fixed = s.fixed; live = l; masks = s.masks l }
+
+-- At an element that is no 1122 which is not ignored, and at one that is.
+module _ {es rest : List Element} {o t : ℕ} {v : List ℕ} (r : List ℕ) (m : Applications) (held : Held m r es) (e : es ≡ element o t v ∷ rest) where
+  pub held-skip : Taken Every t v ≡ false → Held m r rest
+  unfolding each advertisements_of
+  held-skip h n =
+      let k : eqb t 1122 && not_ignored v ≡ false = sym (every t v) ∙ h in
+      sym (ap (λ (es : List Element). in_set m n || any (names n) (each advertisements_of es)) e ∙ rw k) ∙ held n
+
+  pub held_next : Taken Every t v ≡ true → (j : Applications) → ((n : ℕ) → in_set j n ≡ in_set m n || in_masks (standard_mask v) (user_mask v) n) → Held j r rest
+  unfolding each advertisements_of any
+  held_next h j both n =
+      let k : eqb t 1122 && not_ignored v ≡ true = sym (every t v) ∙ h in
+      ap (λ (z : Bool). z || any (names n) (each advertisements_of rest)) (both n ∙ ap (λ (z : Bool). in_set m n || z) (sym (masks-name o v n)))
+      ∙ or_assoc (in_set m n) (names n (advertisement o v)) (any (names n) (each advertisements_of rest))
+      ∙ sym (ap (λ (es : List Element). in_set m n || any (names n) (each advertisements_of es)) e ∙ rw k)
+      ∙ held n
 
 -- ---- all of them, RSVP-TE apart
 

@@ -27,7 +27,7 @@ use replies::{Named, Reading, Refusal, Run, Subject};
 
 // With the masks of a 1122.
 fn join_masks(v: &[u8], m: Applications) -> Applications
-    requires { (4 ≤ length v.now) × (not_ignored v.now ≡ true) × (asla_header v.now ≤ length v.now) × (length v.now < 65536) }
+    requires { (4 ≤ length v.now) × (not_ignored v.now ≡ true) × (asla_header v.now ≤ length v.now) × (length v.now < 4294967296) }
     ensures { (n : ℕ) → in_set result n ≡ in_set m n || in_masks (standard_mask v.now) (user_mask v.now) n }
 {
     let h = read_asla_header(v);

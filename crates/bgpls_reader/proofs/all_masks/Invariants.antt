@@ -1,12 +1,17 @@
--- `bgpls_reader::all_masks` meets its contract: with what the 1122s that are left name, the numbers hold all that are named.
+-- With what the 1122s that are left name, the numbers hold all that are named.
 use Rattle.bgpls_reader.proofs.NamedLaws.{Held}
-use Rattle.bgpls_find.specs.Walks.{Passes}
+use Rattle.frames.specs.Left.{whole_left}
+use Rattle.frames.proofs.Walks.{Within}
+use Rattle.linkstate.specs.BgpLs.{check_top}
+use Rattle.linkstate.specs.Elements.{faults}
+use Rattle.linkstate.specs.Replies.{accepted, run_bgp_ls}
 use lib.ListN.{length}
-use Prim.Native.Nat.{◌-◌, ◌≤◌}
+use mathlib.Core.Path.{◌≡◌}
 use Rattle.bgpls_reader.proofs.all_masks.Given as goal
 
-abbrev pub invariant-loop-at : goal.invariant-loop-at
-invariant-loop-at l = (l.at ≤ length l.r) × Passes l.r l.at × Held l.m l.r l.at
-
-abbrev pub decreases-loop-at : goal.decreases-loop-at
-decreases-loop-at l = length l.r - l.at
+abbrev pub invariant-loop-e : goal.invariant-loop-e
+invariant-loop-e l = record {
+  within : Within 2 (length l.r) (whole_left l.e-iterator);
+  passes : faults run_bgp_ls check_top (whole_left l.e-iterator) ≡ accepted;
+  held : Held l.m l.r (whole_left l.e-iterator);
+}

@@ -1,6 +1,6 @@
 -- The masks by the header.
 use native.Mathlib.Omega.{arith}
-use Rattle.bgpls_check.proofs.Laws.{header-size}
+use Rattle.bgpls_find.proofs.Laws.{header-size}
 use Rattle.bgpls_reader.proofs.NamedLaws.{standard-small, user-small, masks-read}
 use Rattle.bgpls_reader.proofs.join_masks.Goals as goal
 
