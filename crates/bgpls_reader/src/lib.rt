@@ -135,50 +135,23 @@ fn answer_words(
     answering::answer_front(xs, k, list)
 }
 
-// With room for few numbers, for those of most runs, and for as many as a run can have.
-fn answer_few(
+// With room for N numbers, and M to work in.
+fn answer_with<const N: usize, const M: usize>(
     r: &[u8],
     start: Start,
     n: usize,
     list: &mut [u32],
 ) -> Result<Option<Reading>, Refusal>
-    requires { Counted r.now start n × (n ≤ 64) }
+    requires counted { Counted r.now start n × (n ≤ N) }
+    requires room { (N ≤ 2 * M) × (M ≤ N) × (N ≤ 131072) }
     ensures { told_asked result list.new ≡ srlg_answer (srlgs (attributes_in start.set r.now)) list.old }
 {
-    let mut xs = [0u32; 64];
-    let mut tmp = [0u32; 64];
+    let mut xs = [0u32; N];
+    let mut tmp = [0u32; M];
     answer_words(r, start, n, list, &mut xs, &mut tmp)
 }
 
-fn answer_many(
-    r: &[u8],
-    start: Start,
-    n: usize,
-    list: &mut [u32],
-) -> Result<Option<Reading>, Refusal>
-    requires { Counted r.now start n × (n ≤ 512) }
-    ensures { told_asked result list.new ≡ srlg_answer (srlgs (attributes_in start.set r.now)) list.old }
-{
-    let mut xs = [0u32; 512];
-    let mut tmp = [0u32; 512];
-    answer_words(r, start, n, list, &mut xs, &mut tmp)
-}
-
-fn answer_most(
-    r: &[u8],
-    start: Start,
-    n: usize,
-    list: &mut [u32],
-) -> Result<Option<Reading>, Refusal>
-    requires { Counted r.now start n × (n ≤ 131072) }
-    ensures { told_asked result list.new ≡ srlg_answer (srlgs (attributes_in start.set r.now)) list.old }
-{
-    let mut xs = [0u32; 131072];
-    let mut tmp = [0u32; 65536];
-    answer_words(r, start, n, list, &mut xs, &mut tmp)
-}
-
-// With eight times the room until it is enough. The call of itself keeps the large arrays apart: without it the compiler lays them into the frame of every question, whose pages are touched one by one.
+// With eight times the room until it is enough: for few numbers, for those of most runs, and for as many as a run can have. The call of itself keeps the large arrays apart: without it the compiler lays them into the frame of every question, whose pages are touched one by one.
 fn answer_in_room(
     r: &[u8],
     start: Start,
@@ -193,12 +166,12 @@ fn answer_in_room(
         return answer_in_room(r, start, n, room * 8, list);
     }
     if room <= 64 {
-        return answer_few(r, start, n, list);
+        return answer_with::<64, 64>(r, start, n, list);
     }
     if room <= 512 {
-        return answer_many(r, start, n, list);
+        return answer_with::<512, 512>(r, start, n, list);
     }
-    answer_most(r, start, n, list)
+    answer_with::<131072, 65536>(r, start, n, list)
 }
 
 // The reply of SRLG, of a run that passed its checks.
