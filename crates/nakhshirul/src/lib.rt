@@ -13,6 +13,8 @@ ghost use Rattle.isis.specs.Why.{link_why};
 ghost use Rattle.isis_export.specs.Answers.{export_length};
 ghost use Rattle.statuses.specs.Words.{whom_of, ask_words, value_words, named_words, length_words, why_words};
 
+use statuses::Words;
+
 // One kind of one subject of a link: status 0 to 5, or refused.
 #[unsafe(no_mangle)]
 pub extern "C" fn nakhshirul_ask(
@@ -28,8 +30,8 @@ pub extern "C" fn nakhshirul_ask(
     ensures { (result ∷ reply.new ≡ ask_words (link_source a.now b.now c.now) (whom_of who number) code list.old) × (list.new ≡ (ask (link_source a.now b.now c.now) (whom_of who number) code list.old).list) }
 {
     let whom = statuses::subject(who, number);
-    let w = statuses::ask_link(a, b, c, whom, code as usize, list);
-    statuses::hand_over(w, reply)
+    let code = usize::from(code);
+    statuses::ask_link(a, b, c, whom, code, list).hand_over(reply)
 }
 
 // Where the value of the same question stands in run A: status 0 or 4.
@@ -46,8 +48,8 @@ pub extern "C" fn nakhshirul_value(
     ensures { result ∷ reply.new ≡ value_words (link_source a.now b.now c.now) (whom_of who number) code }
 {
     let whom = statuses::subject(who, number);
-    let w = statuses::value_link(a, b, c, whom, code as usize);
-    statuses::hand_over(w, reply)
+    let code = usize::from(code);
+    statuses::value_link(a, b, c, whom, code).hand_over(reply)
 }
 
 // By which rule the subject gets the kind, and which advertisement decides: status 16, or refused.
@@ -64,9 +66,9 @@ pub extern "C" fn nakhshirul_why(
     ensures { result ∷ reply.new ≡ why_words (link_why a.now b.now c.now (whom_of who number) code) }
 {
     let whom = statuses::subject(who, number);
-    let x = why::link_why(a, b, c, whom, code as usize);
-    let w = statuses::why_words(x);
-    statuses::hand_over(w, reply)
+    let code = usize::from(code);
+    let why = why::link_why(a, b, c, whom, code);
+    Words::from(why).hand_over(reply)
 }
 
 // The named applications of a link: status 6, or refused.
@@ -74,9 +76,8 @@ pub extern "C" fn nakhshirul_why(
 pub extern "C" fn nakhshirul_named(a: &[u8], b: &[u8], c: &[u8], reply: &mut [u64; 4]) -> u64
     ensures { result ∷ reply.new ≡ named_words (list_named (link_source a.now b.now c.now)) }
 {
-    let x = isis_link::named(a, b, c);
-    let w = statuses::named_words(x);
-    statuses::hand_over(w, reply)
+    let named = isis_link::named(a, b, c);
+    Words::from(named).hand_over(reply)
 }
 
 // A link as BGP-LS TLVs: status 7, or refused.
@@ -90,9 +91,8 @@ pub extern "C" fn nakhshirul_export(
 ) -> u64
     ensures { (result ∷ reply.new ≡ length_words (export_link a.now b.now c.now out.old).reply) × (out.new ≡ (export_link a.now b.now c.now out.old).buffer) }
 {
-    let x = isis_export::export(a, b, c, out);
-    let w = statuses::length_words(x);
-    statuses::hand_over(w, reply)
+    let written = isis_export::export(a, b, c, out);
+    Words::from(written).hand_over(reply)
 }
 
 // How much room the export of a link needs: status 7 with nothing written, or refused.
@@ -105,9 +105,8 @@ pub extern "C" fn nakhshirul_export_length(
 ) -> u64
     ensures { result ∷ reply.new ≡ length_words (export_length a.now b.now c.now) }
 {
-    let x = isis_export::export_length(a, b, c);
-    let w = statuses::length_words(x);
-    statuses::hand_over(w, reply)
+    let length = isis_export::export_length(a, b, c);
+    Words::from(length).hand_over(reply)
 }
 
 // One kind of one subject of a BGP-LS run: status 0 to 5, or refused.
@@ -123,8 +122,8 @@ pub extern "C" fn nakhshirul_run_ask(
     ensures { (result ∷ reply.new ≡ ask_words (run_source run.now) (whom_of who number) code list.old) × (list.new ≡ (ask (run_source run.now) (whom_of who number) code list.old).list) }
 {
     let whom = statuses::subject(who, number);
-    let w = statuses::ask_run(run, whom, code as usize, list);
-    statuses::hand_over(w, reply)
+    let code = usize::from(code);
+    statuses::ask_run(run, whom, code, list).hand_over(reply)
 }
 
 // Where the value of the same question stands in the run: status 0 or 4.
@@ -139,8 +138,8 @@ pub extern "C" fn nakhshirul_run_value(
     ensures { result ∷ reply.new ≡ value_words (run_source run.now) (whom_of who number) code }
 {
     let whom = statuses::subject(who, number);
-    let w = statuses::value_run(run, whom, code as usize);
-    statuses::hand_over(w, reply)
+    let code = usize::from(code);
+    statuses::value_run(run, whom, code).hand_over(reply)
 }
 
 // By which rule the subject gets the kind of a run, and which advertisement decides: status 16, or refused.
@@ -155,9 +154,9 @@ pub extern "C" fn nakhshirul_run_why(
     ensures { result ∷ reply.new ≡ why_words (run_why run.now (whom_of who number) code) }
 {
     let whom = statuses::subject(who, number);
-    let x = why::run_why(run, whom, code as usize);
-    let w = statuses::why_words(x);
-    statuses::hand_over(w, reply)
+    let code = usize::from(code);
+    let why = why::run_why(run, whom, code);
+    Words::from(why).hand_over(reply)
 }
 
 // The named applications of a run: status 6, or refused.
@@ -165,7 +164,6 @@ pub extern "C" fn nakhshirul_run_why(
 pub extern "C" fn nakhshirul_run_named(run: &[u8], reply: &mut [u64; 4]) -> u64
     ensures { result ∷ reply.new ≡ named_words (list_named (run_source run.now)) }
 {
-    let x = bgpls_reader::named(run);
-    let w = statuses::named_words(x);
-    statuses::hand_over(w, reply)
+    let named = bgpls_reader::named(run);
+    Words::from(named).hand_over(reply)
 }

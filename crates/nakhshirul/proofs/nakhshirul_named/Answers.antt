@@ -3,4 +3,4 @@ use Rattle.nakhshirul.proofs.Laws.{named_by}
 use Rattle.nakhshirul.proofs.nakhshirul_named.Goals as goal
 
 pub returns : goal.returns
-returns c = named_by _ _ _ _ c.hand_over.ensures c.named_words-w.ensures c.named-x.ensures
+returns c = named_by _ _ _ _ c.hand_over.ensures c.from.ensures c.named-named.ensures

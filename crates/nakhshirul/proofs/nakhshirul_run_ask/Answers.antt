@@ -5,4 +5,4 @@ use Rattle.nakhshirul.proofs.nakhshirul_run_ask.Goals as goal
 
 pub returns : goal.returns
 returns c = let a = c.args in
-    asked_by (run_source a.run.now) a.who a.number a.code _ c.subject-whom.ensures _ _ c.hand_over.ensures a.list.now _ c.ask_run-w.ensures
+    rw (← c.from-code.ensures) (asked_by (run_source a.run.now) a.who a.number c.from-code.result _ c.subject-whom.ensures _ _ c.hand_over.ensures a.list.now _ c.ask_run.ensures)

@@ -5,4 +5,4 @@ use Rattle.nakhshirul.proofs.nakhshirul_run_value.Goals as goal
 
 pub returns : goal.returns
 returns c = let a = c.args in
-    value-by (run_source a.run.now) a.who a.number a.code _ c.subject-whom.ensures _ _ c.hand_over.ensures c.value_run-w.ensures
+    rw (← c.from-code.ensures) (value-by (run_source a.run.now) a.who a.number c.from-code.result _ c.subject-whom.ensures _ _ c.hand_over.ensures c.value_run.ensures)

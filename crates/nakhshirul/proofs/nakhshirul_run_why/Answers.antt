@@ -4,4 +4,4 @@ use Rattle.nakhshirul.proofs.nakhshirul_run_why.Goals as goal
 
 pub returns : goal.returns
 returns c = let a = c.args in
-    run-why-by a.who a.number a.code _ c.subject-whom.ensures _ _ c.hand_over.ensures _ c.why_words-w.ensures a.run.now c.run_why-x.ensures
+    rw (← c.from-code.ensures) (run-why-by a.who a.number c.from-code.result _ c.subject-whom.ensures _ _ c.hand_over.ensures _ c.from.ensures a.run.now c.run_why-why.ensures)

@@ -5,4 +5,4 @@ use Rattle.nakhshirul.proofs.nakhshirul_value.Goals as goal
 
 pub returns : goal.returns
 returns c = let a = c.args in
-    value-by (link_source a.a.now a.b.now a.c.now) a.who a.number a.code _ c.subject-whom.ensures _ _ c.hand_over.ensures c.value_link-w.ensures
+    rw (← c.from-code.ensures) (value-by (link_source a.a.now a.b.now a.c.now) a.who a.number c.from-code.result _ c.subject-whom.ensures _ _ c.hand_over.ensures c.value_link.ensures)
