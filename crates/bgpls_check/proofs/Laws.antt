@@ -7,12 +7,13 @@ use native.Mathlib.Omega.{arith}
 use borrow.Author.Tests.{lt-ltb, le-ltb, le-leb, eq-eqb}
 use lib.Dec.{leb, eqb}
 use lib.ListN.{length}
-use Rattle.linkstate.specs.Replies.{accepted, fault, fault_of_call, refused_if, ◌then◌, run_bgp_ls}
+use Rattle.linkstate.specs.Replies.{accepted, refused, refusal_at, run_a, fault, fault_of_call, refused_if, ◌then◌, run_bgp_ls}
 use Rattle.linkstate.specs.Elements.{Element, elements, faults, faults_once}
 use Rattle.linkstate.specs.Lists.{keep}
 use Rattle.linkstate.specs.Kinds.{kinds, fits, has_code, is_applications, wrong_inside, wrong_at_top}
 use Rattle.linkstate.proofs.Computing.{computing}
 use Rattle.linkstate.specs.BgpLs.{sabm_length, udabm_length, asla_header, is_mask_length, not_ignored, check_inner, known_inside, check_asla, check_top, run_verdict}
+use Rattle.frames.proofs.Walks.{walking}
 use Rattle.repeats.proofs.Once.{Once}
 use Rattle.kinds.specs.declared.Kind.{Kind}
 use Rattle.kinds.specs.declared.Kind.TheVariants.{Link, Application, Srlg, Asla, Unknown}
@@ -113,10 +114,12 @@ top-by r c n e = wrong-at-top c n ∙ ap (λ (q : Rule). not (fits_in q.size n))
 
 -- ---- a run
 
-pub run_long : (r : List ℕ) → 524288 < length r → fault_of_call 1 ≡ run_verdict r
+pub run_long : (r : List ℕ) → 524288 < length r → refused (refusal_at 1 run_a 0) ≡ run_verdict r
 unfolding run_verdict refused_if fault_of_call fault ◌then◌
 run_long r h = rw (lt-ltb 524288 (length r) h)
 
-pub run-walked : (r : List ℕ) → length r ≤ 524288 → faults run_bgp_ls check_top (elements 2 0 r) ≡ run_verdict r
+pub run-begun : {es : List Element} (r : List ℕ) → es ≡ elements 2 0 r → length r ≤ 524288 → faults run_bgp_ls check_top es ≡ run_verdict r
 unfolding run_verdict refused_if ◌then◌
-run-walked r h = rw (le-ltb 524288 (length r) h)
+run-begun r e h = rw (e, le-ltb 524288 (length r) h)
+
+pub ruleset run_walk = (walking, run_long, run-begun)

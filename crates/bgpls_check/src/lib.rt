@@ -158,6 +158,7 @@ fn check_top(v: &[u8], code: usize, at: usize) -> Result<(), Refusal>
 }
 
 // A whole run.
+#[tactic(auto, using(crate::proofs::Laws::run_walk), unfolding(linkstate::specs::Elements::faults, linkstate::specs::Replies::fault))]
 pub fn check_run(r: &[u8]) -> Result<(), Refusal>
     ensures { told_checked result ≡ run_verdict r.now }
 {

@@ -1,5 +1,5 @@
 -- What a loop over the elements that an iterator gives needs: one law for each way a turn goes, where es are those that were left before it. Assumes nothing.
-use mathlib.Core.Path.{◌≡◌, refl, sym, ap, ◌∙◌}
+use mathlib.Core.Path.{◌≡◌, refl, sym, ap, ◌∙◌, subst}
 use mathlib.Core.Bool.{Bool, true, false}
 use mathlib.Core.List.{List, [], ◌∷◌}
 use Prim.Native.Nat.{ℕ, ◌+◌, ◌≤◌, ◌<◌}
@@ -139,3 +139,10 @@ module _ (w : ℕ) (p : 0 < w) where
 
   pub within : (at end : ℕ) (s : List ℕ) → at + length s ≡ end → Within w end (elements w at s)
   within at end s e = framed-within end e (framed w p at s)
+
+-- Where a walk begins.
+pub within-start : (w end : ℕ) {es : List Element} (at : ℕ) (s : List ℕ) → es ≡ elements w at s → 0 < w → at + length s ≡ end → Within w end es
+within-start w end {es} at s e p f = subst (Within w end) (sym e) (within w p at end s f)
+
+-- What each turn of a walk that checks elements needs.
+pub ruleset walking = (gave-whole, gave-cut, checked-all, check-cut, check-passed, check-refused, within-start)
