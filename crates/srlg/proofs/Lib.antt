@@ -1,5 +1,4 @@
 -- Laws that the crates above share, and those of this crate's own loops.
 pub mod Laws
-mod Writes
 mod Merges
 mod Moves

@@ -7,8 +7,7 @@ use native.Mathlib.Omega.{arith}
 use borrow.Author.Tests.{eq-eqb, ne_eqb, ltb-true, ltb-false}
 use lib.Dec.{eqb, ltb}
 use lib.Bits.{bit_or}
-use lib.ListN.{length, get_or, set, replicate, get_or-replicate, length-set}
-use lib.Seq.{get_or-set_same, get_or-set_other}
+use lib.ListN.{length, get_or, replicate, get_or-replicate}
 use Rattle.linkstate.specs.Lists.{numbers, any}
 use Rattle.linkstate.specs.Masks.{in_number}
 use Rattle.linkstate.proofs.ListLaws.{any_append, and_l}
@@ -83,18 +82,6 @@ pub record Joined (x₀ row x : List ℕ) (i : ℕ) : Type 0 where
   pub size : length x ≡ 16
   pub before : (w : ℕ) → w < i → get_or x w 0 ≡ bit_or (get_or x₀ w 0) (get_or row w 0)
   pub after : (w : ℕ) → i ≤ w → get_or x w 0 ≡ get_or x₀ w 0
-
-pub joined-none : (x row : List ℕ) → length x ≡ 16 → Joined x row x 0
-joined-none x row h = record { size = h; before = λ w l. absurd (omega arith); after = λ w l. refl }
-
-pub joined-next : (x₀ row x : List ℕ) (i : ℕ) → i < 16 → Joined x₀ row x i → Joined x₀ row (set x i (bit_or (get_or x i 0) (get_or row i 0))) (i + 1)
-joined-next x₀ row x i h so =
-    record { size = length-set x i _ ∙ so.size; before = λ w l. go w l (order w i); after = λ w l. get_or-set_other x i w _ 0 (λ e. omega arith) ∙ so.after w (omega arith) }
-  where
-    go : (w : ℕ) → w < i + 1 → Order w i → get_or (set x i (bit_or (get_or x i 0) (get_or row i 0))) w 0 ≡ bit_or (get_or x₀ w 0) (get_or row w 0)
-    go w l (less k) = get_or-set_other x i w _ 0 (λ e. omega arith) ∙ so.before w k
-    go w l (more k) = absurd (omega arith)
-    go w l (same e) = rw (e, get_or-set_same x i (bit_or (get_or x i 0) (get_or row i 0)) 0 (omega (arith, so.size))) (ap (λ (y : ℕ). bit_or y (get_or row i 0)) (so.after i (omega arith)))
 
 pub joined-all : (x₀ row x : List ℕ) (k : ℕ) → Joined x₀ row x k → (i : ℕ) → i < 64 * k → in_words x i ≡ in_words x₀ i || in_words row i
 unfolding in_words

@@ -7,8 +7,7 @@ use native.Mathlib.Omega.{arith}
 use native.Mathlib.Nat.{sub-zero}
 use borrow.Author.Tests.{ne_eqb, lt-ltb, ltb-true}
 use lib.Dec.{eqb, ltb}
-use lib.ListN.{length, get_or, take, drop, length-take}
-use lib.Seq.{take_at}
+use lib.ListN.{length, get_or, take, length-take}
 use Rattle.linkstate.specs.Lists.{member, keep, count, all}
 use Rattle.linkstate.proofs.ListLaws.{map-append, keep_append, and_l, and_r, map-mem, mem-map, member-mem, mem-member, keep-mem}
 use Rattle.srlg_ranks.specs.Ranks.{in_words}
@@ -131,13 +130,6 @@ ordered keys sorted values r rows after room s k =
       bits = λ j i w h. k.bits j i w h ∙ ap (λ (b : Bool). in_words (get_or rows j []) i || (ltb i r && b)) (same-members (get_or values i 0) j sorted keys s.same);
       masks = k.masks;
     }
-
--- The part that was sorted, of the list that it stands in.
-pub sorted_part : (keys part behind : List ℕ) (m : ℕ) → m ≤ length keys → length part ≡ length (take (m - 0) (drop 0 keys)) → Sorted number (take (m - 0) (drop 0 keys)) part
-    → Sorted number (take m keys) (take m (part ++ behind))
-sorted_part keys part behind m h e s =
-    let z : m - 0 ≡ m = sub-zero m in
-    rw (take_at part behind m (e ∙ length-take (m - 0) keys ∙ (let n : min (m - 0) (length keys) ≡ m = omega arith in n))) (rw z at s)
 
 -- The front of a list that was sorted, as it is lent.
 module _ (keys after : List ℕ) (m : ℕ) where

@@ -13,7 +13,7 @@ ghost use Rattle.srlg_sources.specs.Sources.{Small, key_of, in_rows, source_row,
 use key_sort::Key;
 use masks::Bits;
 
-// How many keys there are, and how many sources.
+// How many keys there are, repeats too, and how many sources.
 #[derive(Clone, Copy)]
 pub struct Keys {
     pub count: usize,
@@ -76,7 +76,7 @@ fn mark(rows: &mut [[u64; 18]], source: usize, p: usize)
 {
     let w = p / 64;
     let bit = p % 64;
-    rows[source][w] = rows[source][w] | (1 << bit);
+    rows[source][w] |= 1 << bit;
 }
 
 // The different numbers of keys that climb, ascending at the front of a list, and in the row of each source the bits of its numbers; how many numbers there are.
@@ -120,7 +120,7 @@ fn join_row(x: &mut [u64; 16], row: &[u64; 18], words: usize)
     ensures { (length x.new ≡ 16) × ((i : ℕ) → i < 64 * words → in_words x.new i ≡ in_words x.old i || in_words row.now i) }
 {
     for i in 0..words {
-        x[i] = x[i] | row[i];
+        x[i] |= row[i];
     }
 }
 

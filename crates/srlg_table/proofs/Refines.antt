@@ -355,15 +355,6 @@ module _ (rows : List (List ℕ)) (i standard user : ℕ) (blocks : List (List �
       pub still-room : (room : ℕ) → size_of (in_words (standard ∷ user ∷ [])) ≤ room → r ≤ room
       still-room room h = omega (arith, refining-split.laid.most, total-least after r refining-split.laid.some)
 
-  -- at the end, or where source i names nobody that is left
-  pub refined : (count n k s u : ℕ) → Refining rows i standard user blocks count n k s u → count ≤ k → Blocks rows standard user blocks n (suc i)
-  refined count n k s u so h = record { laid = so.laid; sources = λ l a j w m o e. go l a j w m o e (order l k) }
-    where
-      go : (l a j : ℕ) → l < n → a < 128 → j < 128 → in_block (get_or blocks l []) a ≡ true → Order l k → block_source (get_or blocks l []) j ≡ naming rows (suc i) a j
-      go l a j w m o e (less q) = so.done l a j w (inl q) m o e
-      go l a j w m o e (more q) = so.done l a j w (inr (omega arith)) m o e
-      go l a j w m o e (same q) = so.done l a j w (inr (omega arith)) m o e
-
   pub refined-early : (count n k s u : ℕ) → Refining rows i standard user blocks count n k s u → ((a : ℕ) → a < 128 → in_words (s ∷ u ∷ []) a ≡ false) → Blocks rows standard user blocks n (suc i)
   refined-early count n k s u so none = record { laid = so.laid; sources = λ l a j w m o e. go l a j w m o e (order l k) (order l count) }
     where

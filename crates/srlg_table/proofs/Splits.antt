@@ -1,11 +1,11 @@
 -- A block with one source more, its rest, and a block that is split. Assumes nothing.
-use Prim.Native.Nat.{ℕ, suc, ◌+◌, ◌-◌, ◌*◌, ◌/◌, ◌%◌, ◌^◌, ◌≤◌, ◌<◌}
+use Prim.Native.Nat.{ℕ, suc, ◌+◌, ◌-◌, ◌*◌, ◌%◌, ◌^◌, ◌≤◌, ◌<◌}
 use mathlib.Core.Path.{◌≡◌, refl, sym, ◌∙◌, ap, ap₂}
-use mathlib.Core.Bool.{Bool, true, false, ◌||◌, ◌&&◌, not, or-false}
+use mathlib.Core.Bool.{Bool, ◌||◌, ◌&&◌, not, or-false}
 use mathlib.Core.List.{List, [], ◌∷◌}
 use native.Mathlib.Omega.{arith}
-use borrow.Author.Tests.{eq-eqb, ne_eqb, ltb-true, ltb-false}
-use lib.Dec.{eqb, ltb}
+use borrow.Author.Tests.{eq-eqb, ne_eqb}
+use lib.Dec.{eqb}
 use lib.Bits.{bit_or}
 use lib.ListN.{length, get_or, set, length-set}
 use lib.Seq.{get_or-set_same, get_or-set_other}
@@ -21,7 +21,7 @@ module _ (b : List ℕ) (x y i : ℕ) where
   abbrev Said : ℕ → Bool → Type 0
   Said j t = t ≡ block_source b j || eqb j i
 
-  part_low : i < 64 → Part b x y i (x ∷ y ∷ bit_or (get_or b 2 0) ((1 * 2 ^ i) % 2 ^ 64) ∷ get_or b 3 0 ∷ [])
+  pub part_low : i < 64 → Part b x y i (x ∷ y ∷ bit_or (get_or b 2 0) ((1 * 2 ^ i) % 2 ^ 64) ∷ get_or b 3 0 ∷ [])
   unfolding in_block block_source
   part_low h =
       record {
@@ -32,7 +32,7 @@ module _ (b : List ℕ) (x y i : ℕ) where
             (λ j l. sym (high_bit (get_or b 2 0) (get_or b 3 0) j l) ∙ sym (or-false _) ∙ ap (λ (t : Bool). block_source b (64 + j) || t) (sym (ne_eqb (64 + j) i (λ e. omega arith))));
       }
 
-  part-high : 64 ≤ i → i < 128 → Part b x y i (x ∷ y ∷ get_or b 2 0 ∷ bit_or (get_or b 3 0) ((1 * 2 ^ (i - 64)) % 2 ^ 64) ∷ [])
+  pub part-high : 64 ≤ i → i < 128 → Part b x y i (x ∷ y ∷ get_or b 2 0 ∷ bit_or (get_or b 3 0) ((1 * 2 ^ (i - 64)) % 2 ^ 64) ∷ [])
   unfolding in_block block_source
   part-high h k =
       record {
@@ -47,23 +47,6 @@ module _ (b : List ℕ) (x y i : ℕ) where
       shifted j (less l) = ne_eqb j (i - 64) (λ e. omega arith) ∙ sym (ne_eqb (64 + j) i (λ e. omega arith))
       shifted j (more l) = ne_eqb j (i - 64) (λ e. omega arith) ∙ sym (ne_eqb (64 + j) i (λ e. omega arith))
       shifted j (same e) = eq-eqb j (i - 64) e ∙ sym (eq-eqb (64 + j) i (omega arith))
-
-  -- Source i is in word 2 or 3.
-  pub part-is : i < 128 → Part b x y i (set (x ∷ y ∷ get_or b 2 0 ∷ get_or b 3 0 ∷ []) (2 + i / 64) (bit_or (get_or (x ∷ y ∷ get_or b 2 0 ∷ get_or b 3 0 ∷ []) (2 + i / 64) 0) ((1 * 2 ^ (i % 64)) % 2 ^ 64)))
-  part-is h = go (ltb i 64) refl
-    where
-      go : (t : Bool) → ltb i 64 ≡ t
-          → Part b x y i (set (x ∷ y ∷ get_or b 2 0 ∷ get_or b 3 0 ∷ []) (2 + i / 64) (bit_or (get_or (x ∷ y ∷ get_or b 2 0 ∷ get_or b 3 0 ∷ []) (2 + i / 64) 0) ((1 * 2 ^ (i % 64)) % 2 ^ 64)))
-      go true e =
-          let l = ltb-true i 64 e in
-          let d : 2 + i / 64 ≡ 2 = omega arith in
-          let m : i % 64 ≡ i = omega arith in
-          rw (d, m) (part_low l)
-      go false e =
-          let l = ltb-false i 64 e in
-          let d : 2 + i / 64 ≡ 3 = omega arith in
-          let m : i % 64 ≡ i - 64 = omega arith in
-          rw (d, m) (part-high l h)
 
   pub rest-is : (s u : ℕ) → ((n : ℕ) → in_number s n ≡ in_number (get_or b 0 0) n && not (in_number x n)) → ((n : ℕ) → in_number u n ≡ in_number (get_or b 1 0) n && not (in_number y n))
       → Rest b x y (s ∷ u ∷ get_or b 2 0 ∷ get_or b 3 0 ∷ [])

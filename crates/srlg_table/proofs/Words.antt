@@ -3,7 +3,6 @@ use Prim.Native.Nat.{ℕ, zero, suc, ◌+◌, ◌*◌, ◌/◌, ◌%◌, ◌^◌
 use mathlib.Core.Path.{◌≡◌, refl, sym, ◌∙◌, ap, ap₂}
 use mathlib.Core.Bool.{Bool, false}
 use mathlib.Core.List.{List}
-use native.Mathlib.Nat.{zero-add}
 use native.Mathlib.Numerals.{add-one}
 use native.Mathlib.Omega.{arith}
 use lib.Bits.{bit_xor}
@@ -13,7 +12,7 @@ use Rattle.std.proofs.lemmas.Grind.{same_number_lists}
 use Rattle.linkstate.specs.Masks.{in_number, as_number}
 use Rattle.linkstate.proofs.MaskLaws.{number_same}
 use Rattle.masks.proofs.Laws.{number_of}
-use Rattle.srlg_ranks.specs.Ranks.{keep_from, in_words, Inside}
+use Rattle.srlg_ranks.specs.Ranks.{in_words, Inside}
 use Rattle.srlg_ranks.proofs.Laws.{rest, word_end}
 use Rattle.srlg_table.specs.Marks.{mixed, words_mark, folded, mark_of}
 use Rattle.srlg_table.specs.Tables.{Equal}
@@ -82,9 +81,6 @@ mark-is x n i h r z e f = f ∙ ap folded e ∙ ap (λ (k : ℕ). folded (words_
 -- The bits of a list that has them within the first words.
 pub word-within : (values x : List ℕ) (n w : ℕ) → w < n → ((i : ℕ) → length values ≤ i → i < 64 * n → in_words x i ≡ false) → Inside (drop (64 * w) values) (get_or x w 0)
 word-within values x n w h within j k l = sym (word-bit x w j l) ∙ within (64 * w + j) (omega (arith, length-drop (64 * w) values)) (omega arith)
-
-pub counted_start : (x values : List ℕ) → 0 + length (rest values x 0) ≡ length (keep_from (in_words x) 0 values)
-counted_start x values = zero-add (length (rest values x 0))
 
 pub counted-end : (x values : List ℕ) (n i k r : ℕ) → length values ≤ 64 * n → n ≤ i → k + length (rest values x i) ≡ r → k ≡ r
 counted-end x values n i k r h l e = omega (arith, e, ap length (word_end values x i (omega arith)))

@@ -3,6 +3,6 @@ use mathlib.Core.Path.{refl}
 use Rattle.srlg_sources.specs.Sources.{source_row}
 use Rattle.srlg_sources.proofs.add_source.Goals as goal
 
-pub returns : goal.returns
+pub returns-clause-count_value : goal.returns-clause-count_value
 unfolding source_row
-returns c = let w = c.add_words-count.ensures in record { count_value = (w.value.0, refl, refl); keys_after = (w.value.1, w.small) }
+returns-clause-count_value c = (c.add_words-count.ensures.value.0, refl, refl)

@@ -1,4 +1,3 @@
--- `srlg_sources::add_words` meets its contract: the first i keys are written. Assumes nothing.
 use Prim.Native.Nat.{ℕ, ◌+◌}
 use mathlib.Core.Path.{refl, sym, ◌∙◌, ap, ap₂}
 use mathlib.Core.List.{map}

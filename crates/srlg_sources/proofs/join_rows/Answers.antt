@@ -1,23 +1,12 @@
--- What is joined, with the sources that are left, is all.
 use Prim.Native.Nat.{ℕ, ◌+◌}
 use mathlib.Core.Path.{sym, ◌∙◌, ap}
 use mathlib.Core.Bool.{Bool, ◌||◌, or_assoc, or-false}
 use mathlib.Core.List.{[]}
 use lib.ListN.{get_or}
-use native.Mathlib.Omega.{arith}
 use Rattle.srlg_ranks.specs.Ranks.{in_words}
 use Rattle.srlg_sources.specs.Sources.{in_some}
 use Rattle.srlg_sources.proofs.Joins.{next-source, some-none}
 use Rattle.srlg_sources.proofs.join_rows.Goals as goal
-
-pub overflow_add-base : goal.overflow_add-base
-overflow_add-base c = omega (arith, c.in-Some.ensures.steps.inside)
-
-pub offset_bounds-rows-base : goal.offset_bounds-rows-base
-offset_bounds-rows-base c = omega (arith, c.in-Some.ensures.steps.inside)
-
-pub bounds-rows-base : goal.bounds-rows-base
-bounds-rows-base c = c.loop-t.invariant.1 _ c.in-Some.ensures.steps.inside c.in-Some.ensures.steps.there
 
 pub loop-t-preserved : goal.loop-t-preserved
 loop-t-preserved c =

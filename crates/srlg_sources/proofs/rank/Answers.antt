@@ -1,9 +1,8 @@
-use Rattle.std.proofs.Common.{arith, ◌≡◌, ◌∙◌, ◌-◌, sym, refl, length, get_or}
+use Rattle.std.proofs.Common.{arith, ◌∙◌, sym, refl, length, get_or}
 use borrow.Author.Tests.{ltb-true}
-use Rattle.key_sort.specs.Keys.{number}
 use Rattle.key_sort.proofs.Numbers.{numbered-none, all-at}
 use Rattle.srlg_sources.specs.Sources.{source_of, in_rows}
-use Rattle.srlg_sources.proofs.Rankings.{Turned, noted-none, turned-new, turned-again, noted-next, ranked}
+use Rattle.srlg_sources.proofs.Rankings.{Turned, noted-none, turned-new, turned-again, noted-next}
 use Rattle.srlg_sources.proofs.rank.Goals as goal
 use Rattle.srlg_sources.proofs.rank.Goals.{Joined-i-eq0, then-i-eq0, then-i-eq0-via-then-i-eq0, then-i-eq0-via-else-i-eq0+then-number-n, else-i-eq0+else-number-n}
 
@@ -49,7 +48,3 @@ loop-i-preserved c = let l = c.loop-i in
       noted-next k l.values c.if-i-eq0.values l.i l.count c.if-i-eq0.count l.invariant.3 (omega arith) c.requires.0 t
           (omega (arith, t.size, l.invariant.1, t.numbered.few)) _ refl c.args.rows.now l.rows _ w.ensures l.invariant.4,
     )
-
-pub returns : goal.returns
-returns c = let l = c.loop-i in
-    ranked c.args.keys.now l.values c.args.rows.now l.rows l.i l.count (omega arith) l.invariant.3 l.invariant.4

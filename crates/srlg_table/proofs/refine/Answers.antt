@@ -1,11 +1,10 @@
--- `srlg_table::refine` meets its contract: the blocks before k have source i. Assumes nothing.
 use mathlib.Core.Path.{◌≡◌, refl, ◌∙◌, ap}
 use mathlib.Core.List.{[]}
 use lib.ListN.{length, get_or}
 use native.Mathlib.Omega.{arith}
 use Rattle.srlg_table.proofs.Sizes.{masks-none, total-least}
 use Rattle.srlg_table.proofs.Refines.{common-block, common-row, minus, refining-start, refining-pass, refining-split, split-room, still-room, in-block}
-use Rattle.srlg_table.proofs.Refines.{refined, refined-early}
+use Rattle.srlg_table.proofs.Refines.{refined-early}
 use Rattle.srlg_table.proofs.refine.Goals as goal
 use Rattle.srlg_table.proofs.refine.Goals.{else-meets, then-meets}
 
@@ -63,8 +62,3 @@ pub returns-then-s-u-eq0 : goal.returns-then-s-u-eq0
 returns-then-s-u-eq0 c = let l = c.loop-k in
     let a = c.args in
     refined-early a.rows.now a.i a.standard a.user l.blocks c.requires.0 a.count l.n l.k l.s l.u l.invariant.2 (masks-none l.s l.u c.if-s-u-eq0.true)
-
-pub returns-after-loop-k : goal.returns-after-loop-k
-returns-after-loop-k c = let l = c.loop-k in
-    let a = c.args in
-    refined a.rows.now a.i a.standard a.user l.blocks c.requires.0 a.count l.n l.k l.s l.u l.invariant.2 (omega arith)
