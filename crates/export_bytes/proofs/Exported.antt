@@ -18,7 +18,7 @@ use Rattle.linkstate.proofs.ListLaws.{each_append, map-append}
 use Rattle.linkstate.proofs.Computing.{computing}
 use Rattle.replies.specs.Told.{told_refusal, told_exported}
 use Rattle.replies.specs.declared.Refusal.{Refusal}
-use Rattle.replies.specs.declared.Written.TheVariants.{Bytes, Refused}
+use Rattle.std.specs.Prelude.{Ok, Err}
 use Rattle.masks.specs.Applications.{in_set}
 use Rattle.masks.proofs.Sets.{place_none, set-none}
 use Rattle.tlv_bytes.specs.Tlvs.{in_tlvs}
@@ -127,18 +127,18 @@ whole-export {m} {run} {sets} {values} {rows} {classes} {groups} ok entered {s} 
 -- ---- the answer, over bytes that are the export
 
 module _ {result whole : List ℕ} (is : whole ≡ result) (buffer : List ℕ) (measuring : Bool) (n : ℕ) (size : n ≡ length whole) where
-  pub measured : measuring ≡ true → told_exported (Bytes n) buffer ≡ answered measuring result buffer
+  pub measured : measuring ≡ true → told_exported (Ok n) buffer ≡ answered measuring result buffer
   unfolding answered
   measured e = rw (e, size, is)
 
   pub too_short : measuring ≡ false → (x : Refusal) → told_refusal x ≡ refusal_at 5 run_a 0 → length buffer < n
-      → told_exported (Refused x) buffer ≡ answered measuring result buffer
+      → told_exported (Err x) buffer ≡ answered measuring result buffer
   unfolding answered write unless ◌then◌ refused_if fault_of_call fault
   too_short e x f h =
       rw (e, lt-ltb (length buffer) (length result) (omega (arith, ap length is)))
       (ap (λ (y : R.Refusal). record { reply = R.export_refused y; buffer = buffer }) f)
 
   pub written : measuring ≡ false → n ≤ length buffer → {k : ℕ} {after : List ℕ} → k ≡ length whole → after ≡ put buffer 0 whole
-      → told_exported (Bytes k) after ≡ answered measuring result buffer
+      → told_exported (Ok k) after ≡ answered measuring result buffer
   unfolding answered write unless ◌then◌ refused_if
   written e h f g = rw (e, le-ltb (length buffer) (length result) (omega (arith, ap length is)), f, g, is)

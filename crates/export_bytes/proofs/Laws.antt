@@ -162,10 +162,8 @@ module _ {run : List ℕ} {sets : List (List ℕ)} {values : List ℕ} {rows cla
     open-on still stand = record { tables = ok; placed = omega (arith, was.placed); standing = stand }
 
     -- The set of a slot and a class can be written there.
-    pub writable : (s c : ℕ) → IsSet sets s → c < length classes → (g : List (List ℕ)) → g ≡ slot_grid sets s → Writable run g values rows classes places c d at
-    writable s c of_s of_c g is =
-        let placed = was.placed in
-        rw is (record { fits = ok.slots.fits s of_s.inside; known = ok.known; inside = of_c; placed = omega arith; standing = was.standing })
+    pub writable : (s c : ℕ) → IsSet sets s → c < length classes → Writable run (slot_grid sets s) values rows classes places c d at
+    writable s c of_s of_c = let placed = was.placed in record { fits = ok.slots.fits s of_s.inside; known = ok.known; inside = of_c; placed = omega arith; standing = was.standing }
 
   -- ---- an entry that was read: its front is written, then its set
 
@@ -194,24 +192,20 @@ module _ {run : List ℕ} {sets : List (List ℕ)} {values : List ℕ} {rows cla
       pub front-asks : (size < 65000) × (at + front_size e.members ≤ length d)
       front-asks = (omega (arith, size_is, set-small e.slot e.class of_s of_c), omega (arith, both-room, parts-length e))
 
-      module _ {r : ℕ} {o : List ℕ} (kept : length o ≡ length d) (w : Wrote d at (asla_front e.members size) r o)
-          (g : List (List ℕ)) (eg : g ≡ slot_grid sets e.slot) where
+      module _ {r : ℕ} {o : List ℕ} (kept : length o ≡ length d) (w : Wrote d at (asla_front e.members size) r o) where
         front-wrote : Wrote d at (front e) r o
         front-wrote = same_write (ap (asla_front e.members) size_is) d at w
-
-        same_set : set_tlvs g e.class ≡ inner e
-        same_set = ap (λ (x : List (List ℕ)). set_tlvs x e.class) eg
 
         behind : Opens places o r
         behind = open-on was refl (standing_on srlgs was.standing (front e) front-wrote (omega (arith, both-room, length-append (front e) (inner e))))
 
-        pub set-asks : Writable run g values rows classes places e.class o r × (r + length (set_tlvs g e.class) ≤ length o)
-        set-asks = (writable behind e.slot e.class of_s of_c g eg, same-room same_set o r (behind-room d at (front e) (inner e) both-room kept front-wrote))
+        pub set-asks : (e.slot < length sets) × Writable run (slot_grid sets e.slot) values rows classes places e.class o r × (r + length (inner e) ≤ length o)
+        set-asks = (of_s.inside, writable behind e.slot e.class of_s of_c, behind-room d at (front e) (inner e) both-room kept front-wrote)
 
-        pub entry-written : {t : ℕ} {places' x : List ℕ} → Written srlgs o r (set_tlvs g e.class) t places' x
+        pub entry-written : {t : ℕ} {places' x : List ℕ} → Written srlgs o r (inner e) t places' x
             → Written srlgs d at (entry_tlv run sets srlgs groups i) t places' x
         entry-written v =
-            (same_write entry-parts d at (behind-write d at (front e) (inner e) both-room kept front-wrote (same_write same_set o r v.0)), v.1)
+            (same_write entry-parts d at (behind-write d at (front e) (inner e) both-room kept front-wrote v.0), v.1)
 
   -- ---- entries in turn
 

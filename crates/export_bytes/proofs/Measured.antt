@@ -45,8 +45,7 @@ module _ {run : List ℕ} {sets : List (List ℕ)} {values : List ℕ} {rows cla
   unfolding row_size
   row-length k c h e =
       let l : k < length link_codes = omega (arith, three-codes) in
-      kind-size run (cell_row (cell sets 2 k)) bandwidths c (link-kind run sets c k l e (cell_row (cell sets 2 k)) refl)
-      (link_fits run sets k l (link-rows ok) (cell_row (cell sets 2 k)) refl)
+      kind-size run (cell_row (cell sets 2 k)) bandwidths c (link-kind run sets c k l e) (link_fits run sets k l (link-rows ok))
 
   link-length : link_size sets 3 ≡ length (in_tlvs bandwidths link_codes)
   unfolding link_size

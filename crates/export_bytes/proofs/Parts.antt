@@ -52,8 +52,10 @@ module _ {run : List ℕ} {sets : List (List ℕ)} {values : List ℕ} {rows cla
           subst (RowFits run) (sym (link-beyond sets (k - 3)) ∙ ap (λ (j : ℕ). get_or (link_rows sets) j []) z)
           (record { within = omega arith; short = omega arith })
 
-  module _ {places d : List ℕ} (was : Opens places d 0) {s c : ℕ} (of_s : IsSet sets s) (of_c : c < length classes) (g : List (List ℕ))
-      (eg : g ≡ slot_grid sets s) where
+  module _ {places d : List ℕ} (was : Opens places d 0) {s c : ℕ} (of_s : IsSet sets s) (of_c : c < length classes) where
+    abbrev g : List (List ℕ)
+    g = slot_grid sets s
+
     abbrev low : List ℕ
     low = in_tlvs (top_set run sets srlgs s c) low_codes
 
@@ -61,19 +63,19 @@ module _ {run : List ℕ} {sets : List (List ℕ)} {values : List ℕ} {rows cla
     middle = in_tlvs (set_of run g (srlgs c)) middle_codes
 
     fits-top : Fits run g
-    fits-top = rw eg (ok.slots.fits s of_s.inside)
+    fits-top = ok.slots.fits s of_s.inside
 
     -- ---- the first kind is written, then the bandwidths, then the kinds up to 1120
 
     module _ (room : length low ≤ length d) where
       three : Three low (one g 1088) bandwidths middle
-      three = rw eg (low-is run (slot_grid sets s) (srlgs c) (link_rows sets))
+      three = low-is run g (srlgs c) (link_rows sets)
 
       low-room : 0 + length low ≤ length d
       low-room = omega arith
 
-      pub first-asks : Fits run g × Among grid_codes 1088 × (0 + length (one g 1088) ≤ length d)
-      first-asks = (fits-top, first_code, first-room d 0 three low-room)
+      pub first-asks : (s < length sets) × Fits run g × Among grid_codes 1088 × (0 + length (one g 1088) ≤ length d)
+      first-asks = (of_s.inside, fits-top, first_code, first-room d 0 three low-room)
 
       module _ {o : List ℕ} {r : ℕ} (kept : length o ≡ length d) (w : Wrote d 0 (one g 1088) r o) where
         pub bandwidths-asks : Fits run (link_rows sets) × (2 < length sets) × (r + length bandwidths ≤ length o)
@@ -83,8 +85,8 @@ module _ {run : List ℕ} {sets : List (List ℕ)} {values : List ℕ} {rows cla
           behind : Opens places p q
           behind = open-on ok was refl (standing_on srlgs (second-stands srlgs d 0 three low-room was.standing kept w) bandwidths v bandwidths-asks.2)
 
-          pub middle-asks : Writable run g values rows classes places c p q × (q + length middle ≤ length p)
-          middle-asks = (writable ok behind s c of_s of_c g eg, third-room d 0 three low-room kept w still v)
+          pub middle-asks : (s < length sets) × Writable run g values rows classes places c p q × (q + length middle ≤ length p)
+          middle-asks = (of_s.inside, writable ok behind s c of_s of_c, third-room d 0 three low-room kept w still v)
 
           pub low-written : {t : ℕ} {places' e : List ℕ} → Written srlgs p q middle t places' e → Written srlgs d 0 low t places' e
           low-written u = (three-write d 0 three low-room kept w still v u.0, u.1)
@@ -101,21 +103,21 @@ module _ {run : List ℕ} {sets : List (List ℕ)} {values : List ℕ} {rows cla
 
       parts : Three whole low aslas (one g 1173)
       unfolding whole_bytes
-      parts = rw eg (record { are = ap (λ (v : List ℕ). low ++ aslas ++ v) (high_is run (slot_grid sets s) (srlgs c) (link_rows sets)) })
+      parts = record { are = ap (λ (v : List ℕ). low ++ aslas ++ v) (high_is run g (srlgs c) (link_rows sets)) }
 
       whole_room : 0 + length whole ≤ length d
       whole_room = omega arith
 
-      pub low-asks : Opens places d 0 × IsSet sets s × (c < length classes) × (g ≡ slot_grid sets s) × (length low ≤ length d)
-      low-asks = (was, of_s, of_c, eg, omega (arith, first-room d 0 parts whole_room))
+      pub low-asks : Opens places d 0 × IsSet sets s × (c < length classes) × (length low ≤ length d)
+      low-asks = (was, of_s, of_c, omega (arith, first-room d 0 parts whole_room))
 
       module _ {places' o : List ℕ} {r : ℕ} (stay : length places' ≡ length places) (kept : length o ≡ length d) (w : Written srlgs d 0 low r places' o) where
         pub aslas-asks : Opens places' o r × Entered sets classes groups × (first ≤ 1) × (r + length aslas ≤ length o)
         aslas-asks = (open-on ok was stay w.1, entered, few, second-room d 0 parts whole_room kept w.0)
 
         module _ {places'' p : List ℕ} {q : ℕ} (still : length p ≡ length o) (v : Written srlgs o r aslas q places'' p) where
-          pub last-asks : Fits run g × Among grid_codes 1173 × (q + length (one g 1173) ≤ length p)
-          last-asks = (fits-top, last_code, third-room d 0 parts whole_room kept w.0 still v.0)
+          pub last-asks : (s < length sets) × Fits run g × Among grid_codes 1173 × (q + length (one g 1173) ≤ length p)
+          last-asks = (of_s.inside, fits-top, last_code, third-room d 0 parts whole_room kept w.0 still v.0)
 
           pub whole-written : {t : ℕ} {e : List ℕ} → Wrote p q (one g 1173) t e → (t ≡ length whole) × (e ≡ put d 0 whole)
           whole-written u = let z = three-write d 0 parts whole_room kept w.0 still v.0 u in (omega (arith, z.0), z.1)

@@ -1,4 +1,5 @@
 -- Laws of sizes: of a row, of the link's bandwidths, and of entries in turn. Assumes nothing.
+use Rattle.std.specs.Prelude.{Some, None}
 use Prim.Native.Nat.{ℕ, suc, ◌+◌, ◌-◌, ◌≤◌, ◌<◌}
 use mathlib.Core.Path.{◌≡◌, refl, sym, ◌∙◌, ap, ap₂}
 use mathlib.Core.Bool.{Bool, true, false, cond}
@@ -7,42 +8,32 @@ use native.Mathlib.Numerals.{add-one}
 use native.Mathlib.Omega.{arith}
 use borrow.Author.Tests.{eq-eqb, ne_eqb}
 use lib.Dec.{eqb}
-use lib.ListN.{length, get_or}
+use lib.ListN.{length, get_or, take, drop, length-drop}
+use lib.Seq.{get_or-take, get_or-drop, length-take-le}
 use Rattle.linkstate.specs.Limits.{most_numbers}
 use Rattle.tlv_bytes.specs.Tlvs.{value_size}
 use Rattle.set_bytes.specs.Standing.{count_in}
 use Rattle.grids.specs.Grids.{row_read}
 use Rattle.grids.specs.Slots.{cell, cell_row}
-use Rattle.grids.specs.declared.Row.TheVariants.{Present, Absent}
-use Rattle.grids.proofs.Laws.{row_is}
+use Rattle.octets.specs.declared.Span.{Span}
+use Rattle.grids.proofs.Laws.{row_is, row-none}
 use Rattle.export_bytes.specs.Sizes.{asla_of, set_size, row_size, link_size, first_entry, sum_from, Measurable}
 use Rattle.export_bytes.specs.declared.Asla.{Asla}
 
 -- ---- rows
 
 module _ (r : List ℕ) where
-  pub size_none : row_read r ≡ Absent → row_size r ≡ 0
+  pub size_none : row_read r ≡ None → row_size r ≡ 0
   unfolding row_size
-  size_none e = go (eqb (get_or r 1 0) 0) e
-    where
-      go : (b : Bool) → cond b Absent (Present (get_or r 0 0) (get_or r 1 0)) ≡ Absent → cond b 0 (value_size (get_or r 1 0)) ≡ 0
-      go true e = refl
-      go false e = let z : ◌≡◌ {A = ℕ} 0 1 = cc in absurd (omega arith)
+  size_none e = rw (row-none r e) refl
 
-  pub size-some : (p n : ℕ) → row_read r ≡ Present p n → row_size r ≡ value_size n
+  pub size-some : (v : Span) → row_read r ≡ Some v → row_size r ≡ value_size v.len
   unfolding row_size
-  size-some p n e = let s = row_is r p n e in rw (ne_eqb (get_or r 1 0) 0 (λ z. omega arith)) (ap value_size (sym s.1))
+  size-some v e = let s = row_is r v e in rw (ne_eqb (get_or r 1 0) 0 (λ z. omega arith)) (ap value_size (sym s.1))
 
-module _ (sets : List (List ℕ)) (k total : ℕ) (is : total ≡ link_size sets k) (r : List ℕ) (here : r ≡ cell_row (cell sets 2 k)) where
-  link-one : (x : ℕ) → row_size r ≡ x → total + x ≡ link_size sets (k + 1)
-  unfolding link_size
-  link-one x e = rw (add-one k) (omega (arith, ap row_size here))
-
-  pub link-none : row_read r ≡ Absent → total ≡ link_size sets (k + 1)
-  link-none e = let f = link-one 0 (size_none r e) in omega arith
-
-  pub link-some : (p n x : ℕ) → row_read r ≡ Present p n → x ≡ value_size n → total + x ≡ link_size sets (k + 1)
-  link-some p n x e f = link-one x (size-some r p n e ∙ sym f)
+pub link-next : (sets : List (List ℕ)) (k total x : ℕ) → total ≡ link_size sets k → x ≡ row_size (cell_row (cell sets 2 k)) → total + x ≡ link_size sets (k + 1)
+unfolding link_size
+link-next sets k total x is e = rw (add-one k) (omega arith)
 
 pub link_start : (sets : List (List ℕ)) → 0 ≡ link_size sets 0
 unfolding link_size
@@ -53,17 +44,24 @@ link_start sets = refl
 pub asla-read : (h : List ℕ) (s c : ℕ) → s ≡ (asla_of h).slot → c ≡ (asla_of h).class → ◌≡◌ {A = Asla} (record { members = record { standard = get_or h 0 0; user = get_or h 1 0 }; slot = s; class = c }) (asla_of h)
 asla-read h s c e f = ap₂ (λ (x y : ℕ). record { members = record { standard = get_or h 0 0; user = get_or h 1 0 }; slot = x; class = y }) e f
 
-module _ (f : ℕ → ℕ) (from : ℕ) where
-  pub sum-start : 0 ≡ sum_from f from (from - from)
-  unfolding sum_from
-  sum-start = let e : from - from ≡ 0 = omega arith in rw e
+pub sum-next : (f : ℕ → ℕ) (from i total x : ℕ) → total ≡ sum_from f from i → x ≡ f (from + i) → total + x ≡ sum_from f from (i + 1)
+unfolding sum_from
+sum-next f from i total x e g = rw (add-one i) (ap₂ (λ (y z : ℕ). y + z) e g)
 
-  pub sum-next : (i total x : ℕ) → from ≤ i → total ≡ sum_from f from (i - from) → x ≡ f i → total + x ≡ sum_from f from (i + 1 - from)
-  unfolding sum_from
-  sum-next i total x h e g =
-      let a : i + 1 - from ≡ suc (i - from) = omega arith in
-      let b : from + (i - from) ≡ i = omega arith in
-      rw (a, b) (ap₂ (λ (y z : ℕ). y + z) e g)
+pub sum-start : (f : ℕ → ℕ) (from : ℕ) → 0 ≡ sum_from f from 0
+unfolding sum_from
+sum-start f from = refl
+
+-- An entry from one on.
+module _ (groups : List (List ℕ)) (first : ℕ) where
+  abbrev pub from_first : List (List ℕ)
+  from_first = take (length groups - first) (drop first groups)
+
+  pub length_from : first ≤ length groups → length from_first ≡ length groups - first
+  length_from h = length-take-le (length groups - first) (drop first groups) (omega (arith, length-drop first groups))
+
+  pub entry_from : (i : ℕ) → i < length groups - first → get_or from_first i [] ≡ get_or groups (first + i) []
+  entry_from i h = get_or-take (length groups - first) (drop first groups) i [] h ∙ get_or-drop first groups i []
 
 -- ---- the first entry, and the whole
 

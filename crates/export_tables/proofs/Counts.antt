@@ -2,24 +2,26 @@
 use mathlib.Core.Path.{◌≡◌, refl, sym, ap, ap₂, ◌∙◌}
 use mathlib.Core.Bool.{Bool, true, false, cond}
 use mathlib.Core.List.{List, [], ◌∷◌}
-use Prim.Native.Nat.{ℕ, zero, suc, ◌+◌, ◌-◌, ◌*◌, ◌/◌, ◌%◌, ◌≤◌, ◌<◌}
+use Prim.Native.Nat.{ℕ, zero, suc, ◌+◌, ◌-◌, ◌*◌, ◌/◌, ◌%◌, ◌^◌, ◌≤◌, ◌<◌}
+use native.Mathlib.Nat.{pow-suc}
 use native.Mathlib.Omega.{arith}
 use borrow.Author.Tests.{ltb-true, ltb-false}
 use lib.Dec.{ltb}
+use lib.Count.{ones, ones_step, ones-le}
 use lib.ListN.{length, get_or, length-append}
 use Rattle.linkstate.specs.Lists.{numbers, keep}
 use Rattle.linkstate.specs.Masks.{one, in_number}
 use Rattle.linkstate.proofs.ListLaws.{keep_append}
-use Rattle.linkstate.proofs.MaskLaws.{one-le}
 use Rattle.masks.specs.Sets.{turned_place}
 use Rattle.masks.specs.declared.Applications.{Applications}
 use Rattle.masks.specs.Applications.{in_set, at_place}
 use Rattle.masks.proofs.Sets.{place_set}
+use Rattle.masks.proofs.LowestBit.{half_in, even-in, odd-in}
 use Rattle.srlg_ranks.specs.Ranks.{in_words}
 use Rattle.srlg_table.specs.Blocks.{size_of}
 use Rattle.srlg_table.proofs.Sizes.{size_same}
 use Rattle.set_table.specs.Tables.{how_many}
-use Rattle.set_table.proofs.Assigns.{many-same, many-split}
+use Rattle.set_table.proofs.Assigns.{many-most, many-same, many-split}
 use Rattle.set_groups.specs.Table.{left}
 use Rattle.set_groups.proofs.Joined.{numbers-last}
 
@@ -36,10 +38,22 @@ unfolding how_many
 many_more p q zero h = omega arith
 many_more p q (suc k) h = omega (arith, many_more p q k (λ n l. h n (omega arith)), one_more (p k) (q k) (h k (omega arith)))
 
-many-most : (p : ℕ → Bool) (k : ℕ) → how_many p k ≤ k
+-- The bits of a number that are set.
+pub many-ones : (k m : ℕ) → m < 2 ^ k → ones m ≡ how_many (in_number m) k
 unfolding how_many one
-many-most p zero = omega arith
-many-most p (suc k) = omega (arith, many-most p k, one-le (p k))
+many-ones zero m h = omega (arith, ones-le 0 m h)
+many-ones (suc k) m h =
+    let e : suc k ≡ 1 + k = omega arith in
+    let z : m / 2 < 2 ^ k = omega (arith, pow-suc 2 k) in
+    ones_step m ∙ ap₂ (λ (x y : ℕ). x + y) (low (m % 2) refl) (many-ones k (m / 2) z ∙ many-same (in_number (m / 2)) (λ j. in_number m (1 + j)) k (λ j l. sym (upper j)))
+    ∙ sym (ap (how_many (in_number m)) e ∙ many-split (in_number m) 1 k)
+  where
+    upper : (j : ℕ) → in_number m (1 + j) ≡ in_number (m / 2) j
+    upper j = let e : 1 + j ≡ suc j = omega arith in rw e (half_in m j)
+
+    low : (d : ℕ) → m % 2 ≡ d → m % 2 ≡ how_many (in_number m) 1
+    low zero e = rw (even-in m e) e
+    low (suc d) e = rw (odd-in m d e) (omega arith)
 
 -- ---- in lists
 

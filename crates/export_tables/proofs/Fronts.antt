@@ -3,7 +3,7 @@ use mathlib.Core.Path.{◌≡◌, sym, ap, ◌∙◌, subst}
 use mathlib.Core.List.{List, []}
 use Prim.Native.Nat.{ℕ, ◌-◌, ◌≤◌, ◌<◌}
 use native.Mathlib.Omega.{arith}
-use lib.ListN.{length, get_or, set, take, drop, length-set}
+use lib.ListN.{length, get_or, set, take, length-set}
 use lib.Seq.{length-take-le, get_or-take, get_or-set_same, get_or-set_other}
 use Rattle.linkstate.specs.Lists.{numbers}
 use Rattle.linkstate.proofs.ListLaws.{map-ext, numbers-mem}
@@ -11,11 +11,6 @@ use Rattle.srlg_sources.specs.Classes.{Class, class_numbers, Classed}
 use Rattle.set_bytes.specs.Standing.{numbers_in, Classes}
 use Rattle.srlg_classes.specs.Sided.{Has}
 use Rattle.set_groups.specs.Table.{entry_group, table_groups, Differ}
-
--- ---- the front of a list
-
-pub front-is : {A : Type 0} (n : ℕ) (xs : List A) → take (n - 0) (drop 0 xs) ≡ take n xs
-front-is n xs = let e : n - 0 ≡ n = omega arith in rw e
 
 -- ---- the counted classes
 

@@ -1,11 +1,12 @@
 -- Laws of rows, of grids, and of the slots that they are read from. Assumes nothing.
+use Rattle.std.specs.Prelude.{Option, Some, None}
 use Prim.Native.Nat.{ℕ, zero, suc, ◌+◌, ◌≤◌, ◌<◌}
-use mathlib.Core.Path.{◌≡◌, refl, sym, ◌∙◌, ap}
+use mathlib.Core.Path.{◌≡◌, refl, sym, ◌∙◌, ap, ap₂}
 use mathlib.Core.Bool.{Bool, true, false, cond, ◌&&◌}
 use mathlib.Core.List.{List, [], ◌∷◌, ◌++◌, map}
 use lib.Dec.{eqb}
-use lib.ListN.{length, get_or, set, drop, drop_of_length-le}
-use lib.Seq.{drop-cons, get_or-set_same, get_or-set_other, ext_get_or}
+use lib.ListN.{length, get_or, take, drop, drop_of_length-le}
+use lib.Seq.{drop-cons, get_or-take, ext_get_or}
 use native.Mathlib.Omega.{arith}
 use native.Mathlib.Numerals.{add-one}
 use borrow.Author.Tests.{eq-eqb, eqb-true, eqb-false}
@@ -14,34 +15,41 @@ use Rattle.linkstate.specs.Bytes.{bytes_at}
 use Rattle.linkstate.proofs.ListLaws.{and_l, and_r}
 use Rattle.kinds.specs.Rules.{grid_codes, row_in}
 use Rattle.kinds.proofs.Computing.{computing}
-use Rattle.masks.proofs.Laws.{below_suc}
-use Rattle.octets.proofs.Laws.{same-lengths}
+use Rattle.octets.proofs.Laws.{same-lengths, length-bytes_at}
 use Rattle.tlv_bytes.specs.Tlvs.{front, value_at}
 use Rattle.tlv_bytes.proofs.Laws.{length-value, value_none, front-three, front-none}
 use Rattle.grids.specs.Grids.{row_value, grid_value, RowFits, Alike, row_read}
 use Rattle.grids.specs.Slots.{cell, cell_row, slot_grid}
-use Rattle.grids.specs.declared.Row.TheVariants.{Present, Absent}
+use Rattle.octets.specs.declared.Span.{Span}
 
 -- ---- rows
 
 module _ (r : List ℕ) where
   -- A row that is there: its place and length, which is not 0.
-  pub row_is : (p n : ℕ) → row_read r ≡ Present p n → (p ≡ get_or r 0 0) × (n ≡ get_or r 1 0) × (0 < n)
-  row_is p n e = go (eqb (get_or r 1 0) 0) refl e
+  pub row_is : (v : Span) → row_read r ≡ Some v → (v.place ≡ get_or r 0 0) × (v.len ≡ get_or r 1 0) × (0 < v.len)
+  row_is v e = go (eqb (get_or r 1 0) 0) refl e
     where
-      go : (b : Bool) → eqb (get_or r 1 0) 0 ≡ b → cond b Absent (Present (get_or r 0 0) (get_or r 1 0)) ≡ Present p n → (p ≡ get_or r 0 0) × (n ≡ get_or r 1 0) × (0 < n)
-      go true t e = let z : ◌≡◌ {A = ℕ} 0 1 = cc in absurd (omega arith)
-      go false t e = let s : get_or r 0 0 ≡ p = cc in let u : get_or r 1 0 ≡ n = cc in let d = eqb-false (get_or r 1 0) 0 t in (sym s, sym u, omega arith)
+      go : (b : Bool) → eqb (get_or r 1 0) 0 ≡ b → cond b None (Some record { place = get_or r 0 0; len = get_or r 1 0 }) ≡ Some v → (v.place ≡ get_or r 0 0) × (v.len ≡ get_or r 1 0) × (0 < v.len)
+      go true t e = absurd cc
+      go false t e =
+          let f : record { place = get_or r 0 0; len = get_or r 1 0 } ≡ v = cc in
+          let d = eqb-false (get_or r 1 0) 0 t in
+          let n : v.len ≡ get_or r 1 0 = ap (λ (w : Span). w.len) (sym f) in
+          (ap (λ (w : Span). w.place) (sym f), n, omega arith)
 
-  pub row-present : (run : List ℕ) (p n : ℕ) → row_read r ≡ Present p n → row_value run r ≡ value_at run p n
-  row-present run p n e = let s = row_is p n e in cc
+  pub row-present : (run : List ℕ) (v : Span) → row_read r ≡ Some v → row_value run r ≡ value_at run v.place v.len
+  row-present run v e = let s = row_is v e in cc
 
-  pub row-absent : (run : List ℕ) → row_read r ≡ Absent → row_value run r ≡ []
-  row-absent run e = value_none run (get_or r 0 0) (get_or r 1 0) (go (eqb (get_or r 1 0) 0) refl e)
+  -- One that is absent has no length.
+  pub row-none : row_read r ≡ None → get_or r 1 0 ≡ 0
+  row-none e = go (eqb (get_or r 1 0) 0) refl e
     where
-      go : (b : Bool) → eqb (get_or r 1 0) 0 ≡ b → cond b Absent (Present (get_or r 0 0) (get_or r 1 0)) ≡ Absent → get_or r 1 0 ≡ 0
+      go : (b : Bool) → eqb (get_or r 1 0) 0 ≡ b → cond {A = Option Span} b None (Some record { place = get_or r 0 0; len = get_or r 1 0 }) ≡ None → get_or r 1 0 ≡ 0
       go true t e = eqb-true (get_or r 1 0) 0 t
-      go false t e = let z : ◌≡◌ {A = ℕ} 0 1 = cc in absurd (omega arith)
+      go false t e = absurd cc
+
+  pub row-absent : (run : List ℕ) → row_read r ≡ None → row_value run r ≡ []
+  row-absent run e = value_none run (get_or r 0 0) (get_or r 1 0) (row-none e)
 
 -- ---- equal values
 
@@ -78,11 +86,26 @@ module _ (run x y : List ℕ) (f : RowFits run x) (g : RowFits run y) (alike : A
       lengths_differ (get_or x 1 0) (get_or y 1 0) d alike.0 alike.1
       (sym (length-value run (get_or x 0 0) (get_or x 1 0) f.within) ∙ z ∙ length-value run (get_or y 0 0) (get_or y 1 0) g.within))
 
-  pub rows-bytes : (r : Bool) → get_or x 1 0 ≡ get_or y 1 0 → r ≡ same_bytes (bytes_at run (get_or x 0 0) (get_or x 1 0)) (bytes_at run (get_or y 0 0) (get_or x 1 0)) → r ≡ same_bytes (row_value run x) (row_value run y)
+  rows-bytes : (r : Bool) → get_or x 1 0 ≡ get_or y 1 0 → r ≡ same_bytes (bytes_at run (get_or x 0 0) (get_or x 1 0)) (bytes_at run (get_or y 0 0) (get_or x 1 0)) → r ≡ same_bytes (row_value run x) (row_value run y)
   unfolding value_at
   rows-bytes r e is =
       is ∙ sym (same-front (front (get_or x 1 0)) (bytes_at run (get_or x 0 0) (get_or x 1 0)) (bytes_at run (get_or y 0 0) (get_or x 1 0)))
       ∙ ap (λ (n : ℕ). same_bytes (row_value run x) (front n ++ bytes_at run (get_or y 0 0) n)) e
+
+  pub rows-say : (r : Bool) → r ≡ same_bytes (bytes_at run (get_or x 0 0) (get_or x 1 0)) (bytes_at run (get_or y 0 0) (get_or y 1 0)) → r ≡ same_bytes (row_value run x) (row_value run y)
+  rows-say r is = go (eqb (get_or x 1 0) (get_or y 1 0)) refl
+    where
+      go : (b : Bool) → eqb (get_or x 1 0) (get_or y 1 0) ≡ b → r ≡ same_bytes (row_value run x) (row_value run y)
+      go true e = let n = eqb-true (get_or x 1 0) (get_or y 1 0) e in rows-bytes r n (is ∙ ap (λ (m : ℕ). same_bytes (bytes_at run (get_or x 0 0) (get_or x 1 0)) (bytes_at run (get_or y 0 0) m)) (sym n))
+      go false e =
+          let d = eqb-false (get_or x 1 0) (get_or y 1 0) e in
+          is ∙ sym (same-lengths (bytes_at run (get_or x 0 0) (get_or x 1 0)) (bytes_at run (get_or y 0 0) (get_or y 1 0)) (λ z. d (sym (length-bytes_at run (get_or x 0 0) (get_or x 1 0) f.within) ∙ z ∙ length-bytes_at run (get_or y 0 0) (get_or y 1 0) g.within)))
+          ∙ rows-differ d
+
+-- Two that are absent are the same.
+pub none-say : (run x y : List ℕ) → get_or x 1 0 ≡ 0 → get_or y 1 0 ≡ 0 → true ≡ same_bytes (row_value run x) (row_value run y)
+unfolding same_bytes
+none-say run x y e f = rw (value_none run (get_or x 0 0) (get_or x 1 0) e, value_none run (get_or y 0 0) (get_or y 1 0) f)
 
 -- ---- grids
 
@@ -145,28 +168,37 @@ pub length-slot : (sets : List (List ℕ)) (s : ℕ) → length (slot_grid sets 
 unfolding slot_grid numbers
 length-slot sets s = refl
 
--- Rows of a grid that is filled, one by one.
-module _ (sets : List (List ℕ)) (s k : ℕ) (g : List (List ℕ)) (ten-rows : length g ≡ 10) where
-  pub fill-next : ((j : ℕ) → j < k → get_or g j [] ≡ cell_row (cell sets s j)) → k < 10 → (r : List ℕ) → r ≡ cell_row (cell sets s k) → (j : ℕ) → j < k + 1 → get_or (set g k r) j [] ≡ cell_row (cell sets s j)
-  fill-next all h r e j l = go (eqb j k) refl
-    where
-      go : (b : Bool) → eqb j k ≡ b → get_or (set g k r) j [] ≡ cell_row (cell sets s j)
-      go true t = rw (eqb-true j k t) (get_or-set_same g k r [] (omega arith) ∙ e)
-      go false t = let d = eqb-false j k t in get_or-set_other g k j r [] d ∙ all j (omega arith)
-
-  pub fill_end : ((j : ℕ) → j < k → get_or g j [] ≡ cell_row (cell sets s j)) → 10 ≤ k → g ≡ slot_grid sets s
-  fill_end all h =
-      ext_get_or [] g (slot_grid sets s) (ten-rows ∙ sym (length-slot sets s)) (λ i l. all i (omega arith) ∙ sym (slot_row sets s i (omega arith)))
-
--- Slots with the same cells have the same grid.
-abbrev pub Same : List ℕ → List ℕ → ℕ → Type 0
-Same x y k = (j : ℕ) → j < k → get_or x j 0 ≡ get_or y j 0
-
-pub cells-next : (x y : List ℕ) (same : Bool) (k : ℕ) → (same ≡ true → Same x y k) → same && eqb (get_or x k 0) (get_or y k 0) ≡ true → Same x y (k + 1)
-cells-next x y same k all e = rw (add-one k) (below_suc (λ (j : ℕ). get_or x j 0 ≡ get_or y j 0) k (all (and_l same _ e)) (eqb-true (get_or x k 0) (get_or y k 0) (and_r same _ e)))
-
-pub cells-end : (sets : List (List ℕ)) (s t k : ℕ) → Same (get_or sets s []) (get_or sets t []) k → 10 ≤ k → slot_grid sets s ≡ slot_grid sets t
-cells-end sets s t k all h =
+-- Slots whose ten cells are the same have the same grid.
+pub cells-grid : (sets : List (List ℕ)) (s t : ℕ) → take 10 (get_or sets s []) ≡ take 10 (get_or sets t []) → slot_grid sets s ≡ slot_grid sets t
+cells-grid sets s t e =
     ext_get_or [] (slot_grid sets s) (slot_grid sets t) (length-slot sets s ∙ sym (length-slot sets t)) (λ i l.
     let b : i < 10 = omega (arith, length-slot sets s) in
-    slot_row sets s i b ∙ ap cell_row (all i (omega arith)) ∙ sym (slot_row sets t i b))
+    slot_row sets s i b ∙ ap cell_row (sym (get_or-take 10 (get_or sets s []) i 0 b) ∙ ap (λ (r : List ℕ). get_or r i 0) e ∙ get_or-take 10 (get_or sets t []) i 0 b) ∙ sym (slot_row sets t i b))
+
+-- Two lists, of which the rests are left: the same, if all that were passed are and the rests are.
+pub record Passed (x y : List ℕ) (same : Bool) (xs ys : List ℕ) : Type 0 where
+  pub lengths : length xs ≡ length ys
+  pub tells : same ≡ true → xs ≡ ys → x ≡ y
+
+pub passed-start : (x y : List ℕ) → length x ≡ length y → Passed x y true x y
+passed-start x y h = record { lengths = h; tells = λ t e. e }
+
+pub passed-next : {x y : List ℕ} {same : Bool} {xs ys xs' ys' : List ℕ} {a b : ℕ} → xs ≡ a ∷ xs' → ys ≡ b ∷ ys' → Passed x y same xs ys → Passed x y (same && eqb a b) xs' ys'
+passed-next {same = same} {a = a} {b = b} e f p = record {
+  lengths = omega (arith, ap length e, ap length f, p.lengths);
+  tells = λ t h. p.tells (and_l same (eqb a b) t) (e ∙ ap₂ (λ (i : ℕ) (l : List ℕ). i ∷ l) (eqb-true a b (and_r same (eqb a b) t)) h ∙ sym f);
+}
+
+pub passed-end : {x y : List ℕ} {same : Bool} {xs ys : List ℕ} → Passed x y same xs ys → same ≡ true → (xs ≡ []) × (ys ≡ []) → x ≡ y
+passed-end p t e = p.tells t (e.0 ∙ sym e.1)
+
+-- A slot's cell as the code takes it, by its row of the grid.
+module _ (sets : List (List ℕ)) (s k : ℕ) (h : k < 10) where
+  abbrev pub slot-row : List ℕ
+  slot-row = get_or (slot_grid sets s) k []
+
+  pub slot-some : (v : Span) → Some v ≡ row_read (cell_row (cell sets s k)) → (v.place ≡ get_or slot-row 0 0) × (v.len ≡ get_or slot-row 1 0) × (0 < v.len)
+  slot-some v e = row_is slot-row v (ap row_read (slot_row sets s k h) ∙ sym e)
+
+  pub slot-none : None ≡ row_read (cell_row (cell sets s k)) → get_or slot-row 1 0 ≡ 0
+  slot-none e = row-none slot-row (ap row_read (slot_row sets s k h) ∙ sym e)

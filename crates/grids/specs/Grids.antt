@@ -1,12 +1,11 @@
 -- A set as a grid over a run, one row per kind, of place and length or absent (rules K2, W7), and the values that it stands for.
-use Rattle.std.specs.Prelude.{◌≡◌, cond, List, [], ℕ, ◌+◌, ◌≤◌, eqb, length, get_or}
+use Rattle.std.specs.Prelude.{◌≡◌, Option, Some, None, cond, List, [], ℕ, ◌+◌, ◌≤◌, eqb, length, get_or}
 use Rattle.linkstate.specs.Limits.{most_bytes}
 use Rattle.linkstate.specs.Bytes.{bytes_of_words}
 use Rattle.linkstate.specs.Kinds.{link_codes, is_link_code}
 use Rattle.kinds.specs.Rules.{grid_codes, row_in}
 use Rattle.tlv_bytes.specs.Tlvs.{value_at}
-use Rattle.grids.specs.declared.Row.{Row}
-use Rattle.grids.specs.declared.Row.TheVariants.{Present, Absent}
+use Rattle.octets.specs.declared.Span.{Span}
 
 -- W7. The value of a row; none where the row is absent, which has no length.
 abbrev pub row_value : List ℕ → List ℕ → List ℕ
@@ -41,5 +40,5 @@ abbrev pub Alike : List ℕ → List ℕ → Type 0
 Alike x y = (get_or x 1 0 ≡ 3 → get_or y 1 0 ≡ 4 → ⊥) × (get_or x 1 0 ≡ 4 → get_or y 1 0 ≡ 3 → ⊥)
 
 -- A row as the code takes it.
-abbrev pub row_read : List ℕ → Row
-row_read r = cond (eqb (get_or r 1 0) 0) Absent (Present (get_or r 0 0) (get_or r 1 0))
+abbrev pub row_read : List ℕ → Option Span
+row_read r = cond (eqb (get_or r 1 0) 0) None (Some record { place = get_or r 0 0; len = get_or r 1 0 })

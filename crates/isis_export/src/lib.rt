@@ -16,6 +16,7 @@ ghost use Rattle.isis_export.specs.Answers.{export_length, accepted_link, answer
 ghost use Rattle.isis_export.specs.Stages.{PassedA, Passed, Joined, ReadyFor, AnswersAll, Unowned, Roomy};
 
 use export_tables::Plan;
+use grids::Sets;
 use isis_check::{LinkChecked, Sides};
 use masks::Applications;
 use replies::Written;
@@ -103,7 +104,15 @@ fn export_with(
         measuring: n.measuring,
     };
     export_tables::export_rows(
-        a, t, rows, values, sets, &mut own, classes, groups, places, out,
+        Sets { run: a, rows: sets },
+        t,
+        rows,
+        values,
+        &mut own,
+        classes,
+        groups,
+        places,
+        out,
     )
 }
 

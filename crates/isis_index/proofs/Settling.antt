@@ -1,4 +1,5 @@
 -- What is done when run A has been walked: the link's bandwidths, and legacy's values and slot for others. Assumes nothing.
+use Rattle.std.specs.Prelude.{Some, None}
 use mathlib.Core.Path.{◌≡◌, refl, sym, ap, ap₂, ◌∙◌, subst}
 use mathlib.Core.Bool.{Bool, true, false, cond, ◌&&◌, ◌||◌, and-false}
 use mathlib.Core.List.{List}
@@ -11,7 +12,10 @@ use lib.Dec.{eqb, ltb, leb}
 use lib.ListN.{length, get_or, set}
 use lib.Seq.{get_or-set_other}
 use Rattle.linkstate.specs.Masks.{in_number}
+use Rattle.octets.specs.declared.Span.{Span}
+use Rattle.grids.specs.Grids.{row_read}
 use Rattle.grids.specs.Slots.{cell, cell_row, IsSet}
+use Rattle.grids.proofs.Laws.{row_is, row-none}
 use Rattle.set_table.specs.Tables.{cell_of, first, CellFits, Table, Value, Given, only_at, has_place, Gave}
 use Rattle.masks.specs.declared.Applications.{Applications}
 use Rattle.masks.specs.Applications.{at_place}
@@ -40,31 +44,21 @@ module _ (row : List ℕ) (x : ℕ) (is : x ≡ first (get_or row 0 0) (get_or r
 
 -- ---- legacy's values for a slot
 
--- A cell as its row is read: absent, or a value of the run.
-module _ {run : List ℕ} {c : ℕ} (f : CellFits run c) (r : List ℕ) (is : r ≡ cell_row c) where
-  length-is : get_or r 1 0 ≡ c / 65536
-  length-is = ap (λ (x : List ℕ). get_or x 1 0) is
-
-  place_is : get_or r 0 0 ≡ c % 65536
-  place_is = ap (λ (x : List ℕ). get_or x 0 0) is
-
-  pub row-none : get_or r 1 0 ≡ 0 → c ≡ 0
-  row-none e = go (eqb c 0) refl
+-- A cell as it is read: none, or a value of the run.
+module _ {run : List ℕ} {c : ℕ} (f : CellFits run c) where
+  pub cell-none : row_read (cell_row c) ≡ None → c ≡ 0
+  cell-none e = go (eqb c 0) refl
     where
       go : (b : Bool) → eqb c 0 ≡ b → c ≡ 0
       go true i = eqb-true c 0 i
-      go false i = absurd (omega (arith, length-is, f.some (eqb-false c 0 i)))
+      go false i = absurd (omega (arith, row-none (cell_row c) e, f.some (eqb-false c 0 i)))
 
-  pub row-stands : (get_or r 1 0 ≡ 0 → ⊥) → Value run (get_or r 0 0) (get_or r 1 0)
-  row-stands n = record {
-    within = omega (arith, length-is, place_is, f.within);
-    low = omega (arith, place_is);
-    some = omega arith;
-    short = omega (arith, length-is, f.short);
-  }
+  module _ (v : Span) (e : row_read (cell_row c) ≡ Some v) where
+    pub cell-stands : Value run v.place v.len
+    cell-stands = let r = row_is (cell_row c) v e in record { within = omega (arith, r, f.within); low = omega (arith, r); some = r.2; short = omega (arith, r, f.short) }
 
-  pub row-cell : cell_of (get_or r 0 0) (get_or r 1 0) ≡ c
-  row-cell = omega (arith, length-is, place_is)
+    pub cell-back : cell_of v.place v.len ≡ c
+    cell-back = let r = row_is (cell_row c) v e in omega (arith, r)
 
 -- Nothing for a slot.
 pub nothing-given : (table : List (List ℕ)) (s k c : ℕ) → c ≡ 0 → Given table table (only_at s k c)

@@ -26,7 +26,7 @@ fn enter_legacy(a: &[u8], sets: &mut [[u32; 12]], t: u8, place: usize, n: usize)
     requires { Table a.now sets.old × (3 ≤ length sets.old) × Right a.now t place n }
     ensures { (v : List ℕ) → Took a.now sets.old sets.new from_legacy (attribute_at t place n v ∷ []) }
 {
-    let rule = isis_kinds::classify_type(t);
+    let rule = isis_kinds::classify_type(t as usize);
     let kind = rule.kind;
     match kind {
         Kind::Link(k) => set_table::enter_link(sets, k, place, n),
@@ -42,7 +42,7 @@ fn enter_general(a: &[u8], sets: &mut [[u32; 12]], t: u8, place: usize, n: usize
     requires { Table a.now sets.old × (3 ≤ length sets.old) × Right a.now t place n }
     ensures { (v : List ℕ) → Took a.now sets.old sets.new heard_by_all (attribute_at t place n v ∷ []) }
 {
-    let rule = isis_kinds::classify_type(t);
+    let rule = isis_kinds::classify_type(t as usize);
     let kind = rule.kind;
     match kind {
         Kind::Link(k) => {
@@ -71,7 +71,7 @@ fn enter_for(
     requires { Ready a.now own.now sets.old have.old × Right a.now t place n × Within who (owning own.now) }
     ensures { (v : List ℕ) → TookFor a.now own.now sets.old have.old sets.new have.new (heard who) (attribute_at t place n v ∷ []) }
 {
-    let rule = isis_kinds::classify_type(t);
+    let rule = isis_kinds::classify_type(t as usize);
     let kind = rule.kind;
     match kind {
         Kind::Link(k) => {
@@ -239,12 +239,10 @@ fn add_old(a: &[u8], sets: &mut [[u32; 12]], s: usize, k: usize)
     requires { Table a.now sets.old × (1 < length sets.old) × IsSet sets.old s × (k < 10) }
     ensures { Table a.now sets.new × Given sets.old sets.new (only_at s k (cell sets.old 1 k)) }
 {
-    let row = grids::row_at(sets, 1, k);
-    let n = row[1];
-    if n == 0 {
+    let Some(v) = grids::value_at(sets, 1, k) else {
         return;
-    }
-    set_table::enter_one(a, sets, s, k, row[0], n);
+    };
+    set_table::enter_one(a, sets, s, k, v.place, v.len);
 }
 
 // Legacy's values for a slot, of the kinds that it lacks.
@@ -275,8 +273,8 @@ fn rsvp_te_slot(
     requires { Table a.now sets.old × (1 < length sets.old) × (in_set named.named 0 ≡ true → IsSet sets.old (slot_at own.now 7)) }
     ensures { (result ≡ rsvp_te_slot named legacy own.now) × Table a.now sets.new × Given sets.old sets.new (from_old sets.old (filled_slot named legacy own.now)) }
 {
-    let l = rules::is_named_with_l(named, 0);
-    let n = rules::is_named(named, 0);
+    let l = named.is_named_with_l(0);
+    let n = named.is_named(0);
     match rules::rsvp_te_rule(l, n, legacy) {
         Rule::NamingFirst => {
             let s = wide(own[7][0]);
@@ -303,7 +301,7 @@ fn walk_and_settle(a: &[u8], named: Names, sets: &mut [[u32; 12]], own: &[[u8; 2
     ensures { Settled a.now own.now sets.old sets.new (in_set named.flagged 0) }
 {
     walk(a, sets, own);
-    settle(sets, rules::is_named_with_l(named, 0));
+    settle(sets, named.is_named_with_l(0));
 }
 
 // Run A, accepted, whose applications have their slots and of whose legacy it is known whether it has a value: the table of its sets, and the slot of every subject. The answer is the slot of RSVP-TE's set.

@@ -1,4 +1,5 @@
 -- Laws of the TLVs of a set, piece by piece: of one kind by its row, of kinds in turn, and of three pieces with the SRLGs of a class among them. Assumes nothing.
+use Rattle.std.specs.Prelude.{Some, None}
 use Prim.Native.Nat.{ℕ, zero, suc, ◌+◌, ◌-◌, ◌≤◌, ◌<◌}
 use mathlib.Core.Path.{◌≡◌, refl, sym, ◌∙◌, ap, ap₂}
 use mathlib.Core.Bool.{Bool, true, false, cond}
@@ -16,9 +17,9 @@ use Rattle.kinds.proofs.Computing.{computing}
 use Rattle.tlv_bytes.specs.Tlvs.{in_tlvs, value_at, value_size, Wrote}
 use Rattle.tlv_bytes.proofs.Laws.{tlvs-none, tlvs-append, tlv-absent, tlv-present, tlvs-same, in_three, length-value, size-value, no_write, same_write, behind-room, behind-write, Three, length_three, first-room, third-room}
 use Rattle.grids.specs.Grids.{row_value, grid_value, set_of, bandwidth_of, top_of, RowFits, Fits, row_read}
-use Rattle.grids.specs.Slots.{link_rows, cell, cell_row}
-use Rattle.grids.specs.declared.Row.TheVariants.{Present, Absent}
-use Rattle.grids.proofs.Laws.{row_is, row-present, row-absent, ten, grid-at, row-numbers}
+use Rattle.grids.specs.Slots.{slot_grid, link_rows, cell, cell_row}
+use Rattle.octets.specs.declared.Span.{Span}
+use Rattle.grids.proofs.Laws.{row_is, row-present, row-absent, ten, grid-at, row-numbers, slot_row}
 use Rattle.set_bytes.specs.Standing.{srlg_tlv, Standing}
 use Rattle.set_bytes.proofs.SrlgLaws.{standing_on}
 use Rattle.set_bytes.specs.Sets.{low_codes, high_codes, extended_codes, middle_codes, Among}
@@ -104,37 +105,55 @@ module _ (run : List ℕ) (sets : List (List ℕ)) where
   unfolding link_rows
   link_at k h = let z : 0 + k ≡ k = omega arith in row-numbers (λ j. cell_row (cell sets 2 j)) 3 0 k h ∙ ap (λ (j : ℕ). cell_row (cell sets 2 j)) z
 
-  pub link-kind : (c k : ℕ) → k < length link_codes → c ≡ get_or link_codes k 0 → (r : List ℕ) → r ≡ cell_row (cell sets 2 k) → bandwidth_of run (link_rows sets) c ≡ row_value run r
+  pub link-kind : (c k : ℕ) → k < length link_codes → c ≡ get_or link_codes k 0 → bandwidth_of run (link_rows sets) c ≡ row_value run (cell_row (cell sets 2 k))
   unfolding bandwidth_of
-  link-kind c k h e r is =
+  link-kind c k h e =
       let l : k < 3 = omega (arith, three-codes) in
-      ap (bandwidth_of run (link_rows sets)) e ∙ ap (λ (j : ℕ). row_value run (get_or (link_rows sets) j [])) (link_row k l) ∙ ap (row_value run) (link_at k l ∙ sym is)
+      ap (bandwidth_of run (link_rows sets)) e ∙ ap (λ (j : ℕ). row_value run (get_or (link_rows sets) j [])) (link_row k l) ∙ ap (row_value run) (link_at k l)
 
-  pub link_fits : (k : ℕ) → k < length link_codes → Fits run (link_rows sets) → (r : List ℕ) → r ≡ cell_row (cell sets 2 k) → RowFits run r
-  link_fits k h fits r is = rw (is ∙ sym (link_at k (omega (arith, three-codes)))) (fits k)
+  pub link_fits : (k : ℕ) → k < length link_codes → Fits run (link_rows sets) → RowFits run (cell_row (cell sets 2 k))
+  link_fits k h fits = rw (sym (link_at k (omega (arith, three-codes)))) (fits k)
 
-module _ (run r : List ℕ) (f : ℕ → List ℕ) (c : ℕ) (is : f c ≡ row_value run r) where
-  pub kind-none : row_read r ≡ Absent → in_tlvs f (c ∷ []) ≡ []
-  kind-none e = tlv-absent f c (is ∙ row-absent r run e)
+  -- The same of a slot's kinds.
+  module _ (s : ℕ) where
+    pub slot-kind : (c k : ℕ) → k < length grid_codes → c ≡ get_or grid_codes k 0 → grid_value run (slot_grid sets s) c ≡ row_value run (cell_row (cell sets s k))
+    slot-kind c k h e = grid-kind run (slot_grid sets s) c k h e ∙ ap (row_value run) (slot_row sets s k (omega (arith, ten)))
 
-  module _ (p n : ℕ) (e : row_read r ≡ Present p n) (fits : RowFits run r) where
-    pub kind_fits : (p + n ≤ length run) × (n < 65536)
-    kind_fits = let s = row_is r p n e in let w = fits.within in let h = fits.short in (omega arith, omega arith)
+    pub slot_fits : (k : ℕ) → k < length grid_codes → Fits run (slot_grid sets s) → RowFits run (cell_row (cell sets s k))
+    slot_fits k h fits = rw (sym (slot_row sets s k (omega (arith, ten)))) (fits k)
 
-    pub kind-some : (t : ℕ) → t ≡ c → bytes_of (tlv t (value_at run p n)) ≡ in_tlvs f (c ∷ [])
-    kind-some t q =
-        let s = row_is r p n e in
-        ap (λ (x : ℕ). bytes_of (tlv x (value_at run p n))) q
-        ∙ sym (tlv-present f c (value_at run p n) (is ∙ row-present r run p n e) (omega (arith, length-value run p n kind_fits.0, s.2)))
+-- The TLV of a row's value, if it has one.
+module _ (run r : List ℕ) (c : ℕ) where
+  abbrev pub row_tlv : List ℕ
+  row_tlv = in_tlvs (λ _. row_value run r) (c ∷ [])
+
+  pub kind-none : row_read r ≡ None → row_tlv ≡ []
+  kind-none e = tlv-absent (λ _. row_value run r) c (row-absent r run e)
+
+  module _ (v : Span) (e : row_read r ≡ Some v) (fits : RowFits run r) where
+    pub kind_fits : (v.place + v.len ≤ length run) × (v.len < 65536)
+    kind_fits = let s = row_is r v e in let w = fits.within in let h = fits.short in (omega arith, omega arith)
+
+    pub kind-some : bytes_of (tlv c (value_at run v.place v.len)) ≡ row_tlv
+    kind-some =
+        let s = row_is r v e in
+        sym (tlv-present (λ _. row_value run r) c (value_at run v.place v.len) (row-present r run v e) (omega (arith, length-value run v.place v.len kind_fits.0, s.2)))
+
+  -- It is the TLV of a kind of that value.
+  pub kind-tlv : (f : ℕ → List ℕ) (k : ℕ) → f k ≡ row_value run r → c ≡ k → row_tlv ≡ in_tlvs f (k ∷ [])
+  kind-tlv f k is e = ap (λ (i : ℕ). in_tlvs (λ _. row_value run r) (i ∷ [])) e ∙ sym (tlvs-same f (λ _. row_value run r) (k ∷ []) (ap (λ (v : List ℕ). v ∷ []) is))
 
 -- How many bytes the TLV of a kind has, by its row.
 pub kind-size : (run r : List ℕ) (f : ℕ → List ℕ) (c : ℕ) → f c ≡ row_value run r → RowFits run r → length (in_tlvs f (c ∷ [])) ≡ cond (eqb (get_or r 1 0) 0) 0 (value_size (get_or r 1 0))
-kind-size run r f c is fits = go (eqb (get_or r 1 0) 0) refl
+kind-size run r f c is fits = ap length (sym (kind-tlv run r c f c is refl)) ∙ go (eqb (get_or r 1 0) 0) refl
   where
-    go : (b : Bool) → eqb (get_or r 1 0) 0 ≡ b → length (in_tlvs f (c ∷ [])) ≡ cond b 0 (value_size (get_or r 1 0))
-    go true e = ap length (kind-none run r f c is (ap (λ (b : Bool). cond b Absent (Present (get_or r 0 0) (get_or r 1 0))) e))
+    v : Span
+    v = record { place = get_or r 0 0; len = get_or r 1 0 }
+
+    go : (b : Bool) → eqb (get_or r 1 0) 0 ≡ b → length (row_tlv run r c) ≡ cond b 0 (value_size (get_or r 1 0))
+    go true e = ap length (kind-none run r c (ap (λ (b : Bool). cond b None (Some v)) e))
     go false e =
-        ap length (sym (kind-some run r f c is (get_or r 0 0) (get_or r 1 0) (ap (λ (b : Bool). cond b Absent (Present (get_or r 0 0) (get_or r 1 0))) e) fits c refl))
+        ap length (sym (kind-some run r c v (ap (λ (b : Bool). cond b None (Some v)) e) fits))
         ∙ size-value run (get_or r 0 0) (get_or r 1 0) c fits.within
 
 -- ---- codes and their places

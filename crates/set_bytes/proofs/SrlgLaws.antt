@@ -1,4 +1,5 @@
 -- Laws of the SRLG TLV, of the numbers that a class's bits stand for, and of where the numbers of classes stand. Assumes nothing.
+use Rattle.std.specs.Prelude.{Some, None}
 use Prim.Native.Nat.{ℕ, suc, ◌+◌, ◌*◌, ◌/◌, ◌%◌, ◌≤◌, ◌<◌}
 use mathlib.Core.Path.{◌≡◌, refl, sym, ◌∙◌, ap}
 use mathlib.Core.Bool.{Bool, true, false, cond, ◌&&◌}
@@ -22,24 +23,23 @@ use Rattle.srlg_sources.proofs.Joins.{any_same}
 use Rattle.tlv_bytes.specs.Tlvs.{Wrote}
 use Rattle.tlv_bytes.proofs.Laws.{length-tlv, tlv-absent, tlv-present, tlv-written, same_write, no_write}
 use Rattle.set_bytes.specs.Standing.{srlg_tlv, srlg_size, count_in, count_read, numbers_in, Classes, Standing}
-use Rattle.set_bytes.specs.declared.Numbers.TheVariants.{Present, Absent}
 
 -- ---- counts and sizes
 
 module _ (n : ℕ) where
-  pub count-some : (k : ℕ) → count_read n ≡ Present k → (k ≡ n) × (0 < k)
+  pub count-some : (k : ℕ) → count_read n ≡ Some k → (k ≡ n) × (0 < k)
   count-some k e = go (eqb n 0) refl e
     where
-      go : (b : Bool) → eqb n 0 ≡ b → cond b Absent (Present n) ≡ Present k → (k ≡ n) × (0 < k)
-      go true t e = let z : ◌≡◌ {A = ℕ} 0 1 = cc in absurd (omega arith)
+      go : (b : Bool) → eqb n 0 ≡ b → cond b None (Some n) ≡ Some k → (k ≡ n) × (0 < k)
+      go true t e = absurd cc
       go false t e = let s : n ≡ k = cc in let d = eqb-false n 0 t in (sym s, omega arith)
 
-  pub count_none : count_read n ≡ Absent → n ≡ 0
+  pub count_none : count_read n ≡ None → n ≡ 0
   count_none e = go (eqb n 0) refl e
     where
-      go : (b : Bool) → eqb n 0 ≡ b → cond b Absent (Present n) ≡ Absent → n ≡ 0
+      go : (b : Bool) → eqb n 0 ≡ b → cond b None (Some n) ≡ None → n ≡ 0
       go true t e = eqb-true n 0 t
-      go false t e = let z : ◌≡◌ {A = ℕ} 0 1 = cc in absurd (omega arith)
+      go false t e = absurd cc
 
   pub size_none : n ≡ 0 → 0 ≡ srlg_size n
   unfolding srlg_size
@@ -135,13 +135,13 @@ class-few values rows classes c ok = omega (arith, ok.most, kept (in_class rows 
 
 -- A class whose count was read.
 module _ (values : List ℕ) (rows classes : List (List ℕ)) (c : ℕ) (ok : Classes values rows classes) (h : c < length classes) where
-  pub read_some : (n : ℕ) → count_read (count_in classes c) ≡ Present n → (n ≡ length (numbers_in values rows classes c)) × (0 < n) × (n ≤ most_numbers)
+  pub read_some : (n : ℕ) → count_read (count_in classes c) ≡ Some n → (n ≡ length (numbers_in values rows classes c)) × (0 < n) × (n ≤ most_numbers)
   read_some n e =
       let s = count-some (count_in classes c) n e in
       let l = (ok.class c h).counted in
       (s.0 ∙ l, s.1, omega (arith, s.0, l, class-few values rows classes c ok))
 
-  pub read_none : count_read (count_in classes c) ≡ Absent → length (numbers_in values rows classes c) ≡ 0
+  pub read_none : count_read (count_in classes c) ≡ None → length (numbers_in values rows classes c) ≡ 0
   read_none e = sym (ok.class c h).counted ∙ count_none (count_in classes c) e
 
 -- ---- where the numbers of classes stand

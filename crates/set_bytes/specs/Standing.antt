@@ -1,11 +1,9 @@
 -- The SRLG TLV of a class of a link's SRLGs, and where the numbers of classes stand once they are written (rules L2, L8).
-use Rattle.std.specs.Prelude.{◌≡◌, cond, List, [], ◌∷◌, ℕ, ◌+◌, ◌*◌, ◌≤◌, ◌<◌, eqb, length, get_or}
+use Rattle.std.specs.Prelude.{◌≡◌, Option, Some, None, cond, List, [], ◌∷◌, ℕ, ◌+◌, ◌*◌, ◌≤◌, ◌<◌, eqb, length, get_or}
 use Rattle.linkstate.specs.Limits.{most_numbers}
 use Rattle.linkstate.specs.Bytes.{bytes_at, bytes_of_words}
 use Rattle.tlv_bytes.specs.Tlvs.{in_tlvs, Wrote}
 use Rattle.srlg_sources.specs.Classes.{class_numbers, Class}
-use Rattle.set_bytes.specs.declared.Numbers.{Numbers}
-use Rattle.set_bytes.specs.declared.Numbers.TheVariants.{Present, Absent}
 
 -- The TLV of SRLGs, none where there are none; how many bytes that of n numbers has.
 abbrev pub srlg_tlv : List ℕ → List ℕ
@@ -22,8 +20,8 @@ abbrev pub numbers_in : List ℕ → List (List ℕ) → List (List ℕ) → ℕ
 numbers_in values rows classes c = class_numbers values rows (get_or classes c [])
 
 -- A count as the code takes it.
-abbrev pub count_read : ℕ → Numbers
-count_read n = cond (eqb n 0) Absent (Present n)
+abbrev pub count_read : ℕ → Option ℕ
+count_read n = cond (eqb n 0) None (Some n)
 
 -- A table of classes, as long as it has classes, over numbers of 32 bits.
 pub record Classes (values : List ℕ) (rows classes : List (List ℕ)) : Type 0 where

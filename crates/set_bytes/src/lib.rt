@@ -11,42 +11,13 @@ ghost use Rattle.tlv_bytes.specs.Tlvs.{Wrote, in_tlvs};
 ghost use Rattle.set_bytes.specs.Standing.{srlg_tlv, srlg_size, count_in, numbers_in, count_read, Classes, Standing, Written};
 ghost use Rattle.linkstate.specs.Kinds.{link_codes, application_codes};
 ghost use Rattle.kinds.specs.Rules.{grid_codes};
-ghost use Rattle.grids.specs.Grids.{grid_value, set_of, bandwidth_of, Fits};
-ghost use Rattle.grids.specs.Slots.{link_rows};
+ghost use Rattle.grids.specs.Grids.{row_value, grid_value, set_of, bandwidth_of, RowFits, Fits};
+ghost use Rattle.grids.specs.Slots.{cell, cell_row, slot_grid, link_rows};
 ghost use Rattle.set_bytes.specs.Sets.{extended_codes, middle_codes, Among, Writable};
 
-use grids::Row;
+use grids::Sets;
 use kinds::Kind;
 use masks::Bits;
-
-// The SRLGs of a class, by how many there are.
-#[derive(Clone, Copy)]
-pub enum Numbers {
-    Present(usize),
-    Absent,
-}
-
-fn read_count(classes: &[[u64; 4]], c: usize) -> Numbers
-    requires { c < length classes.now }
-    ensures { result ≡ count_read (count_in classes.now c) }
-{
-    let n = classes[c][2] as usize;
-    if n == 0 {
-        return Numbers::Absent;
-    }
-    Numbers::Present(n)
-}
-
-// How many bytes the TLV of a class has.
-pub fn srlgs_size(classes: &[[u64; 4]], c: usize) -> usize
-    requires { (c < length classes.now) × (count_in classes.now c ≤ most_numbers) }
-    ensures { (result ≡ srlg_size (count_in classes.now c)) × (result ≤ 4100) }
-{
-    let Numbers::Present(n) = read_count(classes, c) else {
-        return 0;
-    };
-    4 + 4 * n
-}
 
 // The numbers of one word's bits, written as four bytes each from an offset on; the offset after them.
 fn write_word(values: &[u64], base: usize, bits: u64, out: &mut [u8], at: usize) -> usize
@@ -74,159 +45,176 @@ fn write_bits(values: &[u64], bits: &[u64; 16], out: &mut [u8], at: usize) -> us
     k
 }
 
-// The numbers of a class that are not written yet.
-fn write_first(
-    values: &[u64],
-    rows: &[[u64; 18]],
-    classes: &[[u64; 4]],
-    c: usize,
-    out: &mut [u8],
-    at: usize,
-) -> usize
-    requires { Classes values.now rows.now classes.now × (c < length classes.now) × (at + length (bytes_of_words (numbers_in values.now rows.now classes.now c)) ≤ length out.old) }
-    ensures { Wrote out.old at (bytes_of_words (numbers_in values.now rows.now classes.now c)) result out.new }
-{
-    let low = classes[c][0];
-    let high = classes[c][1];
-    let words = (values.len() + 63) / 64;
-    let bits = srlg_sources::bits_of(rows, low, high, words);
-    write_bits(values, &bits, out, at)
+// The SRLGs of a link, ascending, the bits of its sources over them, and the classes of sources that subjects get.
+#[derive(Clone, Copy)]
+pub struct Srlgs<'a> {
+    pub values: &'a [u64],
+    pub rows: &'a [[u64; 18]],
+    pub classes: &'a [[u64; 4]],
 }
 
-// The n numbers of a class, made or copied, and where they stand then; the place after them.
-fn write_numbers(
-    values: &[u64],
-    rows: &[[u64; 18]],
-    classes: &[[u64; 4]],
-    places: &mut [usize],
-    c: usize,
-    n: usize,
-    out: &mut [u8],
-    at: usize,
-) -> usize
-    requires { Classes values.now rows.now classes.now × (c < length classes.now) × (c < length places.old) × (n ≡ length (numbers_in values.now rows.now classes.now c)) × (n ≤ most_numbers) × Standing (numbers_in values.now rows.now classes.now) places.old out.old at × (at + length (bytes_of_words (numbers_in values.now rows.now classes.now c)) ≤ length out.old) }
-    ensures { Written (numbers_in values.now rows.now classes.now) out.old at (bytes_of_words (numbers_in values.now rows.now classes.now c)) result places.new out.new }
-{
-    let from = places[c];
-    if from != 0 {
-        octets::copy_on(out, from, 4 * n, at);
-        return at + 4 * n;
+impl Srlgs<'_> {
+    // How many numbers a class has, if any.
+    fn count(self, c: usize) -> Option<usize>
+        requires { c < length self.classes.now }
+        ensures { result ≡ count_read (count_in self.entry.classes.now c) }
+    {
+        let n = self.classes[c][2] as usize;
+        if n == 0 {
+            return None;
+        }
+        Some(n)
     }
-    places[c] = at;
-    write_first(values, rows, classes, c, out, at)
+
+    // How many bytes the TLV of a class has.
+    pub fn size(self, c: usize) -> usize
+        requires { (c < length self.classes.now) × (count_in self.classes.now c ≤ most_numbers) }
+        ensures { (result ≡ srlg_size (count_in self.entry.classes.now c)) × (result ≤ 4100) }
+    {
+        match self.count(c) {
+            Some(n) => 4 + 4 * n,
+            None => 0,
+        }
+    }
+
+    // The numbers of a class that are not written yet.
+    fn write_first(self, c: usize, out: &mut [u8], at: usize) -> usize
+        requires { Classes self.values.now self.rows.now self.classes.now × (c < length self.classes.now) × (at + length (bytes_of_words (numbers_in self.values.now self.rows.now self.classes.now c)) ≤ length out.old) }
+        ensures { Wrote out.old at (bytes_of_words (numbers_in self.entry.values.now self.entry.rows.now self.entry.classes.now c)) result out.new }
+    {
+        let low = self.classes[c][0];
+        let high = self.classes[c][1];
+        let words = (self.values.len() + 63) / 64;
+        let bits = srlg_sources::bits_of(self.rows, low, high, words);
+        write_bits(self.values, &bits, out, at)
+    }
+
+    // The n numbers of a class, made or copied, and where they stand then; the place after them.
+    fn write_numbers(
+        self,
+        places: &mut [usize],
+        c: usize,
+        n: usize,
+        out: &mut [u8],
+        at: usize,
+    ) -> usize
+        requires { Classes self.values.now self.rows.now self.classes.now × (c < length self.classes.now) × (c < length places.old) × (n ≡ length (numbers_in self.values.now self.rows.now self.classes.now c)) × (n ≤ most_numbers) × Standing (numbers_in self.values.now self.rows.now self.classes.now) places.old out.old at × (at + length (bytes_of_words (numbers_in self.values.now self.rows.now self.classes.now c)) ≤ length out.old) }
+        ensures { Written (numbers_in self.entry.values.now self.entry.rows.now self.entry.classes.now) out.old at (bytes_of_words (numbers_in self.entry.values.now self.entry.rows.now self.entry.classes.now c)) result places.new out.new }
+    {
+        let from = places[c];
+        if from != 0 {
+            octets::copy_on(out, from, 4 * n, at);
+            return at + 4 * n;
+        }
+        places[c] = at;
+        self.write_first(c, out, at)
+    }
+
+    // The TLV of a class, if it has numbers; the place after it.
+    pub fn write(self, places: &mut [usize], c: usize, out: &mut [u8], at: usize) -> usize
+        requires { Classes self.values.now self.rows.now self.classes.now × (c < length self.classes.now) × (c < length places.old) × Standing (numbers_in self.values.now self.rows.now self.classes.now) places.old out.old at × (at + length (srlg_tlv (numbers_in self.values.now self.rows.now self.classes.now c)) ≤ length out.old) }
+        ensures { Written (numbers_in self.entry.values.now self.entry.rows.now self.entry.classes.now) out.old at (srlg_tlv (numbers_in self.entry.values.now self.entry.rows.now self.entry.classes.now c)) result places.new out.new }
+    {
+        let Some(n) = self.count(c) else {
+            return at;
+        };
+        let size = 4 * n;
+        tlv_bytes::write_head(out, at, 1096, size as u16);
+        self.write_numbers(places, c, n, out, at + 4)
+    }
 }
 
-// The TLV of a class, if it has numbers; the place after it.
-pub fn write_srlgs(
-    values: &[u64],
-    rows: &[[u64; 18]],
-    classes: &[[u64; 4]],
-    places: &mut [usize],
-    c: usize,
-    out: &mut [u8],
-    at: usize,
-) -> usize
-    requires { Classes values.now rows.now classes.now × (c < length classes.now) × (c < length places.old) × Standing (numbers_in values.now rows.now classes.now) places.old out.old at × (at + length (srlg_tlv (numbers_in values.now rows.now classes.now c)) ≤ length out.old) }
-    ensures { Written (numbers_in values.now rows.now classes.now) out.old at (srlg_tlv (numbers_in values.now rows.now classes.now c)) result places.new out.new }
+// The TLV of a slot's value of a kind, if it has one; the place after it.
+fn write_cell(sets: Sets<'_>, s: usize, k: usize, code: u16, out: &mut [u8], at: usize) -> usize
+    requires { (s < length sets.rows.now) × (k < 12) × RowFits sets.run.now (cell_row (cell sets.rows.now s k)) × (at + length (in_tlvs (λ _. row_value sets.run.now (cell_row (cell sets.rows.now s k))) (code ∷ [])) ≤ length out.old) }
+    ensures { Wrote out.old at (in_tlvs (λ _. row_value sets.entry.run.now (cell_row (cell sets.entry.rows.now s k))) (code ∷ [])) result out.new }
 {
-    let Numbers::Present(n) = read_count(classes, c) else {
+    let Some(v) = grids::value_at(sets.rows, s, k) else {
         return at;
     };
-    let size = 4 * n;
-    tlv_bytes::write_head(out, at, 1096, size as u16);
-    write_numbers(values, rows, classes, places, c, n, out, at + 4)
+    tlv_bytes::write_value(sets.run, v.place, v.len, code, out, at)
 }
 
-// The TLV of a kind of a grid, if it has a value; the place after it.
-pub fn write_kind(run: &[u8], g: &[[usize; 2]; 10], c: usize, out: &mut [u8], at: usize) -> usize
-    requires { Fits run.now g.now × Among grid_codes c × (at + length (in_tlvs (grid_value run.now g.now) (c ∷ [])) ≤ length out.old) }
-    ensures { Wrote out.old at (in_tlvs (grid_value run.now g.now) (c ∷ [])) result out.new }
+// The TLV of a kind of a slot, if it has a value; the place after it.
+pub fn write_kind(sets: Sets<'_>, s: usize, c: usize, out: &mut [u8], at: usize) -> usize
+    requires { (s < length sets.rows.now) × Fits sets.run.now (slot_grid sets.rows.now s) × Among grid_codes c × (at + length (in_tlvs (grid_value sets.run.now (slot_grid sets.rows.now s)) (c ∷ [])) ≤ length out.old) }
+    ensures { Wrote out.old at (in_tlvs (grid_value sets.entry.run.now (slot_grid sets.entry.rows.now s)) (c ∷ [])) result out.new }
 {
     let rule = kinds::classify_code(c);
     let kind = rule.kind;
     let Kind::Application(k) = kind else {
         return at;
     };
-    let Row::Present { place, len } = grids::read_row(g[k]) else {
-        return at;
-    };
-    tlv_bytes::write_value(run, place, len, rule.code, out, at)
+    write_cell(sets, s, k, rule.code, out, at)
 }
 
 // The TLV of a bandwidth of the link, if it has one; the place after it.
-fn write_bandwidth(run: &[u8], sets: &[[u32; 12]], c: usize, out: &mut [u8], at: usize) -> usize
-    requires { Fits run.now (link_rows sets.now) × (2 < length sets.now) × Among link_codes c × (at + length (in_tlvs (bandwidth_of run.now (link_rows sets.now)) (c ∷ [])) ≤ length out.old) }
-    ensures { Wrote out.old at (in_tlvs (bandwidth_of run.now (link_rows sets.now)) (c ∷ [])) result out.new }
+fn write_bandwidth(sets: Sets<'_>, c: usize, out: &mut [u8], at: usize) -> usize
+    requires { Fits sets.run.now (link_rows sets.rows.now) × (2 < length sets.rows.now) × Among link_codes c × (at + length (in_tlvs (bandwidth_of sets.run.now (link_rows sets.rows.now)) (c ∷ [])) ≤ length out.old) }
+    ensures { Wrote out.old at (in_tlvs (bandwidth_of sets.entry.run.now (link_rows sets.entry.rows.now)) (c ∷ [])) result out.new }
 {
     let rule = kinds::classify_code(c);
     let kind = rule.kind;
     let Kind::Link(k) = kind else {
         return at;
     };
-    let Row::Present { place, len } = grids::read_row(grids::row_at(sets, 2, k)) else {
-        return at;
-    };
-    tlv_bytes::write_value(run, place, len, rule.code, out, at)
+    write_cell(sets, 2, k, rule.code, out, at)
 }
 
 // The TLVs of the link's bandwidths, 1089 to 1091; the place after them.
-pub fn write_bandwidths(run: &[u8], sets: &[[u32; 12]], out: &mut [u8], at: usize) -> usize
-    requires { Fits run.now (link_rows sets.now) × (2 < length sets.now) × (at + length (in_tlvs (bandwidth_of run.now (link_rows sets.now)) link_codes) ≤ length out.old) }
-    ensures { Wrote out.old at (in_tlvs (bandwidth_of run.now (link_rows sets.now)) link_codes) result out.new }
+pub fn write_bandwidths(sets: Sets<'_>, out: &mut [u8], at: usize) -> usize
+    requires { Fits sets.run.now (link_rows sets.rows.now) × (2 < length sets.rows.now) × (at + length (in_tlvs (bandwidth_of sets.run.now (link_rows sets.rows.now)) link_codes) ≤ length out.old) }
+    ensures { Wrote out.old at (in_tlvs (bandwidth_of sets.entry.run.now (link_rows sets.entry.rows.now)) link_codes) result out.new }
 {
-    let maximum = write_bandwidth(run, sets, 1089, out, at);
-    let reservable = write_bandwidth(run, sets, 1090, out, maximum);
-    write_bandwidth(run, sets, 1091, out, reservable)
+    let maximum = write_bandwidth(sets, 1089, out, at);
+    let reservable = write_bandwidth(sets, 1090, out, maximum);
+    write_bandwidth(sets, 1091, out, reservable)
 }
 
 // The TLVs of the kinds 1114 to 1120, ascending; the place after them.
-fn write_extended(run: &[u8], g: &[[usize; 2]; 10], out: &mut [u8], at: usize) -> usize
-    requires { Fits run.now g.now × (at + length (in_tlvs (grid_value run.now g.now) extended_codes) ≤ length out.old) }
-    ensures { Wrote out.old at (in_tlvs (grid_value run.now g.now) extended_codes) result out.new }
+fn write_extended(sets: Sets<'_>, s: usize, out: &mut [u8], at: usize) -> usize
+    requires { (s < length sets.rows.now) × Fits sets.run.now (slot_grid sets.rows.now s) × (at + length (in_tlvs (grid_value sets.run.now (slot_grid sets.rows.now s)) extended_codes) ≤ length out.old) }
+    ensures { Wrote out.old at (in_tlvs (grid_value sets.entry.run.now (slot_grid sets.entry.rows.now s)) extended_codes) result out.new }
 {
     let mut next = at;
     for c in 1114..1121 {
-        next = write_kind(run, g, c, out, next);
+        next = write_kind(sets, s, c, out, next);
     }
     next
 }
 
-// The TLVs of the kinds 1092 to 1120 of a set with the SRLGs of class c, ascending; the place after them.
+// The TLVs of the kinds 1092 to 1120 of a slot with the SRLGs of class c, ascending; the place after them.
 pub fn write_middle(
-    run: &[u8],
-    g: &[[usize; 2]; 10],
-    values: &[u64],
-    rows: &[[u64; 18]],
-    classes: &[[u64; 4]],
+    sets: Sets<'_>,
+    s: usize,
+    srlgs: Srlgs<'_>,
     places: &mut [usize],
     c: usize,
     out: &mut [u8],
     at: usize,
 ) -> usize
-    requires { Writable run.now g.now values.now rows.now classes.now places.old c out.old at × (at + length (in_tlvs (set_of run.now g.now (numbers_in values.now rows.now classes.now c)) middle_codes) ≤ length out.old) }
-    ensures { Written (numbers_in values.now rows.now classes.now) out.old at (in_tlvs (set_of run.now g.now (numbers_in values.now rows.now classes.now c)) middle_codes) result places.new out.new }
+    requires { (s < length sets.rows.now) × Writable sets.run.now (slot_grid sets.rows.now s) srlgs.values.now srlgs.rows.now srlgs.classes.now places.old c out.old at × (at + length (in_tlvs (set_of sets.run.now (slot_grid sets.rows.now s) (numbers_in srlgs.values.now srlgs.rows.now srlgs.classes.now c)) middle_codes) ≤ length out.old) }
+    ensures { Written (numbers_in srlgs.entry.values.now srlgs.entry.rows.now srlgs.entry.classes.now) out.old at (in_tlvs (set_of sets.entry.run.now (slot_grid sets.entry.rows.now s) (numbers_in srlgs.entry.values.now srlgs.entry.rows.now srlgs.entry.classes.now c)) middle_codes) result places.new out.new }
 {
-    let metric = write_kind(run, g, 1092, out, at);
-    let shared = write_srlgs(values, rows, classes, places, c, out, metric);
-    write_extended(run, g, out, shared)
+    let metric = write_kind(sets, s, 1092, out, at);
+    let shared = srlgs.write(places, c, out, metric);
+    write_extended(sets, s, out, shared)
 }
 
-// The TLVs of an application's set, ascending; the place after them.
+// The TLVs of an application's set, of a slot and class c of SRLGs, ascending; the place after them.
 pub fn write_set(
-    run: &[u8],
-    g: &[[usize; 2]; 10],
-    values: &[u64],
-    rows: &[[u64; 18]],
-    classes: &[[u64; 4]],
+    sets: Sets<'_>,
+    s: usize,
+    srlgs: Srlgs<'_>,
     places: &mut [usize],
     c: usize,
     out: &mut [u8],
     at: usize,
 ) -> usize
-    requires { Writable run.now g.now values.now rows.now classes.now places.old c out.old at × (at + length (in_tlvs (set_of run.now g.now (numbers_in values.now rows.now classes.now c)) application_codes) ≤ length out.old) }
-    ensures { Written (numbers_in values.now rows.now classes.now) out.old at (in_tlvs (set_of run.now g.now (numbers_in values.now rows.now classes.now c)) application_codes) result places.new out.new }
+    requires { (s < length sets.rows.now) × Writable sets.run.now (slot_grid sets.rows.now s) srlgs.values.now srlgs.rows.now srlgs.classes.now places.old c out.old at × (at + length (in_tlvs (set_of sets.run.now (slot_grid sets.rows.now s) (numbers_in srlgs.values.now srlgs.rows.now srlgs.classes.now c)) application_codes) ≤ length out.old) }
+    ensures { Written (numbers_in srlgs.entry.values.now srlgs.entry.rows.now srlgs.entry.classes.now) out.old at (in_tlvs (set_of sets.entry.run.now (slot_grid sets.entry.rows.now s) (numbers_in srlgs.entry.values.now srlgs.entry.rows.now srlgs.entry.classes.now c)) application_codes) result places.new out.new }
 {
-    let first = write_kind(run, g, 1088, out, at);
-    let middle = write_middle(run, g, values, rows, classes, places, c, out, first);
-    write_kind(run, g, 1173, out, middle)
+    let first = write_kind(sets, s, 1088, out, at);
+    let middle = write_middle(sets, s, srlgs, places, c, out, first);
+    write_kind(sets, s, 1173, out, middle)
 }

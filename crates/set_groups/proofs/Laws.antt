@@ -24,7 +24,7 @@ use Rattle.kinds.specs.Rules.{grid_codes}
 use Rattle.kinds.proofs.Computing.{computing}
 use Rattle.srlg.proofs.Laws.{words-bytes_of_words}
 use Rattle.srlg_ranks.proofs.Bits.{with_in}
-use Rattle.grids.specs.Grids.{grid_value, set_of, Fits, Alike}
+use Rattle.grids.specs.Grids.{grid_value, set_of}
 use Rattle.grids.specs.Slots.{slot_grid, slot_values, slot_mark, IsSet, Slots}
 use Rattle.set_groups.specs.Groups.{Group, group, added, join}
 use Rattle.set_groups.specs.Members.{with_member}
@@ -103,18 +103,9 @@ module _ (run : List ℕ) (sets : List (List ℕ)) (x s c : ℕ) where
   abbrev Here : Type 0
   Here = Same run sets x s c
 
-  pub class-differs : (class_in x ≡ c → ⊥) → Tells Here false
-  class-differs d = record { yes = λ e. absurd (false≢true e); no = λ e h. d h.class }
-
   module _ (ok : Slots run sets) (of_x : IsSet sets (slot_in x)) (of_s : IsSet sets s) where
-    pub mark-differs : (slot_mark sets (slot_in x) ≡ slot_mark sets s → ⊥) → Tells Here false
-    mark-differs d = record { yes = λ e. absurd (false≢true e); no = λ e h. d (ok.marked (slot_in x) s of_x of_s h.values) }
-
     pub same-bucket : Here → bucket_of (slot_mark sets (slot_in x)) (class_in x) ≡ bucket_of (slot_mark sets s) c
     same-bucket h = ap₂ bucket_of (ok.marked (slot_in x) s of_x of_s h.values) h.class
-
-  pub cells_same : class_in x ≡ c → slot_grid sets (slot_in x) ≡ slot_grid sets s → Tells Here true
-  cells_same e f = record { yes = λ t. record { class = e; values = ap (λ (g : List (List ℕ)). map (grid_value run g) grid_codes) f }; no = λ n h. false≢true (sym n) }
 
   pub grids-tell : (r : Bool) → class_in x ≡ c → r ≡ same_rows (slot_values run sets (slot_in x)) (slot_values run sets s) → Tells Here r
   grids-tell r e f =
@@ -122,17 +113,6 @@ module _ (run : List ℕ) (sets : List (List ℕ)) (x s c : ℕ) where
         yes = λ t. record { class = e; values = rows_eq (slot_values run sets (slot_in x)) (slot_values run sets s) (sym f ∙ t) };
         no = λ n h. false≢true (sym n ∙ f ∙ ap (λ (v : List (List ℕ)). same_rows v (slot_values run sets s)) h.values ∙ rows_refl (slot_values run sets s));
       }
-
--- Two grids that were made of the slots.
-module _ (run : List ℕ) (sets : List (List ℕ)) (x s : ℕ) (t : ℕ) (g h : List (List ℕ)) (et : t ≡ slot_in x) (eg : g ≡ slot_grid sets t) (eh : h ≡ slot_grid sets s) where
-  g-is : g ≡ slot_grid sets (slot_in x)
-  g-is = eg ∙ ap (slot_grid sets) et
-
-  pub both-fit : Slots run sets → IsSet sets (slot_in x) → IsSet sets s → Fits run g × Fits run h × ((k : ℕ) → Alike (get_or g k []) (get_or h k []))
-  both-fit ok of_x of_s = rw (g-is, eh) (ok.fits (slot_in x) of_x.inside, ok.fits s of_s.inside, λ k. ok.alike (slot_in x) s k of_x of_s)
-
-  pub grids-say : (c : ℕ) (r : Bool) → class_in x ≡ c → r ≡ same_rows (map (grid_value run g) grid_codes) (map (grid_value run h) grid_codes) → Tells (Same run sets x s c) r
-  grids-say c r e f = grids-tell run sets x s c r e (rw (g-is, eh) at f)
 
 -- Two words that say the same set say each other's.
 both : (run : List ℕ) (sets : List (List ℕ)) (x y s c : ℕ) → Same run sets x s c → Same run sets y s c → Same run sets x (slot_in y) (class_in y)

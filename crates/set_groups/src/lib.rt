@@ -8,6 +8,7 @@ ghost use Rattle.grids.specs.Slots.{slot_mark, IsSet, Slots};
 ghost use Rattle.set_groups.specs.Table.{word, slot_in, class_in, next_in, bucket_of, bucket_in, Same, Tells, Latest, Entries, Chained, Finds, Joined, left, Placed, Begun, Ahead, Filled};
 ghost use Rattle.set_groups.specs.Members.{with_member};
 
+use grids::Sets;
 use masks::{Applications, Bits};
 
 // The slot, the class and the next entry that the third number of an entry says.
@@ -38,42 +39,36 @@ fn bucket_of(mark: u32, class: usize) -> usize
 }
 
 // Whether the third number of an entry says the set of a slot and a class. Marks that differ rule it out.
-fn same_set(run: &[u8], sets: &[[u32; 12]], x: u64, s: usize, c: usize) -> bool
-    requires { Slots run.now sets.now × IsSet sets.now (slot_in x) × IsSet sets.now s }
-    ensures { Tells (Same run.now sets.now x s c) result }
+fn same_set(sets: Sets<'_>, x: u64, s: usize, c: usize) -> bool
+    requires { Slots sets.run.now sets.rows.now × IsSet sets.rows.now (slot_in x) × IsSet sets.rows.now s }
+    ensures { Tells (Same sets.entry.run.now sets.entry.rows.now x s c) result }
 {
     let t = slot_in(x);
     if class_in(x) != c {
         return false;
     }
-    if sets[t][10] != sets[s][10] {
+    if sets.rows[t][10] != sets.rows[s][10] {
         return false;
     }
-    if grids::same_cells(sets, t, s) {
-        return true;
-    }
-    let g = grids::grid_of(sets, t);
-    let h = grids::grid_of(sets, s);
-    grids::same_grids(run, &g, &h)
+    sets.same_cells(t, s) || sets.same_values(t, s)
 }
 
 // The entry with the set of a slot and a class, if there is one, from the last of its bucket on. Entry 0 is no entry of a bucket.
 fn find(
-    run: &[u8],
-    sets: &[[u32; 12]],
+    sets: Sets<'_>,
     groups: &[[u64; 3]],
     count: usize,
     first: usize,
     s: usize,
     c: usize,
 ) -> Option<usize>
-    requires { Slots run.now sets.now × IsSet sets.now s × Entries run.now sets.now (word groups.now) count × (count ≤ length groups.now) × Latest (bucket_in sets.now (word groups.now)) (bucket_of (slot_mark sets.now s) c) count first }
-    ensures { Finds run.now sets.now (word groups.now) count s c result }
+    requires { Slots sets.run.now sets.rows.now × IsSet sets.rows.now s × Entries sets.run.now sets.rows.now (word groups.now) count × (count ≤ length groups.now) × Latest (bucket_in sets.rows.now (word groups.now)) (bucket_of (slot_mark sets.rows.now s) c) count first }
+    ensures { Finds sets.entry.run.now sets.entry.rows.now (word groups.now) count s c result }
 {
     let mut i = first;
     while i != 0 {
         let x = groups[i][2];
-        if same_set(run, sets, x, s, c) {
+        if same_set(sets, x, s, c) {
             return Some(i);
         }
         i = next_in(x);
@@ -91,8 +86,7 @@ fn add_member(h: &mut [u64; 3], n: usize)
 
 // Application n joins with the set of a slot and a class; how many entries there are then.
 fn join(
-    run: &[u8],
-    sets: &[[u32; 12]],
+    sets: Sets<'_>,
     groups: &mut [[u64; 3]],
     buckets: &mut [u8; 128],
     count: usize,
@@ -100,12 +94,12 @@ fn join(
     s: usize,
     c: usize,
 ) -> usize
-    requires { Slots run.now sets.now × IsSet sets.now s × (s < 256) × (c < 256) × (n < 128) × Chained run.now sets.now (word groups.old) buckets.old count × (count < 128) × (count < length groups.old) }
-    ensures { Joined run.now sets.now n s c groups.old count result groups.new buckets.new }
+    requires { Slots sets.run.now sets.rows.now × IsSet sets.rows.now s × (s < 256) × (c < 256) × (n < 128) × Chained sets.run.now sets.rows.now (word groups.old) buckets.old count × (count < 128) × (count < length groups.old) }
+    ensures { Joined sets.entry.run.now sets.entry.rows.now n s c groups.old count result groups.new buckets.new }
 {
-    let b = bucket_of(sets[s][10], c);
+    let b = bucket_of(sets.rows[s][10], c);
     let first = usize::from(buckets[b]);
-    if let Some(i) = find(run, sets, groups, count, first, s, c) {
+    if let Some(i) = find(sets, groups, count, first, s, c) {
         add_member(&mut groups[i], n);
         return count;
     }
@@ -119,8 +113,7 @@ fn join(
 
 // The applications of a mask join, ascending: application `base` is its lowest bit; how many entries there are then.
 fn join_mask(
-    run: &[u8],
-    sets: &[[u32; 12]],
+    sets: Sets<'_>,
     own: &[[u8; 2]; 128],
     base: usize,
     bits: u64,
@@ -128,15 +121,14 @@ fn join_mask(
     buckets: &mut [u8; 128],
     entries: usize,
 ) -> usize
-    requires { (base ≤ 64) × Slots run.now sets.now × ((p : ℕ → Bool) × (from : ℕ) × Placed sets.now own.now p × Begun run.now sets.now own.now p from entries groups.old buckets.old × Ahead p base from bits) }
-    ensures { (length groups.new ≡ length groups.old) × ((p : ℕ → Bool) (from : ℕ) → Placed sets.now own.now p → Begun run.now sets.now own.now p from entries groups.old buckets.old → Ahead p base from bits → Begun run.now sets.now own.now p (base + 64) result groups.new buckets.new) }
+    requires { (base ≤ 64) × Slots sets.run.now sets.rows.now × ((p : ℕ → Bool) × (from : ℕ) × Placed sets.rows.now own.now p × Begun sets.run.now sets.rows.now own.now p from entries groups.old buckets.old × Ahead p base from bits) }
+    ensures { (length groups.new ≡ length groups.old) × ((p : ℕ → Bool) (from : ℕ) → Placed sets.entry.rows.now own.now p → Begun sets.entry.run.now sets.entry.rows.now own.now p from entries groups.old buckets.old → Ahead p base from bits → Begun sets.entry.run.now sets.entry.rows.now own.now p (base + 64) result groups.new buckets.new) }
 {
     let mut count = entries;
     for t in Bits(bits) {
         let n = base + t;
         let [slot, class] = own[masks::turned_place(n)];
         count = join(
-            run,
             sets,
             groups,
             buckets,
@@ -151,32 +143,30 @@ fn join_mask(
 
 // All applications of a set, n at place n, but RSVP-TE join, ascending; how many entries there are then.
 fn join_all(
-    run: &[u8],
-    sets: &[[u32; 12]],
+    sets: Sets<'_>,
     own: &[[u8; 2]; 128],
     m: Applications,
     groups: &mut [[u64; 3]],
     buckets: &mut [u8; 128],
 ) -> usize
-    requires { Slots run.now sets.now × Placed sets.now own.now (at_place m) × (1 + left (at_place m) 1 ≤ length groups.old) × (buckets.old ≡ replicate 128 0) }
-    ensures { Filled run.now sets.now own.now (at_place m) groups.new result }
+    requires { Slots sets.run.now sets.rows.now × Placed sets.rows.now own.now (at_place m) × (1 + left (at_place m) 1 ≤ length groups.old) × (buckets.old ≡ replicate 128 0) }
+    ensures { Filled sets.entry.run.now sets.entry.rows.now own.now (at_place m) groups.new result }
 {
     let others = masks::without(m.standard, 1);
-    let count = join_mask(run, sets, own, 0, others, groups, buckets, 1);
-    join_mask(run, sets, own, 64, m.user, groups, buckets, count)
+    let count = join_mask(sets, own, 0, others, groups, buckets, 1);
+    join_mask(sets, own, 64, m.user, groups, buckets, count)
 }
 
 // The groups of the applications of a set, RSVP-TE apart; how many entries the table has then, from 1 on.
 pub fn fill_groups(
-    run: &[u8],
-    sets: &[[u32; 12]],
+    sets: Sets<'_>,
     own: &[[u8; 2]; 128],
     m: Applications,
     groups: &mut [[u64; 3]],
 ) -> usize
-    requires { Slots run.now sets.now × Placed sets.now own.now (in_set m) × (1 + left (in_set m) 1 ≤ length groups.old) }
-    ensures { Filled run.now sets.now own.now (in_set m) groups.new result }
+    requires { Slots sets.run.now sets.rows.now × Placed sets.rows.now own.now (in_set m) × (1 + left (in_set m) 1 ≤ length groups.old) }
+    ensures { Filled sets.entry.run.now sets.entry.rows.now own.now (in_set m) groups.new result }
 {
     let mut buckets = [0u8; 128];
-    join_all(run, sets, own, masks::turned_set(m), groups, &mut buckets)
+    join_all(sets, own, masks::turned_set(m), groups, &mut buckets)
 }

@@ -1,33 +1,42 @@
--- `export_bytes::aslas_size` meets its contract, entry by entry. Assumes nothing.
-use Prim.Native.Nat.{ℕ, ◌-◌}
-use mathlib.Core.Path.{refl, ◌∙◌, ap}
+-- Entry by entry.
+use Prim.Native.Nat.{◌+◌, ◌-◌, ◌<◌}
+use mathlib.Core.Path.{◌≡◌, ◌∙◌, ap}
+use mathlib.Core.List.{[]}
+use lib.ListN.{length, get_or}
 use native.Mathlib.Omega.{arith}
-use Rattle.export_bytes.specs.Sizes.{sum_from, entry_size, asla_size}
-use Rattle.export_bytes.proofs.SizeLaws.{measured, sum-start, sum-next}
+use Rattle.export_bytes.specs.Sizes.{asla_of, sum_from, entry_size, asla_size}
+use Rattle.export_bytes.proofs.SizeLaws.{measured, sum-start, sum-next, length_from, entry_from}
 use Rattle.export_bytes.proofs.aslas_size.Goals as goal
+use Rattle.export_bytes.proofs.aslas_size.Goals.{After-read}
 
-pub loop-e-init : goal.loop-e-init
-loop-e-init c = let a = c.args in
-    (omega arith, omega (arith, c.requires.0.some), refl, sum-start (entry_size a.sets.now a.classes.now a.groups.now) a.first, omega arith)
+inside : (c : After-read) → c.loop-h.h-index < length c.args.groups.now - c.args.first
+inside c = let some = c.requires.0.some in omega (arith, c.loop-h-test.true, length_from c.args.groups.now c.args.first (omega arith))
 
-pub asla_size-total-requires : goal.asla_size-total-requires
-asla_size-total-requires c = let l = c.loop-e in measured c.args.sets.now c.args.classes.now c.args.groups.now c.requires.0 l.e (omega arith) _ c.read_asla.ensures
+entry : (c : After-read) → c.read.result ≡ asla_of (get_or c.args.groups.now (c.args.first + c.loop-h.h-index) [])
+entry c = c.read.ensures ∙ ap asla_of (entry_from c.args.groups.now c.args.first c.loop-h.h-index (inside c))
+
+pub loop-h-init : goal.loop-h-init
+loop-h-init c = let a = c.args in (sum-start (entry_size a.sets.rows.now a.srlgs.classes.now a.groups.now) a.first, omega arith)
+
+pub size-total-requires : goal.size-total-requires
+size-total-requires c = let a = c.args in
+    let q = (goal.at.size-total-requires c).After-read in
+    let i = inside q in
+    measured a.sets.rows.now a.srlgs.classes.now a.groups.now c.requires.0 (a.first + c.loop-h.h-index) (omega arith) _ (entry q)
 
 pub overflow_add-total : goal.overflow_add-total
-overflow_add-total c = omega (arith, c.loop-e.invariant.4, c.asla_size-total.ensures.1, c.requires.0.most)
+overflow_add-total c = let i = inside (goal.at.overflow_add-total c).After-read in omega (arith, c.loop-h.invariant.1, c.size-total.ensures.1, c.requires.0.most)
 
-pub loop-e-preserved : goal.loop-e-preserved
-loop-e-preserved c = let a = c.args in
-    let l = c.loop-e in
-    let z = c.asla_size-total.ensures in (
-      omega arith,
-      omega arith,
-      l.invariant.2,
-      sum-next (entry_size a.sets.now a.classes.now a.groups.now) a.first l.e l.total _ l.invariant.0 l.invariant.3 (z.0 ∙ ap (asla_size a.sets.now a.classes.now) c.read_asla.ensures),
-      omega (arith, l.invariant.4, z.1),
+pub loop-h-preserved : goal.loop-h-preserved
+loop-h-preserved c = let a = c.args in
+    let z = c.size-total.ensures in (
+      sum-next (entry_size a.sets.rows.now a.srlgs.classes.now a.groups.now) a.first _ _ _ c.loop-h.invariant.0 (z.0 ∙ ap (asla_size a.sets.rows.now a.srlgs.classes.now) (entry (goal.at.loop-h-preserved c).After-read)),
+      omega (arith, c.loop-h.invariant.1, z.1),
     )
 
 pub returns : goal.returns
-returns c = let l = c.loop-e in
-    let a = c.args in
-    (l.invariant.3 ∙ ap (λ (k : ℕ). sum_from (entry_size a.sets.now a.classes.now a.groups.now) a.first (k - a.first)) (omega arith), omega (arith, l.invariant.4, c.requires.0.most))
+returns c = let a = c.args in
+    let l = c.loop-h in
+    let some = c.requires.0.some in
+    let n = length_from a.groups.now a.first (omega arith) in
+    (l.invariant.0 ∙ ap (sum_from (entry_size a.sets.rows.now a.srlgs.classes.now a.groups.now) a.first) (omega (arith, n, l.auto.h-index-end, c.loop-h-test.false)), omega (arith, l.invariant.1, n, l.auto.h-index-end, c.requires.0.most))

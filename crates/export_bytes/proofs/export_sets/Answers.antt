@@ -1,4 +1,4 @@
--- `export_bytes::export_sets` meets its contract: measured, then its length told, or refused, or written. Assumes nothing.
+-- measured, then its length told, or refused, or written.
 use native.Mathlib.Omega.{arith}
 use Rattle.export_bytes.proofs.Laws.{open-front}
 use Rattle.export_bytes.proofs.Measured.{measurable, whole_length}

@@ -1,8 +1,8 @@
--- `export_bytes::link_size` meets its contract, kind by kind. Assumes nothing.
+-- Kind by kind.
 use Prim.Native.Nat.{◌*◌, ◌≤◌}
 use mathlib.Core.Path.{◌≡◌}
 use Rattle.export_bytes.specs.Sizes.{link_size}
 use Rattle.export_bytes.proofs.link_size.Given as goal
 
 abbrev pub invariant-loop-k : goal.invariant-loop-k
-invariant-loop-k l = (l.k ≤ 3) × (l.total ≡ link_size l.sets l.k) × (l.total ≤ l.k * 65541)
+invariant-loop-k l = (l.total ≡ link_size l.sets l.k) × (l.total ≤ l.k * 65540)

@@ -1,35 +1,27 @@
--- `export_bytes::write_asla` meets its contract: the front, then the set. Assumes nothing.
+-- the front, then the set.
 use Rattle.export_bytes.proofs.Laws.{size-asks, front-asks, set-asks, entry-written}
 use Rattle.export_bytes.proofs.write_asla.Goals as goal
-
-pub read_asla-e-requires : goal.read_asla-e-requires
-read_asla-e-requires c = c.requires.2
 
 pub set_size-size-requires : goal.set_size-size-requires
 set_size-size-requires c = let a = c.args in
     let p = c.requires in
-    size-asks p.0.tables p.0 p.1 a.i p.2 p.3 _ c.read_asla-e.ensures
+    size-asks p.0.tables p.0 p.1 a.i p.2 p.3 _ c.read-e.ensures
 
 pub write_front-inner-requires : goal.write_front-inner-requires
 write_front-inner-requires c = let a = c.args in
     let p = c.requires in
-    front-asks p.0.tables p.0 p.1 a.i p.2 p.3 _ c.read_asla-e.ensures _ c.set_size-size.ensures.0
-
-pub grid_of-g-requires : goal.grid_of-g-requires
-grid_of-g-requires c = let a = c.args in
-    let p = c.requires in
-    (size-asks p.0.tables p.0 p.1 a.i p.2 p.3 _ c.read_asla-e.ensures).0
+    front-asks p.0.tables p.0 p.1 a.i p.2 p.3 _ c.read-e.ensures _ c.set_size-size.ensures.0
 
 pub write_set-requires : goal.write_set-requires
 write_set-requires c = let a = c.args in
     let p = c.requires in
     let f = c.write_front-inner in
-    set-asks p.0.tables p.0 p.1 a.i p.2 p.3 _ c.read_asla-e.ensures _ c.set_size-size.ensures.0
-    f.auto.out f.ensures _ c.grid_of-g.ensures
+    set-asks p.0.tables p.0 p.1 a.i p.2 p.3 _ c.read-e.ensures _ c.set_size-size.ensures.0
+    f.auto.out f.ensures
 
 pub returns : goal.returns
 returns c = let a = c.args in
     let p = c.requires in
     let f = c.write_front-inner in
-    entry-written p.0.tables p.0 p.1 a.i p.2 p.3 _ c.read_asla-e.ensures _
-    c.set_size-size.ensures.0 f.auto.out f.ensures _ c.grid_of-g.ensures c.write_set.ensures
+    entry-written p.0.tables p.0 p.1 a.i p.2 p.3 _ c.read-e.ensures _
+    c.set_size-size.ensures.0 f.auto.out f.ensures c.write_set.ensures

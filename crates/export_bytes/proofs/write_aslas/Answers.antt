@@ -1,4 +1,4 @@
--- `export_bytes::write_aslas` meets its contract: what is written so far are the TLVs of the entries passed. Assumes nothing.
+-- what is written so far are the TLVs of the entries passed.
 use native.Mathlib.Omega.{arith}
 use Rattle.export_bytes.proofs.Laws.{aslas-start, asla-asks, aslas-next, aslas-end}
 use Rattle.export_bytes.proofs.write_aslas.Goals as goal

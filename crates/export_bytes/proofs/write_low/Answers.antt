@@ -1,24 +1,24 @@
--- `export_bytes::write_low` meets its contract: the first kind, the bandwidths, and the kinds up to 1120. Assumes nothing.
+-- the first kind, the bandwidths, and the kinds up to 1120.
 use Rattle.export_bytes.proofs.Parts.{first-asks, bandwidths-asks, middle-asks, low-written}
 use Rattle.export_bytes.proofs.write_low.Goals as goal
 
 pub write_kind-first-requires : goal.write_kind-first-requires
-write_kind-first-requires c = let p = c.requires in first-asks p.0.tables p.0 p.1 p.2 _ p.3 p.4
+write_kind-first-requires c = let p = c.requires in first-asks p.0.tables p.0 p.1 p.2 p.3
 
 pub write_bandwidths-bandwidths-requires : goal.write_bandwidths-bandwidths-requires
 write_bandwidths-bandwidths-requires c = let p = c.requires in
     let one = c.write_kind-first in
-    bandwidths-asks p.0.tables p.0 p.1 p.2 _ p.3 p.4 one.auto.out one.ensures
+    bandwidths-asks p.0.tables p.0 p.1 p.2 p.3 one.auto.out one.ensures
 
 pub write_middle-requires : goal.write_middle-requires
 write_middle-requires c = let p = c.requires in
     let one = c.write_kind-first in
     let two = c.write_bandwidths-bandwidths in
-    middle-asks p.0.tables p.0 p.1 p.2 _ p.3 p.4 one.auto.out one.ensures two.auto.out two.ensures
+    middle-asks p.0.tables p.0 p.1 p.2 p.3 one.auto.out one.ensures two.auto.out two.ensures
 
 pub returns : goal.returns
 returns c = let p = c.requires in
     let one = c.write_kind-first in
     let two = c.write_bandwidths-bandwidths in
-    low-written p.0.tables p.0 p.1 p.2 _ p.3 p.4 one.auto.out one.ensures two.auto.out two.ensures
+    low-written p.0.tables p.0 p.1 p.2 p.3 one.auto.out one.ensures two.auto.out two.ensures
     c.write_middle.ensures

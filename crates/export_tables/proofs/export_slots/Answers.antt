@@ -1,4 +1,4 @@
--- `export_tables::export_slots` meets its contract: the classes of the side, the groups, and then parts that describe the meaning. Assumes nothing.
+-- the classes of the side, the groups, and then parts that describe the meaning.
 use Prim.Native.Nat.{◌≤◌}
 use native.Mathlib.Omega.{arith}
 use lib.ListN.{length}

@@ -1,4 +1,4 @@
--- `set_bytes::write_bits` meets its contract: what is written, and what the words to come would be written as, is the whole. Assumes nothing.
+-- what is written, and what the words to come would be written as, is the whole.
 use Prim.Native.Nat.{ℕ, ◌+◌, ◌*◌, ◌/◌}
 use mathlib.Core.Path.{refl, ◌∙◌, ap}
 use lib.ListN.{length, get_or}

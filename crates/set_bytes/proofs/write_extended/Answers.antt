@@ -1,17 +1,18 @@
--- `set_bytes::write_extended` meets its contract: what is written so far are the TLVs of the kinds passed. Assumes nothing.
+-- what is written so far are the TLVs of the kinds passed.
 use mathlib.Core.Path.{refl, ◌∙◌}
 use native.Mathlib.Omega.{arith}
 use Rattle.grids.specs.Grids.{grid_value}
+use Rattle.grids.specs.Slots.{slot_grid}
 use Rattle.set_bytes.proofs.Laws.{extended-code, extended-start, extended-room, extended-next, extended-end}
 use Rattle.set_bytes.proofs.write_extended.Goals as goal
 
 pub loop-c-init : goal.loop-c-init
-loop-c-init c = let a = c.args in (omega arith, omega arith, refl, extended-start (grid_value a.run.now a.g.now) a.out.now a.at c.requires.1 1114 refl)
+loop-c-init c = let a = c.args in (omega arith, omega arith, refl, extended-start (grid_value a.sets.run.now (slot_grid a.sets.rows.now a.s)) a.out.now a.at c.requires.2 1114 refl)
 
 pub write_kind-next-requires : goal.write_kind-next-requires
 write_kind-next-requires c = let a = c.args in
     let l = c.loop-c in
-    (c.requires.0, extended-code l.c l.invariant.0 (omega arith), extended-room (grid_value a.run.now a.g.now) a.out.now a.at c.requires.1 l.c l.invariant.0 (omega arith) l.invariant.2 l.invariant.3)
+    (c.requires.0, c.requires.1, extended-code l.c l.invariant.0 (omega arith), extended-room (grid_value a.sets.run.now (slot_grid a.sets.rows.now a.s)) a.out.now a.at c.requires.2 l.c l.invariant.0 (omega arith) l.invariant.2 l.invariant.3)
 
 pub loop-c-preserved : goal.loop-c-preserved
 loop-c-preserved c = let a = c.args in
@@ -20,7 +21,7 @@ loop-c-preserved c = let a = c.args in
       omega arith,
       omega arith,
       w.auto.out ∙ l.invariant.2,
-      extended-next (grid_value a.run.now a.g.now) a.out.now a.at c.requires.1 l.c l.invariant.0 (omega arith) l.invariant.2 l.invariant.3 w.ensures,
+      extended-next (grid_value a.sets.run.now (slot_grid a.sets.rows.now a.s)) a.out.now a.at c.requires.2 l.c l.invariant.0 (omega arith) l.invariant.2 l.invariant.3 w.ensures,
     )
 
 pub shape_of-out : goal.shape_of-out
@@ -29,4 +30,4 @@ shape_of-out c = c.loop-c.invariant.2
 pub returns : goal.returns
 returns c = let a = c.args in
     let l = c.loop-c in
-    extended-end (grid_value a.run.now a.g.now) a.out.now a.at c.requires.1 l.c (omega arith) l.invariant.1 l.invariant.3
+    extended-end (grid_value a.sets.run.now (slot_grid a.sets.rows.now a.s)) a.out.now a.at c.requires.2 l.c (omega arith) l.invariant.1 l.invariant.3

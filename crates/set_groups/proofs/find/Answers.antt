@@ -9,7 +9,7 @@ use Rattle.set_groups.proofs.find.Goals as goal
 pub loop-i-init : goal.loop-i-init
 loop-i-init c = let a = c.args in
     let p = c.requires in
-    search-start a.run.now a.sets.now (word a.groups.now) a.count a.s a.c p.0 p.1 p.2 a.first p.4
+    search-start a.sets.run.now a.sets.rows.now (word a.groups.now) a.count a.s a.c p.0 p.1 p.2 a.first p.4
 
 pub offset_bounds-groups-i : goal.offset_bounds-groups-i
 offset_bounds-groups-i c = omega (arith, c.loop-i.invariant.inside, c.requires.2.most)
@@ -24,7 +24,7 @@ pub returns-then-same_set : goal.returns-then-same_set
 returns-then-same_set c = let l = c.loop-i in
     let a = c.args in
     let p = c.requires in
-    search-found a.run.now a.sets.now (word a.groups.now) a.count a.s a.c p.0 p.1 p.2 l.i l.invariant c.loop-i-test.true _ c.same_set.ensures c.if-same_set.true
+    search-found a.sets.run.now a.sets.rows.now (word a.groups.now) a.count a.s a.c p.0 p.1 p.2 l.i l.invariant c.loop-i-test.true _ c.same_set.ensures c.if-same_set.true
 
 pub loop-i-smaller : goal.loop-i-smaller
 loop-i-smaller c = let l = c.loop-i in omega (arith, c.next_in-i.ensures, (c.requires.2.next l.i (omega arith) l.invariant.inside).below)
@@ -33,11 +33,11 @@ pub loop-i-preserved : goal.loop-i-preserved
 loop-i-preserved c = let l = c.loop-i in
     let a = c.args in
     let p = c.requires in
-    let at = search-next a.run.now a.sets.now (word a.groups.now) a.count a.s a.c p.0 p.1 p.2 l.i l.invariant c.loop-i-test.true _ c.same_set.ensures c.if-same_set.false in
-    subst (λ (k : ℕ). At a.run.now a.sets.now (word a.groups.now) a.count a.s a.c k) (sym c.next_in-i.ensures) at
+    let at = search-next a.sets.run.now a.sets.rows.now (word a.groups.now) a.count a.s a.c p.0 p.1 p.2 l.i l.invariant c.loop-i-test.true _ c.same_set.ensures c.if-same_set.false in
+    subst (λ (k : ℕ). At a.sets.run.now a.sets.rows.now (word a.groups.now) a.count a.s a.c k) (sym c.next_in-i.ensures) at
 
 pub returns : goal.returns
 returns c = let l = c.loop-i in
     let a = c.args in
     let p = c.requires in
-    search-end a.run.now a.sets.now (word a.groups.now) a.count a.s a.c p.0 p.1 p.2 l.i l.invariant (omega arith)
+    search-end a.sets.run.now a.sets.rows.now (word a.groups.now) a.count a.s a.c p.0 p.1 p.2 l.i l.invariant (omega arith)

@@ -4,7 +4,7 @@ use Rattle.set_groups.proofs.Laws.{At}
 use Rattle.set_groups.proofs.find.Given as goal
 
 abbrev pub invariant-loop-i : goal.invariant-loop-i
-invariant-loop-i l = At l.run l.sets (word l.groups) l.count l.s l.c l.i
+invariant-loop-i l = At l.sets.run.now l.sets.rows.now (word l.groups) l.count l.s l.c l.i
 
 abbrev pub decreases-loop-i : goal.decreases-loop-i
 decreases-loop-i l = l.i

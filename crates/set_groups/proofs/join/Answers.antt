@@ -8,15 +8,15 @@ pub find-requires : goal.find-requires
 find-requires c = let a = c.args in
     let p = c.requires in
     let b = c.bucket_of-b.ensures in
-    (p.0, p.1, p.5.entries, omega arith, first-of a.run.now a.sets.now (word a.groups.now) a.buckets.now a.count _ _ _ p.5 b.1 b.0 c.from-first.ensures)
+    (p.0, p.1, p.5.entries, omega arith, first-of a.sets.run.now a.sets.rows.now (word a.groups.now) a.buckets.now a.count _ _ _ p.5 b.1 b.0 c.from-first.ensures)
 
 pub returns-in-Some : goal.returns-in-Some
 returns-in-Some c = let a = c.args in
     let f = c.in-Some.ensures in
-    joined-there a.run.now a.sets.now a.groups.now a.buckets.now a.count a.n a.s a.c _ c.requires.5 (omega (arith, c.requires.7)) f.0 f.1 f.2 _ c.add_member.ensures
+    joined-there a.sets.run.now a.sets.rows.now a.groups.now a.buckets.now a.count a.n a.s a.c _ c.requires.5 (omega (arith, c.requires.7)) f.0 f.1 f.2 _ c.add_member.ensures
 
 pub returns : goal.returns
 returns c = let a = c.args in
     let p = c.requires in
     let b = c.bucket_of-b.ensures in
-    joined-last a.run.now a.sets.now a.groups.now a.buckets.now a.count a.n a.s a.c p.5 p.7 p.6 p.1 p.2 p.3 _ _ b.1 b.0 c.from-first.ensures c.in_default.ensures _ c.add_member-2.ensures
+    joined-last a.sets.run.now a.sets.rows.now a.groups.now a.buckets.now a.count a.n a.s a.c p.5 p.7 p.6 p.1 p.2 p.3 _ _ b.1 b.0 c.from-first.ensures c.in_default.ensures _ c.add_member-2.ensures

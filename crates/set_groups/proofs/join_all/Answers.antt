@@ -10,7 +10,7 @@ pub join_mask-count-requires : goal.join_mask-count-requires
 join_mask-count-requires c = let a = c.args in
     (omega arith, c.requires.0, (at_place a.m, 1, c.requires.1, begun _ _ _ (at_place a.m) _ _ c.requires.3 c.requires.2, ahead-standard a.m _ c.without-others.ensures))
 
-first : (c : After-join_mask-count) → Begun c.args.run.now c.args.sets.now c.args.own.now (at_place c.args.m) 64 c.join_mask-count.result c.join_mask-count.new.groups c.join_mask-count.new.buckets
+first : (c : After-join_mask-count) → Begun c.args.sets.run.now c.args.sets.rows.now c.args.own.now (at_place c.args.m) 64 c.join_mask-count.result c.join_mask-count.new.groups c.join_mask-count.new.buckets
 first c = let a = c.args in c.join_mask-count.ensures.1 (at_place a.m) 1 c.requires.1 (begun _ _ _ (at_place a.m) _ _ c.requires.3 c.requires.2) (ahead-standard a.m _ c.without-others.ensures)
 
 pub join_mask-requires : goal.join_mask-requires

@@ -23,7 +23,7 @@ join-count-requires c =
     let es = slot_is c.args.own.now _ _ _ c.turned_place.ensures.0 c.from.ensures in
     let ec = class-is c.args.own.now _ _ _ c.turned_place.ensures.0 c.from-in-loop-t.ensures in
     let few = q.2.few _ n in
-    (c.requires.1, subst (λ (k : ℕ). IsSet c.args.sets.now k) (sym es) (q.2.slot _ n), omega (arith, es, few.0), omega (arith, ec, few.1), h, b.chained, m.0, m.1)
+    (c.requires.1, subst (λ (k : ℕ). IsSet c.args.sets.rows.now k) (sym es) (q.2.slot _ n), omega (arith, es, few.0), omega (arith, ec, few.1), h, b.chained, m.0, m.1)
 
 pub loop-t-preserved : goal.loop-t-preserved
 loop-t-preserved c =

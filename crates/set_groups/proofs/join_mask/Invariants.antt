@@ -9,5 +9,5 @@ use Rattle.set_groups.proofs.join_mask.Given as goal
 abbrev pub invariant-loop-t : goal.invariant-loop-t
 invariant-loop-t l =
     (length l.groups ≡ length l.initial.groups)
-    × ((p : ℕ → Bool) (from : ℕ) → Placed l.sets l.own p → Begun l.run l.sets l.own p from l.entries l.initial.groups l.initial.buckets → Ahead p l.base from l.bits
-    → ((n : ℕ) × Begun l.run l.sets l.own p n l.count l.groups l.buckets × Ahead p l.base n l.t-iterator.0))
+    × ((p : ℕ → Bool) (from : ℕ) → Placed l.sets.rows.now l.own p → Begun l.sets.run.now l.sets.rows.now l.own p from l.entries l.initial.groups l.initial.buckets → Ahead p l.base from l.bits
+    → ((n : ℕ) × Begun l.sets.run.now l.sets.rows.now l.own p n l.count l.groups l.buckets × Ahead p l.base n l.t-iterator.0))
