@@ -30,8 +30,9 @@ use Rattle.isis_grids.specs.Selected.{selects, selected}
 use Rattle.isis_grids.proofs.Grids.{All, all-member, all-each}
 use Rattle.isis_grids.proofs.Aslas.{headed, list-ok, all-selected, live_all}
 
--- An attribute of run A: its value has a right length, and is the run's own bytes, with a zero in front of a TE metric.
+-- An attribute of run A: its value stands at its place, has a right length, and is the run's own bytes, with a zero in front of a TE metric.
 pub record Stands (a : List ℕ) (t : Attribute) : Type 0 where
+  pub placed : 0 < t.at
   pub right : wrong_of_code t.code t.len ≡ false
   pub there : length (bytes_at a t.at t.len) ≡ t.len
   pub value : t.value ≡ bgpls_value t.code (bytes_at a t.at t.len)
@@ -75,6 +76,7 @@ module _ (check : ℕ → ℕ → List ℕ → Verdict) (right : (at t : ℕ) (v
   unfolding attributes_of attribute bgpls_value
   stands_one at t v h e = (
     record {
+      placed = omega arith;
       right = right at t v h;
       there = ap length e;
       value = ap₂ (λ (b : Bool) (l : List ℕ). cond b (0 ∷ l) l) (metric-type t) (sym e);

@@ -9,9 +9,10 @@ use lib.ListN.{length, get_or}
 use Rattle.linkstate.specs.Lists.{each}
 use Rattle.linkstate.specs.Bytes.{bytes_at}
 use Rattle.linkstate.specs.Replies.{accepted, run_a, fault}
-use Rattle.linkstate.specs.Elements.{elements, faults}
+use Rattle.linkstate.specs.Elements.{Element, element, elements, faults}
 use Rattle.linkstate.specs.Attributes.{Attribute, attribute}
-use Rattle.linkstate.proofs.WalkLaws.{left, each-end, not-accepted}
+use Rattle.linkstate.proofs.WalkLaws.{left, not-accepted, type-one, length-one}
+use Rattle.frames.proofs.Walks.{Stands, stands}
 use Rattle.octets.proofs.Laws.{length-bytes_at, get_d-bytes_at}
 use Rattle.isis.specs.Types.{code_of_type, wrong_in_a}
 use Rattle.isis.specs.RunA.{check_attribute, attributes_of}
@@ -165,18 +166,9 @@ module _ {a : List ℕ} {from end : ℕ} (l : Listed a from end) where
     done = p;
   }
 
-  pub reading-end : {at : ℕ} {P : List Attribute → Type 0} → Reading a from end at P → end ≤ at → P (each attributes_of (elements 1 from (part_of a from end)))
-  reading-end {at} {P} r h =
-      subst P
-      (sym (append-nil r.gone) ∙ ap (λ (ts : List Attribute). r.gone ++ ts) (sym (each-end attributes_of 1 (omega arith) from (part_of a from end) (at - from) (omega (arith, list-size l)))) ∙ r.parts)
-      r.done
-
   module _ {at : ℕ} {P : List Attribute → Type 0} (r : Reading a from end at P) (here : at < end) where
     pub reading-inside : at + 2 + get_or a (at + 1) 0 ≤ end
     reading-inside = list_inside l at r.low here r.ok
-
-    pub reading-room : (at + 2 + get_or a (at + 1) 0 ≤ length a) × (at + 2 + get_or a (at + 1) 0 < 65536)
-    reading-room = (omega (arith, reading-inside, l.inside), omega (arith, reading-inside, l.inside, l.small))
 
     pub reading-right : get_or a (at + 1) 0 < 256 → Right a (get_or a at 0) (at + 2) (get_or a (at + 1) 0)
     reading-right b = list_right l at r.low here r.ok b
@@ -194,6 +186,54 @@ module _ {a : List ℕ} {from end : ℕ} (l : Listed a from end) where
           gone = r.gone ++ (t ∷ []);
           parts = append_assoc r.gone (t ∷ []) _ ∙ ap (λ (ts : List Attribute). r.gone ++ ts) (sym (one-here l at r.low here r.ok)) ∙ r.parts;
           done = q v;
+        }
+
+-- ---- a turn of the iterator
+
+-- The loop stands at a place of the run: es are the elements from there on.
+pub record AtPlace (a : List ℕ) (from end : ℕ) (es : List Element) (P : List Attribute → Type 0) : Type 0 where
+  pub at : ℕ
+  pub left : es ≡ left 1 from (part_of a from end) (at - from)
+  pub reads : Reading a from end at P
+
+one : 0 < 1
+one = omega arith
+
+module _ {a : List ℕ} {from end : ℕ} (l : Listed a from end) {es : List Element} where
+  pub place-begin : {P : List Attribute → Type 0} → es ≡ elements 1 from (part_of a from end) → P [] → AtPlace a from end es P
+  place-begin e p = record { at = from; left = e ∙ sym (all_left l); reads = reading-begin l p }
+
+  pub place-end : {P : List Attribute → Type 0} → AtPlace a from end es P → es ≡ [] → P (each attributes_of (elements 1 from (part_of a from end)))
+  unfolding each
+  place-end {P} p e =
+      subst P (sym (append-nil p.reads.gone) ∙ ap (λ (es : List Element). p.reads.gone ++ each attributes_of es) (sym e ∙ p.left) ∙ p.reads.parts) p.reads.done
+
+  module _ {P : List Attribute → Type 0} (p : AtPlace a from end es P) {o t : ℕ} {v : List ℕ} {rest : List Element} (e : es ≡ element o t v ∷ rest) where
+    there : Stands 1 one from (part_of a from end) (p.at - from) o t v rest
+    there = stands 1 one from (part_of a from end) (p.at - from) (sym p.left ∙ e)
+
+    here : p.at < end
+    here = let s = there in let r = p.reads in omega (arith, s.whole.within, list-size l)
+
+    -- The offset, the type and the length are those that stand there.
+    o-is : o ≡ p.at
+    o-is = let s = there in let r = p.reads in omega (arith, s.place)
+
+    t-is : get_or a p.at 0 ≡ t
+    t-is = let r = p.reads in sym (kind-is l p.at r.low here r.ok) ∙ sym (type-one (part_of a from end) (p.at - from)) ∙ there.whole.type
+
+    n-is : get_or a (p.at + 1) 0 ≡ length v
+    n-is = let r = p.reads in sym (size_is l p.at r.low here r.ok) ∙ sym (length-one (part_of a from end) (p.at - from)) ∙ there.whole.size
+
+    pub place-right : ((i : ℕ) → get_or a i 0 < 256) → Right a t (o + 2) (length v)
+    place-right b = rw (← t-is, o-is, ← n-is) (reading-right l p.reads here (b (p.at + 1)))
+
+    pub place-next : {Q : List Attribute → Type 0} → ((v' : List ℕ) → Q (p.reads.gone ++ (attribute_at t (o + 2) (length v) v' ∷ []))) → AtPlace a from end rest Q
+    place-next q =
+        record {
+          at = p.at + 2 + get_or a (p.at + 1) 0;
+          left = there.behind ∙ ap (left 1 from (part_of a from end)) (let r = p.reads in omega (arith, n-is, r.low));
+          reads = reading-next l p.reads here (λ v'. rw (t-is, n-is, sym o-is) (q v'));
         }
 
 -- ---- the turns, as the code has them

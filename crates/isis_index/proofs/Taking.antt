@@ -26,7 +26,8 @@ use Rattle.masks.specs.declared.Applications.{Applications}
 use Rattle.masks.specs.Applications.{at_place}
 use Rattle.isis_index.specs.Index.{cell_in, Source, legacy, live, Spot, takes, source_of, code_of, owning, Valid, Adds, Right, from_legacy, heard_by_all, heard, told, attribute_at, Took, TookFor, Ready, here_in, part_of, Here, Owning, Told, ReadAs, Gains}
 use Rattle.isis_index.specs.declared.Asla.{Asla}
-use Rattle.isis_index.specs.declared.Asla.TheVariants.{Unread, ForAll, ForNamed}
+use Rattle.isis_index.specs.declared.Asla.TheVariants.{ForAll, ForNamed}
+use Rattle.std.specs.Prelude.{Option, Some, None}
 use Rattle.isis_index.proofs.Cells.{cell-one, cell-none, no_code, place-low, adds-cells, adds_none, all-legacy}
 use Rattle.isis_index.proofs.Heard.{heard-legacy, having-kept}
 use Rattle.isis_index.proofs.Lists.{right_of}
@@ -84,14 +85,14 @@ module _ {a : List ℕ} {at end : ℕ} (y : Here a at end) (asla : get_or a at 0
       }
 
 -- What the header says, by its answer.
-module _ {a : List ℕ} {at end : ℕ} (y : Here a at end) (r : Asla) (is : ReadAs a at end r) where
-  pub read-unread : r ≡ Unread → (w : Which) → selected w (here_in a at) ≡ []
+module _ {a : List ℕ} {at end : ℕ} (y : Here a at end) (r : Option Asla) (is : ReadAs a at end r) where
+  pub read-unread : r ≡ None → (w : Which) → selected w (here_in a at) ≡ []
   read-unread e = subst (ReadAs a at end) e is
 
-  pub read_all : (from : ℕ) → r ≡ ForAll from → Told a at end from heard_by_all
+  pub read_all : (from : ℕ) → r ≡ Some (ForAll from) → Told a at end from heard_by_all
   read_all from e = subst (ReadAs a at end) e is
 
-  pub read_named : (from : ℕ) (who : Applications) → r ≡ ForNamed from who
+  pub read_named : (from : ℕ) (who : Applications) → r ≡ Some (ForNamed from who)
       → Told a at end from (heard who) × ((n : ℕ) → at_place who (turned_place n) ≡ any (names n) (asla_advertisements (here_in a at)))
   read_named from who e = subst (ReadAs a at end) e is
 

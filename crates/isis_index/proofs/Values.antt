@@ -19,7 +19,9 @@ use Rattle.grids.specs.Grids.{row_value}
 use Rattle.grids.specs.Slots.{cell_row}
 use Rattle.set_table.specs.Tables.{cell_of, first}
 use Rattle.set_table.proofs.Tables.{first-free, first_taken, no_value}
-use Rattle.isis_grids.specs.Grid.{first_row, row_of, bgpls_value}
+use Rattle.isis_grids.specs.Grid.{bgpls_value}
+use Rattle.std.specs.Prelude.{is_none}
+use Rattle.octets.specs.Spans.{found_in}
 use Rattle.isis_grids.proofs.Types.{ten-codes, three-codes}
 use Rattle.isis_grids.proofs.Grids.{All}
 use Rattle.isis_grids.proofs.Places.{Stands, First, absent, present, first-of, some_bytes, within, value_none}
@@ -102,40 +104,43 @@ link-code k h = all_here Sized link_codes link-sized k (omega (arith, three-code
 
 -- ---- the cell of attributes that stand
 
+cell_first : List Attribute → ℕ
+cell_first [] = 0
+cell_first (t ∷ ts) = cell_of t.at t.len
+
 module _ (a : List ℕ) (c : ℕ) where
-  cell_row_lem : (ts : List Attribute) → All (Stands a) ts → cell_in c ts ≡ cell_of (get_or (row_of c ts) 0 0) (get_or (row_of c ts) 1 0)
-  unfolding cell_in row_of of_kind keep first_row
-  cell_row_lem [] h = refl
-  cell_row_lem (t ∷ ts) h = go (eqb c t.code) (cell_row_lem ts h.1)
+  cell-first : (ts : List Attribute) → All (Stands a) ts → cell_in c ts ≡ cell_first (of_kind c ts)
+  unfolding cell_in of_kind keep cell_first
+  cell-first [] h = refl
+  cell-first (t ∷ ts) h = go (eqb c t.code) (cell-first ts h.1)
     where
       kept : List Attribute
       kept = keep (λ x. eqb c x.code) ts
 
-      go : (b : Bool) → cell_in c ts ≡ cell_of (get_or (first_row kept) 0 0) (get_or (first_row kept) 1 0)
-          → first (cond b (cell_of t.at t.len) 0) (cell_in c ts) ≡ cell_of (get_or (first_row (cond b (t ∷ kept) kept)) 0 0) (get_or (first_row (cond b (t ∷ kept) kept)) 1 0)
+      go : (b : Bool) → cell_in c ts ≡ cell_first kept → first (cond b (cell_of t.at t.len) 0) (cell_in c ts) ≡ cell_first (cond b (t ∷ kept) kept)
       go true e = first_taken (cell_of t.at t.len) (cell_in c ts) 0 (λ z. omega (arith, h.0.placed))
       go false e = first-free 0 (cell_in c ts) 0 refl ∙ e
 
   module _ (ts : List Attribute) (h : All (Stands a) ts) where
     none-cell : of_kind c ts ≡ [] → cell_in c ts ≡ 0
-    unfolding row_of first_row
-    none-cell e = cell_row_lem ts h ∙ ap (λ (us : List Attribute). cell_of (get_or (first_row us) 0 0) (get_or (first_row us) 1 0)) e
+    unfolding cell_first
+    none-cell e = cell-first ts h ∙ ap cell_first e
 
     some-cell : (t : Attribute) (us : List Attribute) → of_kind c ts ≡ t ∷ us → cell_in c ts ≡ cell_of t.at t.len
-    unfolding row_of first_row
-    some-cell t us e = cell_row_lem ts h ∙ ap (λ (us : List Attribute). cell_of (get_or (first_row us) 0 0) (get_or (first_row us) 1 0)) e
+    unfolding cell_first
+    some-cell t us e = cell-first ts h ∙ ap cell_first e
 
     module _ (z : Sized c) where
       -- An absent value has cell 0, and no other has.
       pub cell-empty : empty (value_of c ts) ≡ eqb (cell_in c ts) 0
-      unfolding row_of first_row
+      unfolding found_in
       cell-empty = value_none a c ts z.single z.some h ∙ go (first-of a c ts h)
         where
-          go : First a c ts → eqb (get_or (first_row (of_kind c ts)) 0 0) 0 ≡ eqb (cell_in c ts) 0
-          go (absent e) = ap (λ (us : List Attribute). eqb (get_or (first_row us) 0 0) 0) e ∙ sym (ap (λ (x : ℕ). eqb x 0) (none-cell e))
+          go : First a c ts → is_none (found_in (of_kind c ts)) ≡ eqb (cell_in c ts) 0
+          go (absent e) = ap (λ (us : List Attribute). is_none (found_in us)) e ∙ sym (ap (λ (x : ℕ). eqb x 0) (none-cell e))
           go (present t us e i s) =
               let p = s.placed in
-              ap (λ (us : List Attribute). eqb (get_or (first_row us) 0 0) 0) e ∙ ne_eqb t.at 0 (λ x. omega arith)
+              ap (λ (us : List Attribute). is_none (found_in us)) e
               ∙ sym (ap (λ (x : ℕ). eqb x 0) (some-cell t us e) ∙ ne_eqb (cell_of t.at t.len) 0 (λ x. omega arith))
 
       module _ (small : length a < 65536) where

@@ -1,7 +1,7 @@
 -- The turns of the walk over run A. Assumes nothing.
 use mathlib.Core.Path.{◌≡◌, refl, sym, ap, ◌∙◌, subst}
 use mathlib.Core.Bool.{Bool, true, false, ◌||◌, not}
-use mathlib.Core.List.{List, [], ◌++◌, append_assoc, append-nil}
+use mathlib.Core.List.{List, [], ◌∷◌, ◌++◌, append_assoc, append-nil}
 use Prim.Native.Nat.{ℕ, zero, suc, ◌+◌, ◌≤◌, ◌<◌}
 use native.Mathlib.Omega.{arith}
 use native.Mathlib.Nat.{zero-add}
@@ -14,7 +14,8 @@ use Rattle.linkstate.specs.Elements.{Element, element, elements, faults}
 use Rattle.linkstate.specs.Attributes.{Attribute}
 use Rattle.linkstate.specs.Sides.{names}
 use Rattle.linkstate.proofs.ListLaws.{any_append}
-use Rattle.linkstate.proofs.WalkLaws.{left, each-end}
+use Rattle.linkstate.proofs.WalkLaws.{left, length-one}
+use Rattle.frames.proofs.Walks.{Stands, stands}
 use Rattle.isis.specs.RunA.{check_a, asla_advertisements, side_a}
 use Rattle.isis_grids.proofs.Walks.{left-all, inside, passed, rest_ok, turn}
 use Rattle.grids.specs.Slots.{cell}
@@ -122,11 +123,11 @@ module _ {a : List ℕ} {owns begun table have : List (List ℕ)} {at : ℕ} (w 
 
   -- ---- where it ends
 
-  all-gone : length a ≤ at → (src : Source) → w.gone src ≡ in_run a src
-  all-gone h src =
-      sym (append-nil (w.gone src)) ∙ ap (λ (ts : List Attribute). w.gone src ++ ts) (sym (each-end (takes src) 1 (omega arith) 0 a at h)) ∙ w.parts src
+  all-gone : left 1 0 a at ≡ [] → (src : Source) → w.gone src ≡ in_run a src
+  unfolding each
+  all-gone e src = sym (append-nil (w.gone src)) ∙ ap (λ (es : List Element). w.gone src ++ each (takes src) es) (sym e) ∙ w.parts src
 
-  pub walking-end : Ground owns begun → Empty begun → length a ≤ at → Walked a owns table
+  pub walking-end : Ground owns begun → Empty begun → left 1 0 a at ≡ [] → Walked a owns table
   walking-end g e h = record {
     holds = w.done.holds;
     cells = λ x v.
@@ -134,3 +135,48 @@ module _ {a : List ℕ} {owns begun table have : List (List ℕ)} {at : ℕ} (w 
         ∙ first-free (cell begun (slot_in owns x) (cell_at x)) _ 0 (empty-cell a begun e (slot_in owns x) (cell_at x) (spot-inside g x v))
         ∙ ap (cell_in (code_of x)) (all-gone h (source_of x));
   }
+
+-- ---- a turn of the iterator
+
+-- The loop stands at a place of the run: es are the elements from there on.
+pub record AtPlace (a : List ℕ) (owns begun table have : List (List ℕ)) (es : List Element) : Type 0 where
+  pub at : ℕ
+  pub left : es ≡ left 1 0 a at
+  pub walks : Walking a owns begun table have at
+
+one : 0 < 1
+one = omega arith
+
+module _ {a : List ℕ} {owns begun table have : List (List ℕ)} {es : List Element} (p : AtPlace a owns begun table have es) where
+  pub place-end : es ≡ [] → Ground owns begun → Empty begun → Walked a owns table
+  place-end e g z = walking-end p.walks g z (sym p.left ∙ e)
+
+  module _ {o t : ℕ} {v : List ℕ} {rest : List Element} (e : es ≡ element o t v ∷ rest) where
+    there : Stands 1 one 0 a p.at o t v rest
+    there = stands 1 one 0 a p.at (sym p.left ∙ e)
+
+    here : p.at < length a
+    here = let s = there in omega (arith, s.whole.within)
+
+    o-is : o ≡ p.at
+    o-is = let s = there in omega (arith, s.place)
+
+    n-is : get_or a (p.at + 1) 0 ≡ length v
+    n-is = sym (length-one a p.at) ∙ there.whole.size
+
+    pub place-inside : o + 2 + length v ≤ length a
+    place-inside = omega (arith, walking-inside p.walks here, o-is, n-is)
+
+    pub place_here : length a < 65536 → Here a o (o + 2 + length v)
+    place_here small = rw (o-is, ← n-is) (walking_here p.walks here small)
+
+    pub place-named : Owning owns (asla_advertisements (here_in a o))
+    place-named = rw o-is (walking-named p.walks here)
+
+    pub place-next : {after had : List (List ℕ)} → Gains a owns table after had (λ src. takes src (here_in a o)) → AtPlace a owns begun after had rest
+    place-next {after} {had} g =
+        record {
+          at = p.at + 2 + get_or a (p.at + 1) 0;
+          left = there.behind ∙ ap (λ (n : ℕ). left 1 0 a (p.at + 2 + n)) (sym n-is);
+          walks = walking-next p.walks here (subst (λ (i : ℕ). Gains a owns table after had (λ src. takes src (here_in a i))) o-is g);
+        }

@@ -1,5 +1,5 @@
 -- What an accepted run A gives to the table of its sets: the cells, the attributes that come to each, and the slots when the run has been walked.
-use Rattle.std.specs.Prelude.{◌≡◌, Bool, true, false, cond, ◌&&◌, List, [], ◌∷◌, ℕ, ◌+◌, ◌-◌, ◌≤◌, ◌<◌, eqb, leb, length, take, drop, get_or}
+use Rattle.std.specs.Prelude.{◌≡◌, Bool, true, false, cond, ◌&&◌, List, [], ◌∷◌, ℕ, ◌+◌, ◌-◌, ◌≤◌, ◌<◌, eqb, leb, length, take, drop, get_or, Option, Some, None}
 use Rattle.linkstate.specs.Limits.{most_bytes}
 use Rattle.linkstate.specs.Lists.{any, each}
 use Rattle.linkstate.specs.Bytes.{bytes_at}
@@ -20,7 +20,7 @@ use Rattle.isis_grids.specs.declared.Which.{Which}
 use Rattle.isis_grids.specs.declared.Which.TheVariants.{Naming, General, RsvpTeAlone, WithoutL}
 use Rattle.isis_grids.specs.Selected.{selected}
 use Rattle.isis_index.specs.declared.Asla.{Asla}
-use Rattle.isis_index.specs.declared.Asla.TheVariants.{Unread, ForAll, ForNamed}
+use Rattle.isis_index.specs.declared.Asla.TheVariants.{ForAll, ForNamed}
 
 -- W5. The cell of a code's first value among attributes; 0 where it is absent.
 unfoldable pub cell_in : ℕ → List Attribute → ℕ
@@ -197,10 +197,10 @@ pub record Told (a : List ℕ) (at end from : ℕ) (h : Source → Bool) : Type 
   pub gives : (w : Which) → selected w (here_in a at) ≡ told h (each attributes_of (elements 1 from (part_of a from end))) (live w)
 
 -- A3, A7, A8. What the header of an ASLA says: nobody hears its list, all hear it, or those of a set do, whom it names.
-abbrev pub ReadAs : List ℕ → ℕ → ℕ → Asla → Type 0
-ReadAs a at end Unread = (w : Which) → selected w (here_in a at) ≡ []
-ReadAs a at end (ForAll from) = Told a at end from heard_by_all
-ReadAs a at end (ForNamed from who) = Told a at end from (heard who) × ((n : ℕ) → at_place who (turned_place n) ≡ any (names n) (asla_advertisements (here_in a at)))
+abbrev pub ReadAs : List ℕ → ℕ → ℕ → Option Asla → Type 0
+ReadAs a at end None = (w : Which) → selected w (here_in a at) ≡ []
+ReadAs a at end (Some (ForAll from)) = Told a at end from heard_by_all
+ReadAs a at end (Some (ForNamed from who)) = Told a at end from (heard who) × ((n : ℕ) → at_place who (turned_place n) ≡ any (names n) (asla_advertisements (here_in a at)))
 
 -- What a table has become where attributes came to its cells, by their source; and who has a value of a kind now.
 pub record Gains (run : List ℕ) (owns table after had : List (List ℕ)) (new : Source → List Attribute) : Type 0 where

@@ -17,12 +17,13 @@ ghost use Rattle.isis_index.specs.Started.{Started};
 ghost use Rattle.isis_index.specs.Settled.{settled, Settled, from_old, rsvp_te_slot, filled_slot};
 ghost use Rattle.isis_index.specs.Indexed.{Indexed};
 
+use frames::{Element, One, Whole};
 use kinds::Kind;
 use masks::Applications;
 use rules::{Names, Rule};
 
 // A legacy attribute, by its type.
-fn enter_legacy(a: &[u8], sets: &mut [[u32; 12]], t: u8, place: usize, n: usize)
+fn enter_legacy(a: &[u8], sets: &mut [[u32; 12]], t: usize, place: usize, n: usize)
     requires { Table a.now sets.old × (3 ≤ length sets.old) × Right a.now t place n }
     ensures { (v : List ℕ) → Took a.now sets.old sets.new from_legacy (attribute_at t place n v ∷ []) }
 {
@@ -38,7 +39,7 @@ fn enter_legacy(a: &[u8], sets: &mut [[u32; 12]], t: u8, place: usize, n: usize)
 }
 
 // An attribute of a general advertisement, by its type.
-fn enter_general(a: &[u8], sets: &mut [[u32; 12]], t: u8, place: usize, n: usize)
+fn enter_general(a: &[u8], sets: &mut [[u32; 12]], t: usize, place: usize, n: usize)
     requires { Table a.now sets.old × (3 ≤ length sets.old) × Right a.now t place n }
     ensures { (v : List ℕ) → Took a.now sets.old sets.new heard_by_all (attribute_at t place n v ∷ []) }
 {
@@ -63,7 +64,7 @@ fn enter_for(
     sets: &mut [[u32; 12]],
     own: &[[u8; 2]; 128],
     have: &mut [[u64; 2]; 10],
-    t: u8,
+    t: usize,
     place: usize,
     n: usize,
     who: Applications,
@@ -94,11 +95,8 @@ fn general_list(a: &[u8], from: usize, end: usize, sets: &mut [[u32; 12]])
     requires { Table a.now sets.old × (3 ≤ length sets.old) × Listed a.now from end }
     ensures { Took a.now sets.old sets.new heard_by_all (each attributes_of (elements 1 from (part_of a.now from end))) }
 {
-    let mut at = from;
-    while at < end {
-        let n = a[at + 1] as usize;
-        enter_general(a, sets, a[at], at + 2, n);
-        at = at + 2 + n;
+    for Element { at, kind, value } in Whole::<One>::new(&a[from..end], from) {
+        enter_general(a, sets, kind, at + 2, value.len());
     }
 }
 
@@ -115,42 +113,38 @@ fn named_list(
     requires { Ready a.now own.now sets.old have.old × Listed a.now from end × Within who (owning own.now) }
     ensures { TookFor a.now own.now sets.old have.old sets.new have.new (heard who) (each attributes_of (elements 1 from (part_of a.now from end))) }
 {
-    let mut at = from;
-    while at < end {
-        let n = a[at + 1] as usize;
-        enter_for(a, sets, own, have, a[at], at + 2, n, who);
-        at = at + 2 + n;
+    for Element { at, kind, value } in Whole::<One>::new(&a[from..end], from) {
+        enter_for(a, sets, own, have, kind, at + 2, value.len(), who);
     }
 }
 
-// What is read of an ASLA: nothing, or its list from a place on, for all or for those that it names.
+// What is read of an ASLA: its list from a place on, for all or for those that it names.
 #[derive(Clone, Copy)]
 enum Asla {
-    Unread,
     ForAll(usize),
     ForNamed(usize, Applications),
 }
 
 // The header of an ASLA of an accepted run. With L, or with a mask too long to be read, nobody hears its list.
-fn read_asla(a: &[u8], at: usize, end: usize) -> Asla
+fn read_asla(a: &[u8], at: usize, end: usize) -> Option<Asla>
     requires { Here a.now at end × (get_or a.now at 0 ≡ 16) }
     ensures { ReadAs a.now at end result }
 {
     let value = at + 2;
     let h = isis_check_a::read_header(&a[value..end]);
     if h.l {
-        return Asla::Unread;
+        return None;
     }
     if isis_check_a::mask_too_long(h) {
-        return Asla::Unread;
+        return None;
     }
     let masks = value + 2;
     let from = masks + h.standard + h.user;
     if from == masks {
-        return Asla::ForAll(from);
+        return Some(Asla::ForAll(from));
     }
     let who = masks::with_masks(masks::nobody(), a, masks, h.standard, h.user);
-    Asla::ForNamed(from, who)
+    Some(Asla::ForNamed(from, who))
 }
 
 // An ASLA of an accepted run.
@@ -166,9 +160,9 @@ fn add_asla(
     ensures { Gains a.now own.now sets.old sets.new have.new (λ src. takes src (here_in a.now at)) }
 {
     match read_asla(a, at, end) {
-        Asla::Unread => (),
-        Asla::ForAll(from) => general_list(a, from, end, sets),
-        Asla::ForNamed(from, who) => named_list(a, from, end, sets, own, have, who),
+        None => (),
+        Some(Asla::ForAll(from)) => general_list(a, from, end, sets),
+        Some(Asla::ForNamed(from, who)) => named_list(a, from, end, sets, own, have, who),
     }
 }
 
@@ -188,7 +182,7 @@ fn add_element(
         return add_asla(a, at, end, sets, own, have);
     }
     let value = at + 2;
-    enter_legacy(a, sets, a[at], value, end - value);
+    enter_legacy(a, sets, usize::from(a[at]), value, end - value);
 }
 
 // The whole of an accepted run A, for a table of empty rows.
@@ -197,11 +191,8 @@ fn walk(a: &[u8], sets: &mut [[u32; 12]], own: &[[u8; 2]; 128])
     ensures { (length sets.new ≡ length sets.old) × Walked a.now own.now sets.new }
 {
     let mut have = [[0u64; 2]; 10];
-    let mut at = 0;
-    while at < a.len() {
-        let end = at + 2 + a[at + 1] as usize;
-        add_element(a, at, end, sets, own, &mut have);
-        at = end;
+    for Element { at, value, .. } in Whole::<One>::new(a, 0) {
+        add_element(a, at, at + 2 + value.len(), sets, own, &mut have);
     }
 }
 
@@ -255,13 +246,6 @@ fn add_all_old(a: &[u8], sets: &mut [[u32; 12]], s: usize)
     }
 }
 
-// A slot's number, to index with.
-fn wide(x: u8) -> usize
-    ensures { result ≡ x }
-{
-    x as usize
-}
-
 // The slot of RSVP-TE's set: the general set's, legacy's, or its own, which is filled up from legacy's.
 fn rsvp_te_slot(
     a: &[u8],
@@ -277,7 +261,7 @@ fn rsvp_te_slot(
     let n = named.is_named(0);
     match rules::rsvp_te_rule(l, n, legacy) {
         Rule::NamingFirst => {
-            let s = wide(own[7][0]);
+            let s = usize::from(own[7][0]);
             add_all_old(a, sets, s);
             return s;
         }

@@ -1,36 +1,35 @@
--- `isis_index::general_list` meets its contract: a turn takes the attribute at its position. Assumes nothing.
-use Prim.Native.Nat.{◌+◌}
-use native.Mathlib.Omega.{arith}
+-- A turn takes the attribute that the iterator gives.
+use Rattle.frames.specs.Left.{whole_left}
+use Rattle.frames.proofs.Walks.{uncut}
+use Rattle.isis.specs.RunA.{check_attribute}
+use Rattle.linkstate.specs.Replies.{run_a}
 use Rattle.isis_index.specs.Index.{heard_by_all}
-use Rattle.isis_index.proofs.Lists.{reading-begin, reading-end, reading-right, reading-room, reading-next, took-then, took-empty, general-ready}
+use Rattle.isis_index.proofs.Lists.{place-begin, place-end, place-right, place-next, took-then, took-empty, general-ready}
+use native.Mathlib.Omega.{arith}
+use mathlib.Core.Path.{ap, ◌∙◌}
 use Rattle.isis_index.proofs.general_list.Goals as goal
 
+pub new-at-items-requires-clause-uncut : goal.new-at-items-requires-clause-uncut
+new-at-items-requires-clause-uncut c = uncut run_a check_attribute _ c.requires.2.passed
+
 pub loop-at-init : goal.loop-at-init
-loop-at-init c = reading-begin c.requires.2 (took-empty c.args.a.now c.args.sets.now heard_by_all c.requires.0)
-
-pub bounds-a-at : goal.bounds-a-at
-bounds-a-at c = omega (arith, (reading-room c.requires.2 c.loop-at.invariant c.loop-at-test.true).0)
-
-pub overflow_cast-n : goal.overflow_cast-n
-overflow_cast-n c = omega (arith, c.type_inv.a (c.loop-at.at + 1))
+loop-at-init c = place-begin c.requires.2 (ap whole_left c.into_iter-at-iterator.ensures.into_iter_gives ∙ c.new-at-items.ensures)
+    (took-empty c.args.a.now c.args.sets.now heard_by_all c.requires.0)
 
 pub enter_general-requires : goal.enter_general-requires
-enter_general-requires c = let p = c.requires in let l = c.loop-at in
-    let g = general-ready p.1 l.invariant in
-    (g.0, g.1, reading-right p.2 l.invariant c.loop-at-test.true (omega (arith, c.type_inv.a (l.at + 1))))
+enter_general-requires c = let i = c.loop-at.invariant in
+    let g = general-ready c.requires.1 i.reads in
+    (g.0, g.1, place-right c.requires.2 i c.in-Some.ensures.steps (λ k. omega (arith, c.type_inv.a k)))
 
-pub overflow_add-at-in-loop-at-2 : goal.overflow_add-at-in-loop-at-2
-overflow_add-at-in-loop-at-2 c = omega (arith, (reading-room c.requires.2 c.loop-at.invariant c.loop-at-test.true).1)
-
-pub loop-at-smaller : goal.loop-at-smaller
-loop-at-smaller c = omega (arith, c.loop-at-test.true)
+pub overflow_add-at : goal.overflow_add-at
+overflow_add-at c = let r = place-right c.requires.2 c.loop-at.invariant c.in-Some.ensures.steps (λ k. omega (arith, c.type_inv.a k)) in omega (arith, r.low)
 
 pub loop-at-preserved : goal.loop-at-preserved
-loop-at-preserved c = let l = c.loop-at in
-    reading-next c.requires.2 l.invariant c.loop-at-test.true (λ v. took-then l.invariant.done (c.enter_general.ensures v))
+loop-at-preserved c = let i = c.loop-at.invariant in
+    place-next c.requires.2 i c.in-Some.ensures.steps (λ v. took-then i.reads.done (c.enter_general.ensures v))
 
 pub shape_of-sets : goal.shape_of-sets
-shape_of-sets c = c.loop-at.invariant.done.kept.same
+shape_of-sets c = c.loop-at.invariant.reads.done.kept.same
 
 pub returns : goal.returns
-returns c = reading-end c.requires.2 c.loop-at.invariant c.loop-at-test.false
+returns c = place-end c.requires.2 c.loop-at.invariant c.in-None.ensures.steps.0

@@ -1,11 +1,8 @@
--- `isis_index::general_list` meets its contract: a turn takes the attribute at its position. Assumes nothing.
-use Prim.Native.Nat.{◌-◌}
+-- A turn takes the attribute that the iterator gives.
+use Rattle.frames.specs.Left.{whole_left}
 use Rattle.isis_index.specs.Index.{Took, heard_by_all}
-use Rattle.isis_index.proofs.Lists.{Reading}
+use Rattle.isis_index.proofs.Lists.{AtPlace}
 use Rattle.isis_index.proofs.general_list.Given as goal
 
 abbrev pub invariant-loop-at : goal.invariant-loop-at
-invariant-loop-at l = Reading l.a l.from l.end l.at (Took l.a l.initial.sets l.sets heard_by_all)
-
-abbrev pub decreases-loop-at : goal.decreases-loop-at
-decreases-loop-at l = l.end - l.at
+invariant-loop-at l = AtPlace l.a l.from l.end (whole_left l.at-iterator) (Took l.a l.initial.sets l.sets heard_by_all)

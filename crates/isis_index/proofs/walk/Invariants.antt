@@ -1,11 +1,7 @@
--- `isis_index::walk` meets its contract: a turn takes the element at its position. Assumes nothing.
-use Prim.Native.Nat.{◌-◌}
-use lib.ListN.{length}
-use Rattle.isis_index.proofs.Walking.{Walking}
+-- A turn takes the element that the iterator gives.
+use Rattle.frames.specs.Left.{whole_left}
+use Rattle.isis_index.proofs.Walking.{AtPlace}
 use Rattle.isis_index.proofs.walk.Given as goal
 
 abbrev pub invariant-loop-at : goal.invariant-loop-at
-invariant-loop-at l = Walking l.a l.own l.initial.sets l.sets l.have l.at
-
-abbrev pub decreases-loop-at : goal.decreases-loop-at
-decreases-loop-at l = length l.a - l.at
+invariant-loop-at l = AtPlace l.a l.own l.initial.sets l.sets l.have (whole_left l.at-iterator)
