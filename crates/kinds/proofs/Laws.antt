@@ -2,16 +2,15 @@
 use mathlib.Core.Path.{◌≡◌, refl, sym, ap, ap₂, ◌∙◌, subst}
 use mathlib.Core.Bool.{Bool, true, false, cond, ◌&&◌, ◌||◌, not}
 use mathlib.Core.List.{List, [], ◌∷◌}
-use Prim.Native.Nat.{ℕ, zero, suc, ◌+◌, ◌-◌, ◌%◌, ◌≤◌, ◌<◌}
+use Prim.Native.Nat.{ℕ, zero, suc, ◌+◌, ◌-◌, ◌≤◌, ◌<◌}
 use native.Mathlib.Omega.{arith}
-use borrow.Author.Tests.{eqb-true, ne_eqb, le-leb, lt-leb}
-use lib.Dec.{eqb, leb, lit<}
+use borrow.Author.Tests.{eqb-true, ne_eqb}
+use lib.Dec.{eqb, lit<}
 use Rattle.linkstate.specs.Lists.{any, keep, lookup, member}
 use Rattle.linkstate.specs.Kinds as T
 use Rattle.linkstate.specs.Kinds.{kinds, application_codes, has_code, is_applications, wrong_at_top, wrong_inside}
 use Rattle.kinds.specs.declared.Kind.TheVariants.{Application, Srlg, Asla, Unknown}
-use Rattle.kinds.specs.declared.Size.TheVariants.{Exactly, FoursFrom, FoursWithin, Any}
-use Rattle.kinds.specs.declared.Size.{Size}
+use Rattle.kinds.specs.declared.Size.TheVariants.{Exactly, Any}
 use Rattle.kinds.specs.declared.Rule.{Rule}
 use Rattle.kinds.specs.Rules.{grid_codes, row_in, rule, rule_of, size_of, kind_of, rule_of_code, fits_in, wrong_inside_by, is_known, is_link, is_of_sets, KindOfCode}
 use Rattle.kinds.proofs.Computing.{computing}
@@ -44,33 +43,6 @@ unfolding computing
 code-unknown c n88 n89 n90 n91 n92 n96 n122 n173 out =
     let away : (k : ℕ) → 1114 ≤ k → k < 1121 → eqb c k ≡ false = λ k h g. ne_eqb c k (out k h g) in
     simp (ne_eqb c 1088 n88, ne_eqb c 1089 n89, ne_eqb c 1090 n90, ne_eqb c 1091 n91, ne_eqb c 1092 n92, ne_eqb c 1096 n96, ne_eqb c 1122 n122, ne_eqb c 1173 n173, away 1114 (omega arith) (omega arith), away 1115 (omega arith) (omega arith), away 1116 (omega arith) (omega arith), away 1117 (omega arith) (omega arith), away 1118 (omega arith) (omega arith), away 1119 (omega arith) (omega arith), away 1120 (omega arith) (omega arith))
-
--- lengths, test by test
-module _ (s : Size) (n least : ℕ) where
-  pub exactly-is : s ≡ Exactly least → eqb n least ≡ fits_in s n
-  unfolding computing
-  exactly-is e = rw e
-
-  pub from-odd : s ≡ FoursFrom least → (n % 4 ≡ 0 → ⊥) → false ≡ fits_in s n
-  unfolding computing
-  from-odd e h = rw (e, ne_eqb (n % 4) 0 h)
-
-  pub from_is : s ≡ FoursFrom least → n % 4 ≡ 0 → leb least n ≡ fits_in s n
-  unfolding computing
-  from_is e h = rw (e, h)
-
-  module _ (most : ℕ) (e : s ≡ FoursWithin least most) where
-    pub within-odd : (n % 4 ≡ 0 → ⊥) → false ≡ fits_in s n
-    unfolding computing
-    within-odd h = rw (e, ne_eqb (n % 4) 0 h)
-
-    pub within_low : n % 4 ≡ 0 → n < least → false ≡ fits_in s n
-    unfolding computing
-    within_low h l = rw (e, h, lt-leb least n l)
-
-    pub within-is : n % 4 ≡ 0 → least ≤ n → leb n most ≡ fits_in s n
-    unfolding computing
-    within-is h l = rw (e, h, le-leb least n l)
 
 -- ---- rules and lengths: a table's row is found once, so a wrong length is one that does not fit the rule's size
 

@@ -117,26 +117,14 @@ pub fn classify_code(c: usize) -> Rule
 }
 
 // Whether a value of n bytes has one of these lengths.
+#[tactic(auto, unfolding(crate::specs::Rules::fits_in, linkstate::specs::Kinds::fits))]
 pub fn fits(size: Size, n: usize) -> bool
     ensures { result ≡ fits_in size n }
 {
     match size {
         Size::Exactly(k) => n == k,
-        Size::FoursFrom(least) => {
-            if n % 4 != 0 {
-                return false;
-            }
-            least <= n
-        }
-        Size::FoursWithin(least, most) => {
-            if n % 4 != 0 {
-                return false;
-            }
-            if n < least {
-                return false;
-            }
-            n <= most
-        }
+        Size::FoursFrom(least) => n % 4 == 0 && least <= n,
+        Size::FoursWithin(least, most) => n % 4 == 0 && least <= n && n <= most,
         Size::Any => true,
     }
 }

@@ -1,46 +1,37 @@
 -- Laws of marks and sizes: the numbers of a value mixed, and what a set's values give together. Assumes nothing.
 use Prim.Native.Nat.{ℕ, zero, suc, ◌+◌, ◌*◌, ◌/◌, ◌%◌, ◌≤◌, ◌<◌}
-use mathlib.Core.Path.{◌≡◌, refl, sym, ◌∙◌, ap, ap₂}
+use mathlib.Core.Path.{◌≡◌, refl, ◌∙◌, ap, ap₂}
 use mathlib.Core.Bool.{Bool, true, false, cond}
-use mathlib.Core.List.{List, [], ◌∷◌, map}
-use lib.ListN.{length, get_or, drop, drop_of_length-le, length-append}
-use lib.Seq.{drop-cons}
+use mathlib.Core.List.{List, [], ◌∷◌, ◌++◌, map}
+use lib.ListN.{length, get_or, length-append}
 use native.Mathlib.Omega.{arith}
-use native.Mathlib.Numerals.{add-one}
 use Rattle.linkstate.specs.Lists.{each, empty}
 use Rattle.linkstate.specs.Bytes.{number, number_from, words, bytes_at}
 use Rattle.linkstate.specs.Export.{tlv, bytes_of, present}
-use Rattle.linkstate.proofs.ElementLaws.{part-place}
 use Rattle.octets.proofs.Laws.{length-bytes_at}
-use Rattle.srlg.proofs.Laws.{length-words, word_at}
 use Rattle.tlv_bytes.specs.Tlvs.{in_tlvs, front, value_at}
 use Rattle.tlv_bytes.proofs.Laws.{length-tlv, front-three, front-none}
 use Rattle.set_table.specs.Marks.{mixed, spread, value_mark, value_size, total}
 
 -- ---- the numbers of a part of a run
 
-module _ (run : List ℕ) (place n : ℕ) (inside : place + n ≤ length run) where
-  abbrev pub Numbers : List ℕ
-  Numbers = words (bytes_at run place n)
+-- Four bytes more, and a rest of under four.
+pub mix-next : (h : ℕ) (xs rest word : List ℕ) (x : ℕ) → rest ≡ word ++ xs → length word ≡ 4 → x ≡ number (bytes_at word 0 4) → mixed (h % 4294967296 * 37 + x) (words xs) ≡ mixed h (words rest)
+unfolding mixed words bytes_at
+mix-next h xs rest (a ∷ b ∷ c ∷ d ∷ []) x e l f = rw (e, f)
+mix-next h xs rest [] x e l f = absurd (omega arith)
+mix-next h xs rest (a ∷ []) x e l f = absurd (omega arith)
+mix-next h xs rest (a ∷ b ∷ []) x e l f = absurd (omega arith)
+mix-next h xs rest (a ∷ b ∷ c ∷ []) x e l f = absurd (omega arith)
+mix-next h xs rest (a ∷ b ∷ c ∷ d ∷ y ∷ word) x e l f = absurd (omega arith)
 
-  how-many : length Numbers ≡ n / 4
-  how-many = length-words (bytes_at run place n) ∙ ap (λ (i : ℕ). i / 4) (length-bytes_at run place n inside)
-
-  number_at : (i : ℕ) → i < n / 4 → get_or Numbers i 0 ≡ number (bytes_at run (place + i * 4) 4)
-  unfolding bytes_at
-  number_at i h =
-      let s = bytes_at run place n in
-      let l = length-bytes_at run place n inside in
-      word_at s i (omega (arith, l))
-      ∙ ap number (sym (part-place run place (i * 4) 4 s (ap (λ (k : ℕ). bytes_at run place k) l) (omega (arith, l))))
-
-  pub mix_next : (y i x : ℕ) → i < n / 4 → x ≡ number (bytes_at run (place + i * 4) 4) → mixed (y % 4294967296 * 37 + x) (drop (i + 1) Numbers) ≡ mixed y (drop i Numbers)
-  unfolding mixed
-  mix_next y i x h e = rw (drop-cons Numbers i 0 (omega (arith, how-many)), number_at i h, ← e, add-one i)
-
-  pub mix-end : (y i : ℕ) → n / 4 ≤ i → y ≡ mixed y (drop i Numbers)
-  unfolding mixed
-  mix-end y i h = rw (drop_of_length-le Numbers {i = i} (omega (arith, how-many)))
+pub mix-end : (h : ℕ) (rest : List ℕ) → length rest < 4 → h ≡ mixed h (words rest)
+unfolding mixed words
+mix-end h [] l = refl
+mix-end h (a ∷ []) l = refl
+mix-end h (a ∷ b ∷ []) l = refl
+mix-end h (a ∷ b ∷ c ∷ []) l = refl
+mix-end h (a ∷ b ∷ c ∷ d ∷ rest) l = absurd (omega arith)
 
 -- A value of three bytes is a number of four, any other is as it stands.
 module _ (run : List ℕ) (place n : ℕ) where

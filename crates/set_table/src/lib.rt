@@ -18,10 +18,9 @@ fn mix(run: &[u8], place: usize, n: usize) -> u64
     requires { place + n ≤ length run.now }
     ensures { result ≡ mixed 0 (words (bytes_at run.now place n)) }
 {
-    let mut h: u64 = 0;
-    for i in 0..n / 4 {
-        let w = octets::read32(run, place + i * 4) as u64;
-        h = h % 4294967296 * 37 + w;
+    let mut h = 0;
+    for word in run[place..place + n].chunks_exact(4) {
+        h = h % 4294967296 * 37 + u64::from(octets::read32(word, 0));
     }
     h
 }
@@ -66,31 +65,42 @@ fn cell_of(place: usize, n: usize) -> u32
     (place + 65536 * n) as u32
 }
 
-// The sum of two marks.
-fn join_marks(x: u32, y: u32) -> u32
-    ensures { result ≡ (x + y) % 4294967296 }
+// What a value leaves in a slot: its cell, its mark, and the size of its TLV.
+#[derive(Clone, Copy)]
+struct Filing {
+    cell: u32,
+    mark: u32,
+    size: u32,
+}
+
+// What a value of kind k leaves.
+fn filing_of(run: &[u8], place: usize, n: usize, k: usize) -> Filing
+    requires { Value run.now place n × (k < 10) }
+    ensures { Entry run.now k place n result.cell result.mark result.size }
 {
-    ((x as u64 + y as u64) % 4294967296) as u32
+    Filing {
+        cell: cell_of(place, n),
+        mark: value_mark(run, place, n, k),
+        size: value_size(n),
+    }
 }
 
 // A value for a row that has none of its kind.
-fn enter_row(row: &mut [u32; 12], k: usize, cell: u32, mark: u32, size: u32)
-    requires { (k < 10) × (get_or row.old 11 0 + size < 4294967296) }
-    ensures { row.new ≡ entered_row row.old k cell mark size }
+fn enter_row(row: &mut [u32; 12], k: usize, e: Filing)
+    requires { (k < 10) × (get_or row.old 11 0 + e.size < 4294967296) }
+    ensures { row.new ≡ entered_row row.old k e.cell e.mark e.size }
 {
-    let m = row[10];
-    let z = row[11];
-    row[10] = join_marks(m, mark);
-    row[11] = z + size;
-    row[k] = cell;
+    row[10] = row[10].wrapping_add(e.mark);
+    row[11] += e.size;
+    row[k] = e.cell;
 }
 
 // The same for a slot.
-fn enter(sets: &mut [[u32; 12]], s: usize, k: usize, cell: u32, mark: u32, size: u32)
-    requires { (s < length sets.old) × (k < 10) × (slot_size sets.old s + size < 4294967296) }
-    ensures { sets.new ≡ entered sets.old s k cell mark size }
+fn enter(sets: &mut [[u32; 12]], s: usize, k: usize, e: Filing)
+    requires { (s < length sets.old) × (k < 10) × (slot_size sets.old s + e.size < 4294967296) }
+    ensures { sets.new ≡ entered sets.old s k e.cell e.mark e.size }
 {
-    enter_row(&mut sets[s], k, cell, mark, size);
+    enter_row(&mut sets[s], k, e);
 }
 
 // A value for one slot, unless it has one of the kind.
@@ -99,10 +109,8 @@ pub fn enter_one(run: &[u8], sets: &mut [[u32; 12]], s: usize, k: usize, place: 
     ensures { Table run.now sets.new × Given sets.old sets.new (only_at s k (cell_of place n)) }
 {
     if sets[s][k] == 0 {
-        let cell = cell_of(place, n);
-        let mark = value_mark(run, place, n, k);
-        let size = value_size(n);
-        enter(sets, s, k, cell, mark, size);
+        let e = filing_of(run, place, n, k);
+        enter(sets, s, k, e);
     }
 }
 
@@ -112,8 +120,7 @@ pub fn enter_link(sets: &mut [[u32; 12]], k: usize, place: usize, n: usize)
     ensures { ((run : List ℕ) → Table run sets.old → Value run place n → Table run sets.new) × Given sets.old sets.new (only_at 2 k (cell_of place n)) }
 {
     if sets[2][k] == 0 {
-        let cell = cell_of(place, n);
-        sets[2][k] = cell;
+        sets[2][k] = cell_of(place, n);
     }
 }
 
@@ -124,16 +131,14 @@ fn enter_bits(
     base: usize,
     bits: u64,
     k: usize,
-    cell: u32,
-    mark: u32,
-    size: u32,
+    e: Filing,
 )
-    requires { (base ≤ 64) × (k < 10) × Free sets.old own.now base bits k × ((run : List ℕ) × (place : ℕ) × (n : ℕ) × Table run sets.old × Entry run k place n cell mark size) }
-    ensures { Given sets.old sets.new (to_reached own.now base bits k cell) × ((run : List ℕ) (place n : ℕ) → Table run sets.old → Entry run k place n cell mark size → Table run sets.new) }
+    requires { (base ≤ 64) × (k < 10) × Free sets.old own.now base bits k × ((run : List ℕ) × (place : ℕ) × (n : ℕ) × Table run sets.old × Entry run k place n e.cell e.mark e.size) }
+    ensures { Given sets.old sets.new (to_reached own.now base bits k e.cell) × ((run : List ℕ) (place n : ℕ) → Table run sets.old → Entry run k place n e.cell e.mark e.size → Table run sets.new) }
 {
     for t in Bits(bits) {
         let s = usize::from(own[base + t][0]);
-        enter(sets, s, k, cell, mark, size);
+        enter(sets, s, k, e);
     }
 }
 
@@ -150,11 +155,9 @@ fn enter_both(
     requires { Table run.now sets.old × (k < 10) × Value run.now place n × Fresh sets.old own.now m k }
     ensures { Table run.now sets.new × Given sets.old sets.new (to_named own.now m k (cell_of place n)) }
 {
-    let cell = cell_of(place, n);
-    let mark = value_mark(run, place, n, k);
-    let size = value_size(n);
-    enter_bits(sets, own, 0, m.standard, k, cell, mark, size);
-    enter_bits(sets, own, 64, m.user, k, cell, mark, size);
+    let e = filing_of(run, place, n, k);
+    enter_bits(sets, own, 0, m.standard, k, e);
+    enter_bits(sets, own, 64, m.user, k, e);
 }
 
 // A value for the applications of a set that have none of its kind yet.
@@ -171,19 +174,16 @@ pub fn enter_named(
     requires { Table run.now sets.old × (k < 10) × Value run.now place n × ((names : ℕ → Bool) × Slotted sets.old own.now names × Having sets.old own.now have.old names × Within m names) }
     ensures { Table run.now sets.new × Given sets.old sets.new (to_named own.now m k (cell_of place n)) × ((names : ℕ → Bool) → Slotted sets.old own.now names → Having sets.old own.now have.old names → Within m names → Having sets.new own.now have.new names) }
 {
-    let s = have[k][0];
-    let u = have[k][1];
     let old = Applications {
-        standard: s,
-        user: u,
+        standard: have[k][0],
+        user: have[k][1],
     };
     let fresh = masks::except(m, old);
     if (fresh.standard == 0) & (fresh.user == 0) {
         return;
     }
     let all = masks::join(old, m);
-    let both = [all.standard, all.user];
-    have[k] = both;
+    have[k] = [all.standard, all.user];
     enter_both(run, sets, own, k, place, n, fresh);
 }
 
@@ -224,10 +224,7 @@ fn empty_first(sets: &mut [[u32; 12]])
     requires { 3 ≤ length sets.old }
     ensures { (length sets.new ≡ length sets.old) × ((s : ℕ) → s < 3 → get_or sets.new s [] ≡ empty_row) }
 {
-    for s in 0..3 {
-        let row = [0u32; 12];
-        sets[s] = row;
-    }
+    sets[..3].fill([0; 12]);
 }
 
 // The slots of the applications of a set, n at place n, in the order of their numbers, from 3 on; those and the first three made empty. How many slots there are.

@@ -1,10 +1,9 @@
 -- Slot by slot, from the lowest bit on.
-use native.Mathlib.Omega.{arith}
 use Rattle.set_table.proofs.Bits.{filling-begin, filling-end, filling-room, filling-next}
 use Rattle.set_table.proofs.enter_bits.Goals as goal
 
 pub loop-t-init : goal.loop-t-init
-loop-t-init c = let a = c.args in rw c.into_iter-t-iterator.ensures.into_iter_gives (filling-begin a.sets.now a.own.now a.base a.bits a.k a.cell a.mark a.size c.requires.2)
+loop-t-init c = let a = c.args in rw c.into_iter-t-iterator.ensures.into_iter_gives (filling-begin a.sets.now a.own.now a.base a.bits a.k a.e.cell a.e.mark a.e.size c.requires.2)
 
 pub enter-requires : goal.enter-requires
 enter-requires c = let p = c.requires.3 in filling-room c.loop-t.invariant c.requires.1 p.0 p.1 p.2 p.3 p.4 c.in-Some.ensures.steps _ c.from-s.ensures

@@ -5,8 +5,8 @@ use Rattle.set_table.proofs.enter_link.Goals as goal
 
 pub returns-then-sets-k-eq0 : goal.returns-then-sets-k-eq0
 returns-then-sets-k-eq0 c = let a = c.args in (
-  link-table a.sets.now a.k a.place a.n c.requires.0 c.requires.1 c.requires.2 c.if-sets-k-eq0.true _ c.cell_of-cell.ensures,
-  link-given a.sets.now a.k a.place a.n c.requires.0 c.requires.1 c.requires.2 c.if-sets-k-eq0.true _ c.cell_of-cell.ensures,
+  link-table a.sets.now a.k a.place a.n c.requires.0 c.requires.1 c.requires.2 c.if-sets-k-eq0.true _ c.cell_of.ensures,
+  link-given a.sets.now a.k a.place a.n c.requires.0 c.requires.1 c.requires.2 c.if-sets-k-eq0.true _ c.cell_of.ensures,
 )
 
 pub returns-else-sets-k-eq0 : goal.returns-else-sets-k-eq0
