@@ -1,6 +1,7 @@
 -- By the contract of `export`, what it writes is a rival of the link, and no rival is shorter. Assumes nothing.
 use mathlib.Core.Path.{◌≡◌, refl, sym, ap, subst, ◌∙◌}
 use mathlib.Core.Bool.{Bool, true, false, cond}
+use Rattle.std.specs.Prelude.{Result}
 use mathlib.Core.List.{List}
 use Prim.Native.Nat.{ℕ, ◌+◌, ◌≤◌}
 use native.Mathlib.Omega.{arith}
@@ -14,7 +15,7 @@ use Rattle.linkstate.specs.Meaning.{meaning}
 use Rattle.linkstate.specs.Export.{export}
 use Rattle.linkstate.specs.Rival.{IsRival}
 use Rattle.isis.specs.Link.{link_verdict, link_source, export_link}
-use Rattle.replies.specs.declared.Written.{Written}
+use Rattle.replies.specs.declared.Refusal.{Refusal}
 use Rattle.replies.specs.Told.{told_written, told_exported}
 use Rattle.demands.proofs.Demands.{demands}
 use Rattle.isis_export.specs.Delivered.{Delivered}
@@ -64,6 +65,6 @@ delivered a b c buffer n after e =
     }
 
 -- The same, of the answer that the code gives.
-pub delivered-as : (a b c buffer : List ℕ) (r : Written) (after : List ℕ) → told_exported r after ≡ export_link a b c buffer → (n : ℕ) → told_written r ≡ bytes n
+pub delivered-as : (a b c buffer : List ℕ) (r : Result ℕ Refusal) (after : List ℕ) → told_exported r after ≡ export_link a b c buffer → (n : ℕ) → told_written r ≡ bytes n
     → Delivered a b c n after
 delivered-as a b c buffer r after e n i = delivered a b c buffer n after (sym e ∙ ap (λ (x : Length). told x after) i)

@@ -1,6 +1,7 @@
 -- What the entries answer, from what the checks of the link and its tables do. Assumes nothing.
 use mathlib.Core.Path.{◌≡◌, refl, ap, ◌∙◌}
 use mathlib.Core.Bool.{Bool, true, false}
+use Rattle.std.specs.Prelude.{Result}
 use mathlib.Core.List.{List}
 use Prim.Native.Nat.{ℕ}
 use lib.ListN.{length}
@@ -9,7 +10,7 @@ use Rattle.linkstate.specs.Questions.{write}
 use Rattle.linkstate.specs.Meaning.{meaning}
 use Rattle.linkstate.specs.Export.{export}
 use Rattle.isis.specs.Link.{link_verdict, link_source, export_link}
-use Rattle.replies.specs.declared.Written.{Written}
+use Rattle.replies.specs.declared.Refusal as Code
 use Rattle.replies.specs.Told.{told_written, told_exported}
 use Rattle.export_bytes.specs.Whole.{answered}
 use Rattle.isis_export.specs.Delivered.{Delivered}
@@ -37,7 +38,7 @@ module _ (a b c buffer : List ℕ) where
       go accepted = refl
       go (refused r) = refl
 
-  pub exported : (r : Written) (after : List ℕ) → told_exported r after ≡ answered_link false a b c buffer
+  pub exported : (r : Result ℕ Code.Refusal) (after : List ℕ) → told_exported r after ≡ answered_link false a b c buffer
       → (told_exported r after ≡ export_link a b c buffer) × ((n : ℕ) → told_written r ≡ bytes n → Delivered a b c n after)
   exported r after e = let x = e ∙ as-export in (x, delivered-as a b c buffer r after x)
 
@@ -52,5 +53,5 @@ module _ (a b c buffer : List ℕ) where
       go accepted = refl
       go (refused r) = refl
 
-  pub measured : (r : Written) (after : List ℕ) → told_exported r after ≡ answered_link true a b c buffer → told_written r ≡ export_length a b c
+  pub measured : (r : Result ℕ Code.Refusal) (after : List ℕ) → told_exported r after ≡ answered_link true a b c buffer → told_written r ≡ export_length a b c
   measured r after e = ap (λ (x : Exported). x.reply) e ∙ as-length

@@ -1,6 +1,7 @@
 -- A link that passed its checks is ready for its export once its SRLGs are listed. Assumes nothing.
 use mathlib.Core.Path.{◌≡◌, refl, sym, ap, ◌∙◌, subst}
 use mathlib.Core.Bool.{Bool, true, ◌&&◌, ◌||◌}
+use Rattle.std.specs.Prelude.{Result, Ok, Err}
 use mathlib.Core.List.{List, [], ◌∷◌}
 use Prim.Native.Nat.{ℕ, ◌+◌, ◌/◌, ◌≤◌, ◌<◌}
 use native.Mathlib.Omega.{arith}
@@ -15,7 +16,8 @@ use Rattle.linkstate.specs.Export.{export}
 use Rattle.linkstate.proofs.ListLaws.{and_l, and_r, or_l, or_r}
 use Rattle.linkstate.proofs.WalkLaws.{then-first, then-second, unrefused}
 use Rattle.rules.specs.declared.Names.{Names}
-use Rattle.rules.specs.Names.{Tells}
+use Rattle.rules.specs.declared.SideNames.{SideNames}
+use Rattle.rules.specs.Names.{Tells, Given}
 use Rattle.srlg.specs.Ascending.{ascending}
 use Rattle.srlg_ranks.specs.Ranks.{picked, keep_from}
 use Rattle.srlg_table.specs.declared.Used.{Used}
@@ -24,12 +26,10 @@ use Rattle.isis.specs.RunB.{side_b}
 use Rattle.isis.specs.Link.{link_verdict, link_source}
 use Rattle.isis.proofs.Computing.{computing}
 use Rattle.replies.specs.declared.Refusal.{Refusal}
-use Rattle.replies.specs.Told.{told_refusal}
+use Rattle.replies.specs.Told.{told_refusal, told_checked}
 use Rattle.export_bytes.specs.Whole.{answered}
 use Rattle.isis_check.specs.declared.Sides.{Sides}
-use Rattle.isis_check.specs.declared.LinkChecked.{LinkChecked}
-use Rattle.isis_check.specs.declared.LinkChecked.TheVariants.{Refused, Accepted}
-use Rattle.isis_check.specs.Sides.{told_link, OfSides, NamedSides, ChecksLink}
+use Rattle.isis_check.specs.Sides.{OfSides, ChecksLink}
 use Rattle.isis_srlg_index.specs.declared.Indexed.{Indexed}
 use Rattle.isis_srlg_index.specs.Sources.{Indexes}
 use Rattle.isis_export.specs.declared.Link.{Link}
@@ -37,33 +37,32 @@ use Rattle.isis_export.specs.Stages.{PassedA, Passed, Joined, InUse, Ready}
 
 -- ---- a link that passed its checks
 
-passed : (a b c : List ℕ) (s : Sides) → link_verdict a b c ≡ accepted → OfSides s a b c → Passed a b c s
+passed : (a b c : List ℕ) (s : Sides) → link_verdict a b c ≡ accepted → OfSides a b c s → Passed a b c s
 unfolding link_verdict
 passed a b c s h x =
     let long = unrefused (ltb 2048 (length a) || ltb 2048 (length b) || ltb 1024 (length c)) 1 (then-first _ _ h) in
     let ab = or_l (ltb 2048 (length a) || ltb 2048 (length b)) (ltb 1024 (length c)) long in
     let rest = then-second _ _ (then-second _ _ h) in
     record {
-      side_a = record { passed = then-first _ _ rest; short = ltb-false 2048 (length a) (or_l (ltb 2048 (length a)) (ltb 2048 (length b)) ab); names = x.in_a; old = x.old_a };
+      side_a = record { passed = then-first _ _ rest; short = ltb-false 2048 (length a) (or_l (ltb 2048 (length a)) (ltb 2048 (length b)) ab); tells = x.in_a };
       run_b = then-second _ _ rest;
       short = (
         ltb-false 2048 (length b) (or_r (ltb 2048 (length a)) (ltb 2048 (length b)) ab),
         ltb-false 1024 (length c) (or_r (ltb 2048 (length a) || ltb 2048 (length b)) (ltb 1024 (length c)) long),
       );
-      names = x.in_b;
-      old = x.old_b;
+      tells = x.in_b;
     }
 
 -- By what the checks answer.
-module _ {a b c : List ℕ} {r : LinkChecked} (k : ChecksLink a b c r) where
-  pub verdict-refused : (x : Refusal) → r ≡ Refused x → link_verdict a b c ≡ refused (told_refusal x)
-  verdict-refused x e = sym k.told ∙ ap told_link e
+module _ {a b c : List ℕ} {r : Result Sides Refusal} (k : ChecksLink a b c r) where
+  pub verdict-refused : (x : Refusal) → r ≡ Err x → link_verdict a b c ≡ refused (told_refusal x)
+  verdict-refused x e = sym k.told ∙ ap told_checked e
 
-  pub verdict-accepted : (s : Sides) → r ≡ Accepted s → link_verdict a b c ≡ accepted
-  verdict-accepted s e = sym k.told ∙ ap told_link e
+  pub verdict-accepted : (s : Sides) → r ≡ Ok s → link_verdict a b c ≡ accepted
+  verdict-accepted s e = sym k.told ∙ ap told_checked e
 
-  pub sides-passed : (s : Sides) → r ≡ Accepted s → Passed a b c s
-  sides-passed s e = passed a b c s (verdict-accepted s e) (subst (λ (x : LinkChecked). NamedSides x a b c) e k.names)
+  pub sides-passed : (s : Sides) → r ≡ Ok s → Passed a b c s
+  sides-passed s e = passed a b c s (verdict-accepted s e) (subst (Given (OfSides a b c)) e k.names)
 
 -- Two lengths tested at once.
 empty : (xs : List ℕ) → length xs ≡ 0 → xs ≡ []
@@ -139,14 +138,13 @@ pub as-asked : {m n : Bool} → m ≡ n → (x : Exported) (result buffer : List
 as-asked h x result buffer e = e ∙ ap (λ (t : Bool). answered t result buffer) h
 
 module _ {a b c : List ℕ} {s : Sides} {used : Used} {measuring : Bool} {n : Link} {rows : List (List ℕ)} {values : List ℕ} where
-  pub ready : Passed a b c s → Joined s used measuring n → Listed values rows used s.b s.legacyb (side_b b c) → (0 < used.words → InUse rows used)
+  pub ready : Passed a b c s → Joined s used measuring n → Listed values rows used s.b.names s.b.legacy (side_b b c) → (0 < used.words → InUse rows used)
       → Ready a b c n rows values
   ready p j l w =
       record {
-        passed = subst (PassedA a n.a) (sym j.of.4) (subst (λ (m : Names). PassedA a m s.legacya) (sym j.of.0) p.side_a);
+        passed = subst (PassedA a) (sym j.of.0) p.side_a;
         joined = j.both;
-        listed = subst (λ (u : Used). Listed values rows u n.b n.legacyb (side_b b c)) (sym j.of.2)
-            (subst (λ (m : Names). Listed values rows used m n.legacyb (side_b b c)) (sym j.of.1)
-            (subst (λ (x : Bool). Listed values rows used s.b x (side_b b c)) (sym j.of.5) l));
+        listed = subst (λ (u : Used). Listed values rows u n.b.names n.b.legacy (side_b b c)) (sym j.of.2)
+            (subst (λ (m : SideNames). Listed values rows used m.names m.legacy (side_b b c)) (sym j.of.1) l);
         used = subst (λ (u : Used). 0 < u.words → InUse rows u) (sym j.of.2) w;
       }

@@ -4,7 +4,7 @@ use mathlib.Core.Bool.{Bool, true, false, ◌||◌}
 use mathlib.Core.List.{List, []}
 use Prim.Native.Nat.{ℕ, zero, suc, ◌+◌, ◌≤◌}
 use native.Mathlib.Omega.{arith}
-use lib.ListN.{length, get_or, take, replicate, get_or-replicate}
+use lib.ListN.{length, get_or, take, replicate, length-replicate, get_or-replicate}
 use Rattle.linkstate.specs.Sides.{named}
 use Rattle.linkstate.proofs.Retired.{named-retired}
 use Rattle.linkstate.specs.Meaning.{meaning}
@@ -25,7 +25,7 @@ use Rattle.isis_index.specs.Indexed.{Indexed}
 use Rattle.isis_index.proofs.Starting.{started}
 use Rattle.isis_export.proofs.Sets.{resolves}
 use Rattle.isis_export.specs.declared.Link.{Link}
-use Rattle.isis_export.specs.Stages.{Ready, Unowned, Roomy}
+use Rattle.isis_export.specs.Stages.{Ready, Unowned, Enough, Roomy}
 
 -- ---- rooms
 
@@ -46,59 +46,45 @@ module _ {a b c : List ℕ} {n : Link} {rows : List (List ℕ)} {values : List �
   p = in_set n.who
 
   abbrev pa : ℕ → Bool
-  pa = in_set n.a.named
+  pa = in_set n.a.names.named
 
   abbrev pb : ℕ → Bool
-  pb = in_set n.b.named
+  pb = in_set n.b.names.named
 
   named_by : (i : ℕ) → p i ≡ named i (side_a a) || named i (side_b b c)
-  named_by i = of.joined i ∙ ap₂ (λ (x y : Bool). x || y) (side-named (side_a a) n.a of.passed.names i)
-      (side-named (side_b b c) n.b of.listed.tells i)
+  named_by i = of.joined i ∙ ap₂ (λ (x y : Bool). x || y) (side-named (side_a a) n.a.names of.passed.tells.0 i)
+      (side-named (side_b b c) n.b.names of.listed.tells i)
 
   -- Nobody from 96 on is named.
   retired : (i : ℕ) → 96 ≤ i → p i ≡ false
   retired i h = named_by i ∙ ap₂ (λ (x y : Bool). x || y) (named-retired i h (side_a a)) (named-retired i h (side_b b c))
 
-  -- Tables for k named applications, g of them other than RSVP-TE.
-  room_for : (k g : ℕ) → k ≤ 96 → Few n.who k → left p 1 ≤ g → (sets classes groups : List (List ℕ)) (places : List ℕ)
-      → length sets ≡ 3 + k → (3 + k ≤ length classes) × (length classes ≤ 99) → length groups ≡ 1 + g → places ≡ replicate (length classes) 0
-      → length places ≡ length classes
-      → Roomy n sets classes groups places
-  room_for k g most f h sets classes groups places x y z w v =
-      let i : Few n.a.named k = few-among n.a.named n.who k
+  -- Room for k named applications, g of them other than RSVP-TE.
+  enough : (k g slots classes groups : ℕ) → k ≤ 96 → Few n.who k → left p 1 ≤ g → slots ≡ 3 + k → (3 + k ≤ classes) × (classes ≤ 99) → groups ≡ 1 + g
+      → Enough n slots classes groups
+  enough k g slots classes groups most f h x y z =
+      let i : Few n.a.names.named k = few-among n.a.names.named n.who k
       (λ m e. of.joined m ∙ or-first (pa m) (pb m) e) f in
-      let j : Few n.b.named k = few-among n.b.named n.who k
+      let j : Few n.b.names.named k = few-among n.b.names.named n.who k
       (λ m e. of.joined m ∙ or-second (pa m) (pb m) e) f in
-      record {
-        slots = (omega (arith, i.numbers), omega arith);
-        classed = (omega (arith, j.bits), y.1);
-        grouped = omega arith;
-        placed = omega arith;
-        unwritten = λ m. ap (λ (xs : List ℕ). get_or xs m 0) w ∙ zeros (length classes) m;
-      }
+      record { slotted = (omega (arith, i.numbers), omega arith); classed = (omega (arith, j.bits), y.1); grouped = omega arith }
 
-  pub few-room : how_many (at_place n.who) 128 ≤ 12 → (sets classes groups : List (List ℕ)) (places : List ℕ)
-      → length sets ≡ 15 → length classes ≡ 16 → length groups ≡ 13 → places ≡ replicate (length classes) 0 → length places ≡ length classes
-      → Roomy n sets classes groups places
-  few-room h sets classes groups places x y z w v =
-      let f = few-named n.who 12 h in
-      room_for 12 12 (omega arith) f f.others sets classes groups places x (omega arith, omega arith) z w v
+  -- For twelve, and for all.
+  pub few-enough : how_many (at_place n.who) 128 ≤ 12 → Enough n 15 16 13
+  few-enough h = let f = few-named n.who 12 h in enough 12 12 15 16 13 (omega arith) f f.others refl (omega arith, omega arith) refl
 
-  pub all_room : (sets classes groups : List (List ℕ)) (places : List ℕ)
-      → length sets ≡ 99 → length classes ≡ 99 → length groups ≡ 96 → places ≡ replicate (length classes) 0 → length places ≡ length classes
-      → Roomy n sets classes groups places
-  all_room sets classes groups places x y z w v = room_for 96 95 (omega arith) (few-all n.who retired) (left-most p retired) sets classes groups places x
-      (omega arith, omega arith) z w v
+  pub all-enough : Enough n 99 99 96
+  all-enough = enough 96 95 99 99 96 (omega arith) (few-all n.who retired) (left-most p retired) refl (omega arith, omega arith) refl
 
   -- What `export_rows` asks for.
   pub table-room : (sets classes groups own : List (List ℕ)) (places : List ℕ) → Roomy n sets classes groups places → length own ≡ 128
-      → Room rows n.used n.b own p classes groups places
+      → Room rows n.used n.b.names own p classes groups places
   table-room sets classes groups own places r whole =
       record {
-        some = omega (arith, r.classed.0);
-        few = r.classed.1;
-        roomy = λ h. record { words = (of.used h).words; sources = (of.used h).sources; room = r.classed.0; few = r.classed.1; whole = whole };
-        grouped = r.grouped;
+        some = omega (arith, r.enough.classed.0);
+        few = r.enough.classed.1;
+        roomy = λ h. record { words = (of.used h).words; sources = (of.used h).sources; room = r.enough.classed.0; few = r.enough.classed.1; whole = whole };
+        grouped = r.enough.grouped;
         placed = r.placed;
         unwritten = r.unwritten;
       }
@@ -107,6 +93,15 @@ module _ {a b c : List ℕ} {n : Link} {rows : List (List ℕ)} {values : List �
 
   pub resolved : {sets own : List (List ℕ)} {r : ℕ} → Indexed a sets own r → Resolves (meaning (link_source a b c)) a sets own p r (side_b b c)
   resolved is = resolves a b c is p named_by
+
+-- Tables that are enough, with nothing written.
+pub made-roomy : {n : Link} {s k g : ℕ} (x y z : List ℕ) → Enough n s k g → Roomy n (replicate s x) (replicate k y) (replicate g z) (replicate k 0)
+made-roomy {n} {s} {k} {g} x y z h =
+    record {
+      enough = rw (length-replicate s x, length-replicate k y, length-replicate g z) h;
+      placed = omega (arith, length-replicate k y, length-replicate {A = ℕ} k 0);
+      unwritten = zeros k;
+    }
 
 -- ---- slots
 

@@ -3,9 +3,8 @@ use Rattle.std.specs.Prelude.{◌≡◌, Bool, ◌||◌, List, [], ◌∷◌, �
 use Rattle.linkstate.specs.Limits.{most_sources}
 use Rattle.linkstate.specs.Replies.{accepted, run_a, run_b, Exported}
 use Rattle.linkstate.specs.Elements.{elements, faults}
-use Rattle.linkstate.specs.Sides.{has_legacy}
-use Rattle.rules.specs.declared.Names.{Names}
-use Rattle.rules.specs.Names.{Tells}
+use Rattle.rules.specs.declared.SideNames.{SideNames}
+use Rattle.rules.specs.Names.{TellsSide}
 use Rattle.masks.specs.Applications.{in_set}
 use Rattle.srlg_ranks.specs.Ranks.{in_words}
 use Rattle.srlg_table.specs.Blocks.{size_of}
@@ -19,25 +18,23 @@ use Rattle.isis_check.specs.declared.Sides.{Sides}
 use Rattle.isis_export.specs.declared.Link.{Link}
 use Rattle.isis_export.specs.Answers.{accepted_link}
 
--- R9, W2, W3, E2a. A run A that passed its checks, whom it names, and whether its legacy attributes have a value of the eleven kinds.
-pub record PassedA (a : List ℕ) (named : Names) (x : Bool) : Type 0 where
+-- R9, W2, W3, E2a. A run A that passed its checks, and what the rule asks of its side.
+pub record PassedA (a : List ℕ) (m : SideNames) : Type 0 where
   pub passed : faults run_a check_a (elements 1 0 a) ≡ accepted
   pub short : length a ≤ 2048
-  pub names : Tells (side_a a).live named
-  pub old : x ≡ has_legacy (side_a a)
+  pub tells : TellsSide (side_a a) m
 
 -- The same of a link.
 pub record Passed (a b c : List ℕ) (s : Sides) : Type 0 where
-  pub side_a : PassedA a s.a s.legacya
+  pub side_a : PassedA a s.a
   pub run_b : faults run_b check_b (elements 1 0 b) ≡ accepted
   pub short : (length b ≤ 2048) × (length c ≤ 1024)
-  pub names : Tells (side_b b c).live s.b
-  pub old : s.legacyb ≡ has_legacy (side_b b c)
+  pub tells : TellsSide (side_b b c) s.b
 
 -- W1, L19. What an export goes by: what its sides tell, and whom either names.
 pub record Joined (s : Sides) (used : Used) (measuring : Bool) (n : Link) : Type 0 where
-  pub of : (n.a ≡ s.a) × (n.b ≡ s.b) × (n.used ≡ used) × (n.measuring ≡ measuring) × (n.legacya ≡ s.legacya) × (n.legacyb ≡ s.legacyb)
-  pub both : (i : ℕ) → in_set n.who i ≡ in_set n.a.named i || in_set n.b.named i
+  pub of : (n.a ≡ s.a) × (n.b ≡ s.b) × (n.used ≡ used) × (n.measuring ≡ measuring)
+  pub both : (i : ℕ) → in_set n.who i ≡ in_set n.a.names.named i || in_set n.b.names.named i
 
 -- How much of the sources of SRLGs is used: rows of 16 words of bits, two sources at least.
 pub record InUse (rows : List (List ℕ)) (used : Used) : Type 0 where
@@ -46,9 +43,9 @@ pub record InUse (rows : List (List ℕ)) (used : Used) : Type 0 where
 
 -- Run A of such a link, with the SRLGs of its side B listed.
 pub record Ready (a b c : List ℕ) (n : Link) (rows : List (List ℕ)) (values : List ℕ) : Type 0 where
-  pub passed : PassedA a n.a n.legacya
-  pub joined : (i : ℕ) → in_set n.who i ≡ in_set n.a.named i || in_set n.b.named i
-  pub listed : Listed values rows n.used n.b n.legacyb (side_b b c)
+  pub passed : PassedA a n.a
+  pub joined : (i : ℕ) → in_set n.who i ≡ in_set n.a.names.named i || in_set n.b.names.named i
+  pub listed : Listed values rows n.used n.b.names n.b.legacy (side_b b c)
   pub used : 0 < n.used.words → InUse rows n.used
 
 -- It is so of some runs B and C; and of all such the answer is theirs.
@@ -62,10 +59,14 @@ AnswersAll a n rows values buffer x = (b c : List ℕ) → Ready a b c n rows va
 pub record Unowned (own : List (List ℕ)) : Type 0 where
   pub is : own ≡ replicate 128 (replicate 2 0)
 
--- Room in the tables for all whom the sides name, or either: slots from 3 on, three classes more, and an entry before the groups. Nothing is written yet.
+-- So many slots, classes and groups are enough for all whom the sides name, or either: slots from 3 on, three classes more, and an entry before the groups.
+pub record Enough (n : Link) (slots classes groups : ℕ) : Type 0 where
+  pub slotted : (3 + how_many (in_set n.a.names.named) 128 ≤ slots) × (slots ≤ 256)
+  pub classed : (3 + size_of (in_words (n.b.names.named.standard ∷ n.b.names.named.user ∷ [])) ≤ classes) × (classes ≤ 99)
+  pub grouped : 1 + left (in_set n.who) 1 ≤ groups
+
+-- Tables with that much room, and where classes are written. Nothing is written yet.
 pub record Roomy (n : Link) (sets classes groups : List (List ℕ)) (places : List ℕ) : Type 0 where
-  pub slots : (3 + how_many (in_set n.a.named) 128 ≤ length sets) × (length sets ≤ 256)
-  pub classed : (3 + size_of (in_words (n.b.named.standard ∷ n.b.named.user ∷ [])) ≤ length classes) × (length classes ≤ 99)
-  pub grouped : 1 + left (in_set n.who) 1 ≤ length groups
+  pub enough : Enough n (length sets) (length classes) (length groups)
   pub placed : length classes ≤ length places
   pub unwritten : (c : ℕ) → get_or places c 0 ≡ 0

@@ -13,24 +13,22 @@ ghost use Rattle.isis_index.specs.Indexed.{Indexed};
 ghost use Rattle.isis_srlg_index.specs.Sources.{Room};
 ghost use Rattle.isis_export.specs.Delivered.{Delivered};
 ghost use Rattle.isis_export.specs.Answers.{export_length, accepted_link, answered_link};
-ghost use Rattle.isis_export.specs.Stages.{PassedA, Passed, Joined, ReadyFor, AnswersAll, Unowned, Roomy};
+ghost use Rattle.isis_export.specs.Stages.{PassedA, Passed, Joined, ReadyFor, AnswersAll, Unowned, Enough, Roomy};
 
 use export_tables::Plan;
 use grids::Sets;
-use isis_check::{LinkChecked, Sides};
+use isis_check::Sides;
 use masks::Applications;
-use replies::Written;
-use rules::Names;
+use replies::Refusal;
+use rules::SideNames;
 use srlg_table::Used;
 
-// Whom the sides of a link name, and whom either does; whether their legacy attributes have a value of the kinds of applications; how
+// Whom the sides of a link name, with whether their legacy attributes have a value of the kinds of applications; whom either names; how
 // much of the sources of its SRLGs is used; and whether the length alone is asked for.
 #[derive(Clone, Copy)]
 struct Link {
-    a: Names,
-    b: Names,
-    legacya: bool,
-    legacyb: bool,
+    a: SideNames,
+    b: SideNames,
     who: Applications,
     used: Used,
     measuring: bool,
@@ -46,31 +44,24 @@ struct Slots {
 // The first slots of the table, filled by the walk of run A; the slot of RSVP-TE's set.
 fn index_slots(
     a: &[u8],
-    named: Names,
-    legacy: bool,
+    side: SideNames,
     sets: &mut [[u32; 12]],
     count: usize,
     own: &mut [[u8; 2]; 128],
 ) -> usize
-    requires { PassedA a.now named legacy × (count ≤ length sets.old) × Started named (take count sets.old) own.old }
+    requires { PassedA a.now side × (count ≤ length sets.old) × Started side.names (take count sets.old) own.old }
     ensures { Indexed a.now (take count sets.new) own.new result }
 {
-    isis_index::index_a(a, named, legacy, &mut sets[0..count], own)
+    isis_index::index_a(a, side.names, side.legacy, &mut sets[..count], own)
 }
 
 // The table of sets: a slot for whom run A names, and then its walk.
-fn fill_sets(
-    a: &[u8],
-    named: Names,
-    legacy: bool,
-    sets: &mut [[u32; 12]],
-    own: &mut [[u8; 2]; 128],
-) -> Slots
-    requires { PassedA a.now named legacy × Unowned own.old × (3 + how_many (in_set named.named) 128 ≤ length sets.old) × (length sets.old ≤ 256) }
+fn fill_sets(a: &[u8], side: SideNames, sets: &mut [[u32; 12]], own: &mut [[u8; 2]; 128]) -> Slots
+    requires { PassedA a.now side × Unowned own.old × (3 + how_many (in_set side.names.named) 128 ≤ length sets.old) × (length sets.old ≤ 256) }
     ensures { (result.count ≤ length sets.new) × Indexed a.now (take result.count sets.new) own.new result.rsvp }
 {
-    let count = set_table::assign_slots(masks::turned_set(named.named), own, sets);
-    let rsvp = index_slots(a, named, legacy, sets, count, own);
+    let count = set_table::assign_slots(masks::turned_set(side.names.named), own, sets);
+    let rsvp = index_slots(a, side, sets, count, own);
     Slots { count, rsvp }
 }
 
@@ -85,20 +76,17 @@ fn export_with(
     groups: &mut [[u64; 3]],
     places: &mut [usize],
     out: &mut [u8],
-) -> Written
+) -> Result<usize, Refusal>
     requires { ReadyFor a.now n rows.now values.now × Roomy n sets.old classes.old groups.old places.old }
     ensures { AnswersAll a.now n rows.now values.now out.old (told_exported result out.new) }
 {
     let mut own = [[0u8; 2]; 128];
-    let s = fill_sets(a, n.a, n.legacya, sets, &mut own);
-    let names = n.b;
-    let used = n.used;
-    let who = n.who;
+    let s = fill_sets(a, n.a, sets, &mut own);
     let t = Plan {
-        who,
-        names,
-        legacy: n.legacyb,
-        used,
+        who: n.who,
+        names: n.b.names,
+        legacy: n.b.legacy,
+        used: n.used,
         slots: s.count,
         slot: s.rsvp,
         measuring: n.measuring,
@@ -116,15 +104,21 @@ fn export_with(
     )
 }
 
-// The same with room of its own, for twelve named applications and for all.
-fn export_few(a: &[u8], n: Link, rows: &[[u64; 18]], values: &[u64], out: &mut [u8]) -> Written
-    requires { ReadyFor a.now n rows.now values.now × (how_many (at_place n.who) 128 ≤ 12) }
+// The same with room of its own: so many slots, classes and groups. Room that is filled with 1 is not cleared byte by byte.
+fn export_within<const SLOTS: usize, const CLASSES: usize, const GROUPS: usize>(
+    a: &[u8],
+    n: Link,
+    rows: &[[u64; 18]],
+    values: &[u64],
+    out: &mut [u8],
+) -> Result<usize, Refusal>
+    requires { ReadyFor a.now n rows.now values.now × Enough n SLOTS CLASSES GROUPS × (GROUPS ≤ 128) }
     ensures { AnswersAll a.now n rows.now values.now out.old (told_exported result out.new) }
 {
-    let mut sets = [[0u32; 12]; 15];
-    let mut classes = [[0u64; 4]; 16];
-    let mut groups = [[0u64; 3]; 13];
-    let mut places = [0usize; 16];
+    let mut sets = [[1u32; 12]; SLOTS];
+    let mut classes = [[1u64; 4]; CLASSES];
+    let mut groups = [[1u64; 3]; GROUPS];
+    let mut places = [0usize; CLASSES];
     export_with(
         a,
         n,
@@ -138,36 +132,21 @@ fn export_few(a: &[u8], n: Link, rows: &[[u64; 18]], values: &[u64], out: &mut [
     )
 }
 
-fn export_many(a: &[u8], n: Link, rows: &[[u64; 18]], values: &[u64], out: &mut [u8]) -> Written
-    requires { ReadyFor a.now n rows.now values.now }
-    ensures { AnswersAll a.now n rows.now values.now out.old (told_exported result out.new) }
-{
-    let mut sets = [[1u32; 12]; 99];
-    let mut classes = [[1u64; 4]; 99];
-    let mut groups = [[1u64; 3]; 96];
-    let mut places = [0usize; 99];
-    export_with(
-        a,
-        n,
-        rows,
-        values,
-        &mut sets,
-        &mut classes,
-        &mut groups,
-        &mut places,
-        out,
-    )
-}
-
-// By how many applications are named.
-fn export_sized(a: &[u8], n: Link, rows: &[[u64; 18]], values: &[u64], out: &mut [u8]) -> Written
+// By how many applications are named: room for twelve, or for all.
+fn export_sized(
+    a: &[u8],
+    n: Link,
+    rows: &[[u64; 18]],
+    values: &[u64],
+    out: &mut [u8],
+) -> Result<usize, Refusal>
     requires { ReadyFor a.now n rows.now values.now }
     ensures { AnswersAll a.now n rows.now values.now out.old (told_exported result out.new) }
 {
     if export_tables::at_most(n.who, 12) {
-        return export_few(a, n, rows, values, out);
+        return export_within::<15, 16, 13>(a, n, rows, values, out);
     }
-    export_many(a, n, rows, values, out)
+    export_within::<99, 99, 96>(a, n, rows, values, out)
 }
 
 // The same, with the numbers at the front of a list.
@@ -178,11 +157,11 @@ fn export_listed(
     values: &[u64],
     count: usize,
     out: &mut [u8],
-) -> Written
+) -> Result<usize, Refusal>
     requires { (count ≤ length values.now) × ReadyFor a.now n rows.now (take count values.now) }
     ensures { AnswersAll a.now n rows.now (take count values.now) out.old (told_exported result out.new) }
 {
-    export_sized(a, n, rows, &values[0..count], out)
+    export_sized(a, n, rows, &values[..count], out)
 }
 
 // What an export goes by, with whom either side names.
@@ -191,12 +170,10 @@ fn link_of(s: Sides, used: Used, measuring: bool) -> Link
 {
     let a = s.a;
     let b = s.b;
-    let who = masks::join(a.named, b.named);
+    let who = masks::join(a.names.named, b.names.named);
     Link {
         a,
         b,
-        legacya: s.legacya,
-        legacyb: s.legacyb,
         who,
         used,
         measuring,
@@ -214,11 +191,11 @@ fn export_keys(
     rows: &mut [[u64; 18]],
     measuring: bool,
     out: &mut [u8],
-) -> Written
+) -> Result<usize, Refusal>
     requires { Passed a.now b.now c.now s × Room (length b.now) (length c.now) (length keys.old) (length rows.old) × (length keys.old ≤ length values.old) }
     ensures { told_exported result out.new ≡ accepted_link measuring a.now b.now c.now out.old }
 {
-    let k = isis_srlg_index::index_srlgs(b, c, s.b, keys, values, rows);
+    let k = isis_srlg_index::index_srlgs(b, c, s.b.names, keys, values, rows);
     let used = Used {
         words: (k.count + 63) / 64,
         sources: k.sources,
@@ -227,34 +204,21 @@ fn export_keys(
     export_listed(a, n, rows, values, k.count, out)
 }
 
-// The same with room of its own, for short runs B and C and for all.
-fn export_short(a: &[u8], b: &[u8], c: &[u8], s: Sides, measuring: bool, out: &mut [u8]) -> Written
-    requires { Passed a.now b.now c.now s × (length b.now ≤ 320) × (length c.now ≤ 192) }
+// The same with room of its own: keys and numbers, and rows of sources.
+fn export_among<const KEYS: usize, const ROWS: usize>(
+    a: &[u8],
+    b: &[u8],
+    c: &[u8],
+    s: Sides,
+    measuring: bool,
+    out: &mut [u8],
+) -> Result<usize, Refusal>
+    requires { Passed a.now b.now c.now s × Room (length b.now) (length c.now) KEYS ROWS × (KEYS ≤ 768) × (ROWS ≤ 128) }
     ensures { told_exported result out.new ≡ accepted_link measuring a.now b.now c.now out.old }
 {
-    let mut keys = [1u64; 128];
-    let mut values = [1u64; 128];
-    let mut rows = [[1u64; 18]; 14];
-    export_keys(
-        a,
-        b,
-        c,
-        s,
-        &mut keys,
-        &mut values,
-        &mut rows,
-        measuring,
-        out,
-    )
-}
-
-fn export_long(a: &[u8], b: &[u8], c: &[u8], s: Sides, measuring: bool, out: &mut [u8]) -> Written
-    requires { Passed a.now b.now c.now s }
-    ensures { told_exported result out.new ≡ accepted_link measuring a.now b.now c.now out.old }
-{
-    let mut keys = [1u64; 768];
-    let mut values = [1u64; 768];
-    let mut rows = [[1u64; 18]; 80];
+    let mut keys = [1u64; KEYS];
+    let mut values = [1u64; KEYS];
+    let mut rows = [[1u64; 18]; ROWS];
     export_keys(
         a,
         b,
@@ -269,7 +233,7 @@ fn export_long(a: &[u8], b: &[u8], c: &[u8], s: Sides, measuring: bool, out: &mu
 }
 
 // Where runs B and C are empty: no SRLG at all.
-fn export_bare(a: &[u8], s: Sides, measuring: bool, out: &mut [u8]) -> Written
+fn export_bare(a: &[u8], s: Sides, measuring: bool, out: &mut [u8]) -> Result<usize, Refusal>
     requires { Passed a.now [] [] s }
     ensures { told_exported result out.new ≡ accepted_link measuring a.now [] [] out.old }
 {
@@ -291,7 +255,7 @@ fn export_accepted(
     s: Sides,
     measuring: bool,
     out: &mut [u8],
-) -> Written
+) -> Result<usize, Refusal>
     requires { Passed a.now b.now c.now s }
     ensures { told_exported result out.new ≡ accepted_link measuring a.now b.now c.now out.old }
 {
@@ -299,24 +263,28 @@ fn export_accepted(
         return export_bare(a, s, measuring, out);
     }
     if (b.len() <= 320) & (c.len() <= 192) {
-        return export_short(a, b, c, s, measuring, out);
+        return export_among::<128, 14>(a, b, c, s, measuring, out);
     }
-    export_long(a, b, c, s, measuring, out)
+    export_among::<768, 80>(a, b, c, s, measuring, out)
 }
 
 // The checks of the link first: refused as they say, else the export or its length.
-fn export_checked(a: &[u8], b: &[u8], c: &[u8], measuring: bool, out: &mut [u8]) -> Written
+fn export_checked(
+    a: &[u8],
+    b: &[u8],
+    c: &[u8],
+    measuring: bool,
+    out: &mut [u8],
+) -> Result<usize, Refusal>
     ensures { told_exported result out.new ≡ answered_link measuring a.now b.now c.now out.old }
 {
-    match isis_check::check_sides(a, b, c) {
-        LinkChecked::Refused(r) => Written::Refused(r),
-        LinkChecked::Accepted(s) => export_accepted(a, b, c, s, measuring, out),
-    }
+    let s = isis_check::check_sides(a, b, c)?;
+    export_accepted(a, b, c, s, measuring, out)
 }
 
 // The link as BGP-LS TLVs: refused as its bytes are, then by 5; else they stand at the buffer's front, and their length is the answer. What was written is
 // then a rival of the link, and no rival is shorter.
-pub fn export(a: &[u8], b: &[u8], c: &[u8], out: &mut [u8]) -> Written
+pub fn export(a: &[u8], b: &[u8], c: &[u8], out: &mut [u8]) -> Result<usize, Refusal>
     ensures out_after { told_exported result out.new ≡ export_link a.now b.now c.now out.old }
     ensures by_index { (n : ℕ) → told_written result ≡ bytes n → Delivered a.now b.now c.now n out.new }
 {
@@ -324,7 +292,7 @@ pub fn export(a: &[u8], b: &[u8], c: &[u8], out: &mut [u8]) -> Written
 }
 
 // How much room the export of a link needs: refused as its bytes are, else the length of its TLVs. Nothing is written.
-pub fn export_length(a: &[u8], b: &[u8], c: &[u8]) -> Written
+pub fn export_length(a: &[u8], b: &[u8], c: &[u8]) -> Result<usize, Refusal>
     ensures { told_written result ≡ export_length a.now b.now c.now }
 {
     let mut none = [0u8; 0];

@@ -7,7 +7,7 @@ use Rattle.isis_export.proofs.export_with.Goals as goal
 pub fill_sets-s-requires : goal.fill_sets-s-requires
 fill_sets-s-requires c =
     let p = c.requires in
-    (p.0.2.passed, record { is = refl }, p.1.slots.0, p.1.slots.1)
+    (p.0.2.passed, record { is = refl }, p.1.enough.slotted.0, p.1.enough.slotted.1)
 
 pub export_rows-requires : goal.export_rows-requires
 export_rows-requires c =
