@@ -1,13 +1,13 @@
 -- A source's row with one bit more, and the keys of a value. Assumes nothing.
-use Prim.Native.Nat.{ℕ, zero, suc, ◌+◌, ◌*◌, ◌/◌, ◌%◌, ◌^◌, ◌≤◌, ◌<◌}
+use Prim.Native.Nat.{ℕ, zero, suc, ◌*◌, ◌/◌, ◌%◌, ◌^◌, ◌≤◌, ◌<◌}
 use mathlib.Core.Path.{◌≡◌, refl, sym, ◌∙◌, ap}
-use mathlib.Core.Bool.{Bool, true, false, ◌||◌, ◌&&◌, or-false}
+use mathlib.Core.Bool.{◌||◌, ◌&&◌, or-false}
 use mathlib.Core.List.{List, [], ◌∷◌, map}
 use native.Mathlib.Omega.{arith}
-use borrow.Author.Tests.{eq-eqb, ne_eqb, ltb-true, ltb-false}
-use lib.Dec.{eqb, ltb}
+use borrow.Author.Tests.{eq-eqb, ne_eqb}
+use lib.Dec.{eqb}
 use lib.Bits.{bit_or}
-use lib.ListN.{length, get_or, set, length-set, get_or-eq_default}
+use lib.ListN.{length, get_or, set, length-set}
 use lib.Seq.{get_or-set_same, get_or-set_other}
 use Rattle.srlg.proofs.Laws.{Order, less, more, same, order}
 use Rattle.srlg_ranks.specs.Ranks.{in_words}
@@ -55,29 +55,14 @@ module _ (rows : List (List ℕ)) (s p : ℕ) (inside : s < length rows) (low : 
       masks j k h (here e f) = ap (λ (r : List ℕ). get_or r k 0) f ∙ get_or-set_other (get_or rows s []) (p / 64) k _ 0 (λ x. omega arith) ∙ rw e
       masks j k h (there n f) = ap (λ (r : List ℕ). get_or r k 0) f
 
--- The key of the number at a place.
-pub key-at : (source : ℕ) (ws : List ℕ) (i : ℕ) → i < length ws → get_or (map (key_of source) ws) i 0 ≡ get_or ws i 0 + source * 4294967296
-unfolding key_of
-key-at source [] i h = absurd (omega arith)
-key-at source (w ∷ ws) zero h = refl
-key-at source (w ∷ ws) (suc i) h = key-at source ws i (omega arith)
-
 pub length-keys : (source : ℕ) (ws : List ℕ) → length (map (key_of source) ws) ≡ length ws
 length-keys source [] = refl
 length-keys source (w ∷ ws) = omega (arith, length-keys source ws)
 
--- Numbers of 32 bits, one after the other.
-pub small-next : (ws : List ℕ) (i v : ℕ) → v ≡ get_or ws i 0 → v < 4294967296 → ((j : ℕ) → j < i → get_or ws j 0 < 4294967296) → (j : ℕ) → j < i + 1 → get_or ws j 0 < 4294967296
-small-next ws i v e h before j l = go (order j i)
-  where
-    go : Order j i → get_or ws j 0 < 4294967296
-    go (less k) = before j k
-    go (more k) = absurd (omega arith)
-    go (same f) = omega (arith, ap (λ (k : ℕ). get_or ws k 0) f)
+-- A number of 32 bits in front of others.
+pub small-cons : (v : ℕ) (ws : List ℕ) → v < 4294967296 → Small ws → Small (v ∷ ws)
+small-cons v ws h l zero = h
+small-cons v ws h l (suc i) = l i
 
-pub small_all : (ws : List ℕ) (i : ℕ) → length ws ≤ i → ((j : ℕ) → j < i → get_or ws j 0 < 4294967296) → Small ws
-small_all ws i h before j = go (ltb j i) refl
-  where
-    go : (b : Bool) → ltb j i ≡ b → get_or ws j 0 < 4294967296
-    go true e = before j (ltb-true j i e)
-    go false e = omega (arith, get_or-eq_default ws 0 {n = j} (omega (arith, ltb-false j i e)))
+pub small-none : Small []
+small-none i = omega arith

@@ -36,12 +36,12 @@ pub fn add_words(s: &[u8], source: usize, keys: &mut [u64], at: usize) -> usize
     ensures small { Small (words s.now) }
 {
     let high = above(source);
-    let n = s.len() / 4;
-    for i in 0..n {
-        let v = octets::read32(s, i * 4) as u64;
-        keys[at + i] = v + high;
+    let mut place = at;
+    for word in s.chunks_exact(4) {
+        keys[place] = u64::from(octets::read32(word, 0)) + high;
+        place += 1;
     }
-    at + n
+    place
 }
 
 // A source more, with the numbers of a value, for the applications of two masks.
