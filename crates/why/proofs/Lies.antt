@@ -7,7 +7,8 @@ use Prim.Native.Nat.{ℕ}
 use native.Mathlib.Omega.{arith}
 use borrow.Author.Tests.{eqb-true, ne_eqb}
 use lib.Dec.{eqb}
-use lib.ListN.{get_or}
+use Rattle.std.specs.Prelude.{is_none}
+use Rattle.octets.specs.Spans.{found_in}
 use Rattle.linkstate.specs.Lists.{keep, any, each, empty, lookup}
 use Rattle.linkstate.specs.Replies.{Place, accepted}
 use Rattle.linkstate.specs.Bytes.{bytes_of_words, four}
@@ -21,10 +22,9 @@ use Rattle.isis.specs.RunA.{side_a}
 use Rattle.isis.specs.Link.{link_verdict, side_of}
 use Rattle.isis.proofs.TypeLaws.{none-wrong}
 use Rattle.isis_grids.specs.declared.Which.TheVariants.{Naming}
-use Rattle.isis_grids.specs.Grid.{row_of, first_row}
 use Rattle.isis_grids.specs.Selected.{selects}
 use Rattle.isis_grids.proofs.Grids.{All}
-use Rattle.isis_grids.proofs.Places.{Stands, First, absent, present, first-of, value_none, live-stands}
+use Rattle.isis_grids.proofs.Places.{Stands, value_none, live-stands}
 use Rattle.isis_link.proofs.Checks.{a-passed}
 use Rattle.why.proofs.Has.{has-live}
 use Rattle.why.proofs.First.{Tied, holder-other}
@@ -115,12 +115,12 @@ module _ (s : Standing) (k : ℕ) (other : k ≡ 1096 → ⊥) (p : Advertisemen
 
 -- Of kinds in run A: no value of an accepted run is empty.
 same-a : (a : List ℕ) (k : ℕ) (ts : List Attribute) → All (Stands a) ts → is_code k ≡ true → eqb k 1096 ≡ false → empty (value_of k ts) ≡ not (has k ts)
-unfolding has row_of first_row empty
-same-a a k ts st known n = value_none a k ts n (none-wrong k known n) st ∙ rw n (go (first-of a k ts st))
+unfolding has found_in empty
+same-a a k ts st known n = value_none a k ts n (none-wrong k known n) st ∙ rw n (go (of_kind k ts))
   where
-    go : First a k ts → eqb (get_or (first_row (of_kind k ts)) 0 0) 0 ≡ not (not (empty (of_kind k ts)))
-    go (absent e) = rw e
-    go (present t us e i s) = rw e (ne_eqb t.at 0 (λ z. omega (arith, s.placed)))
+    go : (l : List Attribute) → is_none (found_in l) ≡ not (not (empty l))
+    go [] = refl
+    go (t ∷ l) = refl
 
 -- Of SRLG: numbers have bytes.
 same-b : (ts : List Attribute) → empty (value_of 1096 ts) ≡ not (has 1096 ts)

@@ -3,7 +3,6 @@ use mathlib.Core.Path.{◌≡◌, refl, sym, ap, ◌∙◌}
 use mathlib.Core.Bool.{Bool, true, false, cond, ◌||◌, not, false≢true}
 use mathlib.Core.List.{List, []}
 use Prim.Native.Nat.{ℕ, ◌+◌}
-use native.Mathlib.Omega.{arith}
 use borrow.Author.Tests.{eqb-true}
 use lib.Dec.{eqb}
 use Rattle.linkstate.specs.Lists.{any}
@@ -20,23 +19,21 @@ use Rattle.linkstate.specs.Why.{because, why_refused, Standing, names_with_l, ha
 use Rattle.linkstate.specs.RunWhy.{stand_run, top_why}
 use Rattle.isis_kinds.proofs.Computing.{computing}
 use Rattle.isis.specs.RunA as I
-use Rattle.isis.specs.Types.{code_of_type}
 use Rattle.isis.specs.RunA.{side_a}
 use Rattle.isis.specs.RunB.{side_b}
 use Rattle.isis.specs.Why.{stand_a, stand_b, stand_of, side_why}
 use Rattle.replies.specs.declared.Run.{Run}
-use Rattle.replies.specs.declared.Run.TheVariants.{A, B, C, BgpLs}
-use Rattle.replies.specs.declared.Holder.{Holder}
-use Rattle.replies.specs.declared.Holder.TheVariants as H
+use Rattle.replies.specs.declared.Run.TheVariants.{A, B, BgpLs}
+use Rattle.std.specs.Prelude.{Option, None, Some, is_some, MatchOption}
 use Rattle.replies.specs.declared.Place.{Place}
 use Rattle.replies.specs.declared.Subject.{Subject as Whom}
 use Rattle.replies.specs.declared.Subject.TheVariants as S
-use Rattle.replies.specs.Told.{told_run, told_holder, subject_of}
+use Rattle.replies.specs.Told.{told_run, subject_of}
 use Rattle.advertisements.specs.declared.Test.{Test}
 use Rattle.advertisements.specs.declared.Test.TheVariants as T
 use Rattle.advertisements.specs.Tests.{passing, is_of}
-use Rattle.advertisements.specs.Walks.{first_such}
-use Rattle.rules.specs.declared.Names.{Names}
+use Rattle.advertisements.specs.Walks.{first_such, held}
+use Rattle.rules.specs.declared.SideNames.{SideNames}
 use Rattle.rules.specs.declared.Rule.{Rule}
 use Rattle.rules.specs.declared.Rule.TheVariants.{ByL, Naming, General, Legacy, NamingFirst, AloneFirst, LegacyFirst}
 use Rattle.rules.specs.Rules.{application_rule, rsvp_te_rule, bandwidth_rule, subject_rule, rule_on}
@@ -51,81 +48,24 @@ use Rattle.why.proofs.Runs.{tied, first-in, has-list, same-a}
 
 -- ---- small answers
 
-module _ (h : Holder) where
-  pub found_at : (p : Place) → h ≡ H.At p → true ≡ is_held (told_holder h)
+module _ (r : Option Place) where
+  pub some-held : (p : Place) → r ≡ Some p → is_held (held r) ≡ true
   unfolding is_held
-  found_at p e = rw e
+  some-held p e = rw e
 
-  pub found-legacy : (r : Run) → h ≡ H.Legacy r → false ≡ is_held (told_holder h)
+  pub none-held : r ≡ None → is_held (held r) ≡ false
   unfolding is_held
-  found-legacy r e = rw e
+  none-held e = rw e
 
-  pub found_nowhere : h ≡ H.Nowhere → false ≡ is_held (told_holder h)
-  unfolding is_held
-  found_nowhere e = rw e
+pub is-some-held : (r : Option Place) (b : Bool) → b ≡ is_some r → is_held (held r) ≡ b
+unfolding is_held
+is-some-held None b e = sym e
+is-some-held (Some p) b e = sym e
 
 pub legacy-by : (run other legacy : Run) → run ≡ other → ((s : List ℕ) → (standing other s).legacy_run ≡ told_run legacy)
     → (s : List ℕ) → because W.by_legacy (W.legacy_in (told_run legacy)) ≡ legacy_why (standing run s)
 unfolding legacy_why
 legacy-by run other legacy e f s = rw e (ap (λ (r : Rattle.linkstate.specs.Replies.Run). because W.by_legacy (W.legacy_in r)) (sym (f s)))
-
-module _ (whom : Whom) where
-  pub rsvp-general : whom ≡ S.General → false ≡ is_rsvp_te (subject_of whom)
-  unfolding is_rsvp_te
-  rsvp-general e = rw e
-
-  pub rsvp-standard : (n : ℕ) → whom ≡ S.Standard n → eqb n 0 ≡ is_rsvp_te (subject_of whom)
-  unfolding is_rsvp_te
-  rsvp-standard n e = rw e
-
-  pub rsvp-user : (n : ℕ) → whom ≡ S.User n → false ≡ is_rsvp_te (subject_of whom)
-  unfolding is_rsvp_te
-  rsvp-user n e = rw e
-
-  -- its number, and what is told where the general ones count
-  pub number-general : whom ≡ S.General → 0 ≡ number_of (subject_of whom)
-  unfolding number_of
-  number-general e = rw e
-
-  pub number-standard : (n : ℕ) → whom ≡ S.Standard n → n ≡ number_of (subject_of whom)
-  unfolding number_of
-  number-standard n e = rw e
-
-  pub number-user : (n : ℕ) → whom ≡ S.User n → 64 + n ≡ number_of (subject_of whom)
-  unfolding number_of user
-  number-user n e = rw e
-
-  pub general-asked : whom ≡ S.General → W.general_asked ≡ general_rule (subject_of whom)
-  unfolding general_rule
-  general-asked e = rw e
-
-  pub standard-unnamed : (n : ℕ) → whom ≡ S.Standard n → W.unnamed ≡ general_rule (subject_of whom)
-  unfolding general_rule
-  standard-unnamed n e = rw e
-
-  pub user-unnamed : (n : ℕ) → whom ≡ S.User n → W.unnamed ≡ general_rule (subject_of whom)
-  unfolding general_rule
-  user-unnamed n e = rw e
-
--- ---- types
-
-pub type-a : (run : Run) (t k : ℕ) → run ≡ A → code_of_type t ≡ k → IsType run t k
-type-a run t k e h = rw e h
-
-pub type-b : (run : Run) (k : ℕ) → run ≡ B → IsType run k k
-type-b run k e = rw e refl
-
-pub type-c : (run : Run) (k : ℕ) → run ≡ C → IsType run k k
-type-c run k e = rw e refl
-
-pub type-run : (run : Run) (k : ℕ) → run ≡ BgpLs → IsType run k k
-type-run run k e = rw e refl
-
-pub ready-a : (run : Run) (s : List ℕ) (k : ℕ) → run ≡ A → Ready run s k → (is_code k ≡ true) × (eqb k 1096 ≡ false)
-ready-a A s k e r = (r.1, r.2)
-ready-a B s k e r = absurd (let z : ◌≡◌ {A = ℕ} 0 1 = cc in omega arith)
-ready-a C s k e r = absurd r
-ready-a BgpLs s k e r = absurd (let z : ◌≡◌ {A = ℕ} 0 1 = cc in omega arith)
 
 -- ---- what the searches found
 
@@ -146,7 +86,7 @@ module _ (run : Run) (b : List ℕ) (k : ℕ) (ok : Ready run b k) where
   st = standing run b
 
   abbrev Found : Test → W.Holder → Type 0
-  Found test h = h ≡ first_such run test 0 b
+  Found test h = h ≡ first_such run test None b
 
   pub with-l : (n m : ℕ) → n ≡ m → (h : W.Holder) → Found (T.WithL n) h → because W.by_l h ≡ because W.by_l (first st (names_with_l m))
   unfolding passing
@@ -156,8 +96,8 @@ module _ (run : Run) (b : List ℕ) (k : ℕ) (ok : Ready run b k) where
   unfolding named passing
   naming n h e = sym (ap is_held (e ∙ first-in run b k ok (T.Names n)) ∙ first-held st (tied run b) (names n))
 
-  held : (test : Test) (h : W.Holder) → h ≡ holder st k (passing test) → has k (of_live (passing test) st.side) ≡ is_held h
-  held test h e = sym (ap is_held e ∙ holder-held st (tied run b) k (passing test))
+  has-held : (test : Test) (h : W.Holder) → h ≡ holder st k (passing test) → has k (of_live (passing test) st.side) ≡ is_held h
+  has-held test h e = sym (ap is_held e ∙ holder-held st (tied run b) k (passing test))
 
   -- the one that holds the value, from the first that passes and has the kind
   module _ (test : Test) (h : W.Holder) (e : h ≡ first st (with_kind test k)) where
@@ -191,24 +131,30 @@ module _ (run : Run) (b : List ℕ) (k : ℕ) (ok : Ready run b k) where
         (ef ∙ first-in run b k ok (T.Names n) ∙ ap (λ (x : W.Holder). x or_else first st (names n))
         (sym (holder-nowhere st (tied run b) k (names n) (ap is_held (sym eh) ∙ u))))
 
+  -- as the code looks for the first where none holds it
+  pub naming-is : (n : ℕ) (h r : Option Place) → held h ≡ holder st k (passing (T.Names n)) → (P : Type 0) → MatchOption h P (λ x. r ≡ Some x)
+      → (P → Found (T.Names n) (held r)) → because W.by_name (held r) ≡ naming_why n k st
+  naming-is n None r e P m f = naming-none n (held None) e (none-held None refl) (held r) (f m)
+  naming-is n (Some p) r e P m f = rw m (naming-held n (held (Some p)) e (some-held (Some p) p refl))
+
   -- and RSVP-TE
   module _ (h : W.Holder) (eh : h ≡ holder st k (passing (T.Names 0))) where
     pub naming-first-legacy : is_held h ≡ false → (r : W.Why) → r ≡ legacy_why st → r ≡ naming_first_why k st
     unfolding naming_first_why passing
-    naming-first-legacy u r e = rw (held (T.Names 0) h eh ∙ u) e
+    naming-first-legacy u r e = rw (has-held (T.Names 0) h eh ∙ u) e
 
     pub naming-first-held : is_held h ≡ true → because W.by_name h ≡ naming_first_why k st
     unfolding naming_first_why passing
-    naming-first-held u = rw (held (T.Names 0) h eh ∙ u) (ap (because W.by_name) eh)
+    naming-first-held u = rw (has-held (T.Names 0) h eh ∙ u) (ap (because W.by_name) eh)
 
   module _ (test : Test) (h : W.Holder) (eh : h ≡ holder st k (passing test)) where
     pub carried_none : is_held h ≡ false → (r : W.Why) → r ≡ legacy_why st → r ≡ carried_why k (passing test) st
     unfolding carried_why
-    carried_none u r e = rw (held test h eh ∙ u) e
+    carried_none u r e = rw (has-held test h eh ∙ u) e
 
     pub carried-is : is_held h ≡ true → because W.carried h ≡ carried_why k (passing test) st
     unfolding carried_why
-    carried-is u = rw (held test h eh ∙ u) (ap (because W.carried) eh)
+    carried-is u = rw (has-held test h eh ∙ u) (ap (because W.carried) eh)
 
 -- Whether run A's own elements have a kind, by its type.
 module _ (a : List ℕ) (k t : ℕ) (ok : Ready A a k) (is : IsType A t k) (x : Bool) (e : x ≡ any (is_of t) (elements 1 0 a)) (r : W.Why) where
@@ -377,8 +323,8 @@ srlg-apart : is_link_code 1096 ≡ false
 unfolding computing
 srlg-apart = refl
 
-pub ready-in-a : (a : List ℕ) (whom : Subject) (k : ℕ) (m : Names) (x : Bool) → AskedInA a whom k m x → Ready A a k
-ready-in-a a whom k m x q = (q.passed, q.known, q.other)
+pub ready-in-a : (a : List ℕ) (whom : Subject) (k : ℕ) (m : SideNames) → AskedInA a whom k m → Ready A a k
+ready-in-a a whom k m q = (q.passed, q.known, q.other)
 
 module _ (a b c : List ℕ) (whom : Subject) (rule : Rule) (x : W.Why) where
   module _ (k : ℕ) (e : rule ≡ rule_on whom k (side_a a)) where
@@ -414,7 +360,7 @@ metric : is_code 1092 ≡ true
 unfolding computing
 metric = refl
 
-module _ (s : List ℕ) (ok : run_verdict s ≡ accepted) (n : ℕ) (h : W.Holder) (e : h ≡ first_such BgpLs (T.Names n) 0 s) where
+module _ (s : List ℕ) (ok : run_verdict s ≡ accepted) (n : ℕ) (h : W.Holder) (e : h ≡ first_such BgpLs (T.Names n) None s) where
   run-named : named n (run_side s) ≡ is_held h
   unfolding standing stand_run
   run-named = naming BgpLs s 1092 (ok, metric) n h e

@@ -33,8 +33,9 @@ use Rattle.isis_tlvs_238.proofs.Tlvs.{whole, live-within}
 use Rattle.bgpls_find.proofs.Laws.{sound}
 use Rattle.replies.specs.declared.Run.{Run}
 use Rattle.replies.specs.declared.Run.TheVariants.{A, B, C, BgpLs}
+use Rattle.std.specs.Prelude.{Option, None, Some}
 use Rattle.advertisements.specs.declared.Test.{Test}
-use Rattle.advertisements.specs.Frames.{width_of}
+use Rattle.advertisements.specs.Widths.{width_of}
 use Rattle.advertisements.specs.Tests.{passing, stands, is_of, in_list, carries_a, carries_b, such_in}
 use Rattle.advertisements.specs.Walks.{first_with, first_such}
 use Rattle.advertisements.proofs.Tests.{not-or, any-one}
@@ -84,9 +85,9 @@ module _ (k t : ℕ) (known : is_code k ≡ true) (other : eqb k 1096 ≡ false)
       rw (other, n) (or-none (eqb k (code_of_type u) && true) ∙ ap (λ (b : Bool). b && true)
       (eqb-sym k (code_of_type u) ∙ ap (eqb (code_of_type u)) (sym is) ∙ sym (type-code t some-type u)))
 
-  pub carries-a : (at : ℕ) (v : List ℕ) → carries_a t v ≡ has k (cond (l_flag v) [] (each I.attributes_of (list_elements at v)))
+  pub carries-a : (at : ℕ) (v : List ℕ) → carries_a (Some t) v ≡ has k (cond (l_flag v) [] (each I.attributes_of (list_elements at v)))
   unfolding carries_a list_elements any each
-  carries-a at v = rw (ne_eqb t 0 (λ i. some-type (ap code_of_type i ∙ no_zero.0))) (go (l_flag v))
+  carries-a at v = go (l_flag v)
     where
       go : (l : Bool)
           → (not l && any (is_of t) (elements 1 0 (drop (header_length v) v))) ≡ has k
@@ -98,7 +99,7 @@ module _ (k t : ℕ) (known : is_code k ≡ true) (other : eqb k 1096 ≡ false)
           (drop (header_length v) v))
 
 -- of a TLV 238
-carries-b : (o : ℕ) (v : List ℕ) → carries_b 1096 v ≡ has 1096 (cond (l_flag v) [] (srlg_attribute o (srlg_values v) ∷ []))
+carries-b : (o : ℕ) (v : List ℕ) → carries_b (Some 1096) v ≡ has 1096 (cond (l_flag v) [] (srlg_attribute o (srlg_values v) ∷ []))
 unfolding carries_b srlg_attribute any hit
 carries-b o v = go (l_flag v)
   where
@@ -117,12 +118,11 @@ module _ (k : ℕ) (known : is_code k ≡ true) where
   same-run (element at u v) =
       or-none (eqb k u && (not (eqb k 1096) || leb 4 (length v))) ∙ ap (λ (b : Bool). b && (not (eqb k 1096) || leb 4 (length v))) (eqb-sym k u)
 
-  carries-run : (at : ℕ) (v : List ℕ) → in_list 2 k (drop (L.asla_header v) v) ≡ has k (each L.attributes_of (L.inner_elements at v))
+  carries-run : (at : ℕ) (v : List ℕ) → in_list 2 (Some k) (drop (L.asla_header v) v) ≡ has k (each L.attributes_of (L.inner_elements at v))
   unfolding in_list L.inner_elements
   carries-run at v =
-      rw (ne_eqb k 0 (some-code k known))
-      (sym (has-list k k L.attributes_of same-run (elements 2 (at + 4 + L.asla_header v) (drop (L.asla_header v) v)) ∙ kind-moved k 2 (at + 4 + L.asla_header v)
-      (drop (L.asla_header v) v)))
+      sym (has-list k k L.attributes_of same-run (elements 2 (at + 4 + L.asla_header v) (drop (L.asla_header v) v)) ∙ kind-moved k 2 (at + 4 + L.asla_header v)
+      (drop (L.asla_header v) v))
 
 -- ---- elements that passed their checks
 
@@ -138,7 +138,7 @@ one-such st b c p q d h i =
     group false y z = refl
 
 -- A kind that is asked for, as the code tells it and as the definitions do; q is what is asked of an advertisement.
-module _ (test : Test) (k at t : ℕ) (v : List ℕ) (q : Advertisement → Bool) where
+module _ (test : Test) (k : Option ℕ) (at t : ℕ) (v : List ℕ) (q : Advertisement → Bool) where
   pub such-a : check_a at t v ≡ accepted → carries_a k v ≡ q (advertisement v (each I.attributes_of (list_elements at v)))
       → such_in A test k (element at t v) ≡ any (λ d. passing test d && q d) (asla_advertisements (element at t v))
   unfolding such_in asla_advertisements stands live_asla
@@ -193,13 +193,13 @@ lookup-passed run check p q f h (element at t v ∷ es) ok =
     rw (h at t v (then-first (check at t v) (faults run check es) ok), lookup-passed run check p q f h es (then-second (check at t v) (faults run check es) ok))
 
 -- What is asked of the advertisements of a run, beside the test.
-abbrev Asks : Run → ℕ → (Advertisement → Bool) → Type 0
+abbrev Asks : Run → Option ℕ → (Advertisement → Bool) → Type 0
 Asks A k q = (at : ℕ) (v : List ℕ) → carries_a k v ≡ q (advertisement v (each I.attributes_of (list_elements at v)))
 Asks B k q = (at : ℕ) (v : List ℕ) → carries_b k v ≡ q (srlg_advertisement at v)
 Asks C k q = ⊥
 Asks BgpLs k q = (at : ℕ) (v : List ℕ) → in_list 2 k (drop (L.asla_header v) v) ≡ q (L.advertisement at v)
 
-found_in : (run : Run) (s : List ℕ) (c : ℕ) → Ready run s c → (test : Test) (k : ℕ) (q : Advertisement → Bool) → Asks run k q
+found_in : (run : Run) (s : List ℕ) (c : ℕ) → Ready run s c → (test : Test) (k : Option ℕ) (q : Advertisement → Bool) → Asks run k q
     → first_such run test k s ≡ first (standing run s) (λ d. passing test d && q d)
 unfolding first_such first_with width_of first standing stand_a stand_b stand_run L.run_verdict
 found_in A s c ok test k q i =
@@ -216,13 +216,13 @@ found_in BgpLs s c ok test k q i =
     (then-second (refused_if (ltb 524288 (length s)) 1) (faults run_bgp_ls L.check_top (elements 2 0 s)) ok.0)
 
 -- No kind is asked for.
-pub first-in : (run : Run) (s : List ℕ) (c : ℕ) → Ready run s c → (test : Test) → first_such run test 0 s ≡ first (standing run s) (passing test)
+pub first-in : (run : Run) (s : List ℕ) (c : ℕ) → Ready run s c → (test : Test) → first_such run test None s ≡ first (standing run s) (passing test)
 unfolding carries_a carries_b in_list
 first-in run s c ok test =
-    found_in run s c ok test 0 (λ d. true) (asks run ok) ∙ first-same (standing run s) (λ d. passing test d && true) (passing test)
+    found_in run s c ok test None (λ d. true) (asks run ok) ∙ first-same (standing run s) (λ d. passing test d && true) (passing test)
     (λ d. and-true (passing test d))
   where
-    asks : (run : Run) → Ready run s c → Asks run 0 (λ d. true)
+    asks : (run : Run) → Ready run s c → Asks run None (λ d. true)
     asks A r = λ at v. refl
     asks B r = λ at v. refl
     asks C r = r
@@ -230,12 +230,12 @@ first-in run s c ok test =
 
 -- One is, by its type.
 pub with_in : (run : Run) (s : List ℕ) (k : ℕ) → Ready run s k → (test : Test) (t : ℕ) → IsType run t k
-    → first_such run test t s ≡ first (standing run s) (with_kind test k)
+    → first_such run test (Some t) s ≡ first (standing run s) (with_kind test k)
 unfolding with_kind advertisement srlg_advertisement L.advertisement
-with_in run s k ok test t is = found_in run s k ok test t (λ d. has k d.attributes) (asks run ok is)
+with_in run s k ok test t is = found_in run s k ok test (Some t) (λ d. has k d.attributes) (asks run ok is)
   where
-    asks : (run : Run) → Ready run s k → IsType run t k → Asks run t (λ d. has k d.attributes)
+    asks : (run : Run) → Ready run s k → IsType run t k → Asks run (Some t) (λ d. has k d.attributes)
     asks A r i = λ at v. carries-a k t r.1 r.2 i at v
-    asks B r i = λ at v. ap (λ (n : ℕ). carries_b n v) (i ∙ r.1) ∙ carries-b _ v ∙ ap (λ (n : ℕ). has n (srlg_advertisement at v).attributes) (sym r.1)
+    asks B r i = λ at v. ap (λ (n : ℕ). carries_b (Some n) v) (i ∙ r.1) ∙ carries-b _ v ∙ ap (λ (n : ℕ). has n (srlg_advertisement at v).attributes) (sym r.1)
     asks C r i = r
-    asks BgpLs r i = λ at v. ap (λ (n : ℕ). in_list 2 n (drop (L.asla_header v) v)) i ∙ carries-run k r.1 at v
+    asks BgpLs r i = λ at v. ap (λ (n : ℕ). in_list 2 (Some n) (drop (L.asla_header v) v)) i ∙ carries-run k r.1 at v

@@ -1,4 +1,4 @@
--- The type in the run, then the search.
+-- One passes and has the kind, by its type.
 use mathlib.Core.Path.{◌∙◌}
 use Rattle.why.proofs.Runs.{with_in}
 use Rattle.why.proofs.first_with.Goals as goal

@@ -1,6 +1,6 @@
 -- Legacy has the kind, or not.
 use Rattle.why.proofs.Rules.{legacy-there, legacy-absent}
-use Rattle.advertisements.specs.Frames.{width_of}
+use Rattle.advertisements.specs.Widths.{width_of}
 use Rattle.why.proofs.legacy_first_why.Goals as goal
 
 pub returns-then-has_kind : goal.returns-then-has_kind

@@ -1,10 +1,10 @@
 -- One names it, or none.
-use Rattle.why.proofs.Rules.{rule-named, rule-unnamed}
-use mathlib.Core.Path.{sym, ◌∙◌}
+use mathlib.Core.Path.{◌∙◌}
+use Rattle.why.proofs.Rules.{is-some-held, rule-named, rule-unnamed}
 use Rattle.why.proofs.named_rule.Goals as goal
 
-pub returns-then-is_found : goal.returns-then-is_found
-returns-then-is_found c = rule-named c.args.r.now c.requires c.args.n _ c.first_such.ensures (sym c.is_found.ensures ∙ c.if-is_found.true)
+pub returns-then-is_some : goal.returns-then-is_some
+returns-then-is_some c = rule-named c.args.r.now c.requires c.args.n _ c.first_such.ensures (is-some-held _ _ c.is_some.ensures ∙ c.if-is_some.true)
 
 pub returns : goal.returns
-returns c = rule-unnamed c.args.r.now c.requires c.args.n _ c.first_such.ensures (sym c.is_found.ensures ∙ c.if-is_found.false)
+returns c = rule-unnamed c.args.r.now c.requires c.args.n _ c.first_such.ensures (is-some-held _ _ c.is_some.ensures ∙ c.if-is_some.false)

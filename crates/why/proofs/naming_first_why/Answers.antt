@@ -1,12 +1,16 @@
 -- One holds the value, or legacy.
-use Rattle.why.proofs.Rules.{naming-first-legacy, naming-first-held}
-use mathlib.Core.Path.{sym, ◌∙◌}
+use mathlib.Core.Path.{sym, ap, ◌∙◌}
+use Rattle.linkstate.specs.Why.{because, by_name}
+use Rattle.advertisements.specs.Walks.{held}
+use Rattle.why.proofs.Rules.{some-held, none-held, naming-first-legacy, naming-first-held}
 use Rattle.why.proofs.naming_first_why.Goals as goal
 
-pub returns-then-not-is_found : goal.returns-then-not-is_found
-returns-then-not-is_found c = naming-first-legacy c.args.run c.args.s.now c.args.code c.requires _ c.holder_of-h.ensures
-    (sym c.is_found.ensures ∙ c.if-not-is_found.true) _ (c.legacy_why.ensures c.args.s.now)
+pub returns-in_default : goal.returns-in_default
+returns-in_default c =
+    naming-first-legacy c.args.run c.args.s.now c.args.code c.requires _ c.holder_of.ensures
+    (none-held _ c.in_default.is) _ (c.legacy_why.ensures c.args.s.now)
 
 pub returns : goal.returns
-returns c = naming-first-held c.args.run c.args.s.now c.args.code c.requires _ c.holder_of-h.ensures
-    (sym c.is_found.ensures ∙ c.if-not-is_found.false)
+returns c =
+    c.because.ensures ∙ ap (λ r. because by_name (held r)) (sym c.in-Some.is)
+    ∙ naming-first-held c.args.run c.args.s.now c.args.code c.requires _ c.holder_of.ensures (some-held _ _ c.in-Some.is)

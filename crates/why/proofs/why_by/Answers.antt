@@ -1,11 +1,12 @@
 -- Rule by rule.
+use mathlib.Core.Path.{◌∙◌}
 use Rattle.why.proofs.Rules.{by-l, by-naming, by_general, by-naming-first, by-else, with-l}
 use Rattle.replies.specs.Told.{subject_of}
 use Rattle.why.specs.Runs.{standing}
 use Rattle.why.proofs.why_by.Goals as goal
 
 pub returns-in-ByL : goal.returns-in-ByL
-returns-in-ByL c = by-l c.args.rule (subject_of c.args.whom) c.args.code (standing c.args.run c.args.s.now) _ c.in-ByL.is
+returns-in-ByL c = c.because.ensures ∙ by-l c.args.rule (subject_of c.args.whom) c.args.code (standing c.args.run c.args.s.now) _ c.in-ByL.is
     (with-l c.args.run c.args.s.now c.args.code c.requires.0 _ _ c.number_of.ensures _ c.first_such.ensures)
 
 pub returns-in-Naming : goal.returns-in-Naming
@@ -13,7 +14,7 @@ returns-in-Naming c = by-naming c.args.rule (subject_of c.args.whom) c.args.code
     c.naming_why.ensures
 
 pub returns-in-General : goal.returns-in-General
-returns-in-General c = by_general c.args.rule (subject_of c.args.whom) c.args.code (standing c.args.run c.args.s.now)
+returns-in-General c = c.because-in-General.ensures ∙ by_general c.args.rule (subject_of c.args.whom) c.args.code (standing c.args.run c.args.s.now)
     c.in-General.is _ _ c.general_rule.ensures c.holder_of.ensures
 
 pub returns-in-NamingFirst : goal.returns-in-NamingFirst

@@ -9,5 +9,5 @@ pub why_by-requires : goal.why_by-requires
 why_by-requires c = ((c.requires.0, refl), c.requires.1)
 
 pub returns : goal.returns
-returns c = λ a d t h. link-in-b a c.args.b.now d (subject_of c.args.whom) _ _ (c.decide.ensures.value (side_b c.args.b.now d) t h)
+returns c = λ a d t. link-in-b a c.args.b.now d (subject_of c.args.whom) _ _ (c.decide.ensures.rule (side_b c.args.b.now d) t.0 t.1)
     c.why_by.ensures
