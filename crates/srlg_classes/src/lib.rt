@@ -63,13 +63,10 @@ fn first_classes(
     requires { (used.words ≤ 16) × (2 ≤ used.sources) × (used.sources ≤ length rows.now) × (3 ≤ length classes.old) × (3 ≤ length heads.old) × (length buckets.old ≡ 128) × ((b : ℕ) → b < 128 → get_or buckets.old b 0 ≡ 0) }
     ensures { Firsts rows.now used.sources used.words classes.new heads.new buckets.new result }
 {
-    let none = [0u64; 4];
-    classes[0] = none;
-    let low = [1u64, 0];
-    let legacy = srlg_table::class_of(rows, low, used, classes, heads, buckets, 1);
+    classes[0] = [0; 4];
+    let legacy = srlg_table::class_of(rows, [1, 0], used, classes, heads, buckets, 1);
     let one = srlg_table::with_class(1, legacy);
-    let next = [2u64, 0];
-    let general = srlg_table::class_of(rows, next, used, classes, heads, buckets, one);
+    let general = srlg_table::class_of(rows, [2, 0], used, classes, heads, buckets, one);
     let count = srlg_table::with_class(one, general);
     First {
         legacy,
@@ -94,8 +91,7 @@ fn assign(
     ensures { Assigned rows.now used.sources used.words blocks.now m classes.old own.old classes.new heads.new buckets.new own.new first result }
 {
     let mut count = first;
-    for k in 0..m {
-        let b = blocks[k];
+    for b in &blocks[..m] {
         let sources = [b[2], b[3]];
         let c = srlg_table::class_of(rows, sources, used, classes, heads, buckets, count);
         count = srlg_table::with_class(count, c);
@@ -140,13 +136,10 @@ fn rsvp_class(named: Names, legacy: bool, own: &[[u8; 2]; 128], first: First) ->
     match rules::rsvp_te_rule(l, n, legacy) {
         Rule::NamingFirst => {
             let c = usize::from(own[7][1]);
-            if c == 0 {
-                return first.legacy;
-            }
-            return c;
+            if c == 0 { first.legacy } else { c }
         }
-        Rule::General => return first.general,
-        _ => return first.legacy,
+        Rule::General => first.general,
+        _ => first.legacy,
     }
 }
 
@@ -243,8 +236,7 @@ pub fn classify(
     ensures { Slots own.old own.new × ((values : List ℕ) (side : Side) → length values ≤ 64 * used.words → Sourced values rows.now used.sources side → Tells side.live named → legacy ≡ has_legacy side → Classified values rows.now classes.new own.new (in_set who) side result) }
 {
     if used.words == 0 {
-        let none = [0u64; 4];
-        classes[0] = none;
+        classes[0] = [0; 4];
         return Classes {
             general: 0,
             rsvp: 0,

@@ -10,9 +10,9 @@ returns-then-c-eq0 c = let a = c.args in
     no_own a.named a.legacy a.own.now a.first _ _ c.is_named_with_l-l.ensures c.is_named-n.ensures _ c.rsvp_te_rule.ensures
     c.in-NamingFirst.is _ c.from-c.ensures c.if-c-eq0.true
 
-pub returns-in-NamingFirst : goal.returns-in-NamingFirst
+pub returns-else-c-eq0 : goal.returns-else-c-eq0
 unfolding class_at
-returns-in-NamingFirst c = let a = c.args in
+returns-else-c-eq0 c = let a = c.args in
     own-one a.named a.legacy a.own.now a.first _ _ c.is_named_with_l-l.ensures c.is_named-n.ensures _ c.rsvp_te_rule.ensures
     c.in-NamingFirst.is _ c.from-c.ensures c.if-c-eq0.false
 
