@@ -16,8 +16,9 @@ slice_bounds-ask-end c = let a = c.args in
 
 pub returns-in_err-n : goal.returns-in_err-n
 returns-in_err-n c = let a = c.args in
-    refused-back a.a.now a.b.now a.c.now a.out.now _ (subject_of a.whom) a.code a.list.now (told_refusal c.in_err-n.field-0.0)
-    (sym c.export.ensures.out_after ∙ ap (λ (x : Result ℕ Refusal). told_exported x c.export.new.out) c.in_err-n.was)
+    rw (passed_on _ _ c.from_residual.ensures.1)
+    (refused-back a.a.now a.b.now a.c.now a.out.now _ (subject_of a.whom) a.code a.list.now (told_refusal c.in_err-n.field-0.0)
+    (sym c.export.ensures.out_after ∙ ap (λ (x : Result ℕ Refusal). told_exported x c.export.new.out) c.in_err-n.was))
 
 pub returns : goal.returns
 returns c = let a = c.args in

@@ -16,8 +16,10 @@ slice_bounds-named-end c = let a = c.args in
     ∙ ap (λ (x : Result ℕ Refusal). told_exported x c.export.new.out) c.in_ok-n.was)).within
 
 pub returns-in_err-n : goal.returns-in_err-n
-returns-in_err-n c = refused_names (told_refusal c.in_err-n.field-0.0)
-    (sym c.export.ensures.out_after ∙ ap (λ (x : Result ℕ Refusal). told_exported x c.export.new.out) c.in_err-n.was) refl
+returns-in_err-n c =
+    rw (passed_on _ _ c.from_residual.ensures.1)
+    (refused_names (told_refusal c.in_err-n.field-0.0)
+    (sym c.export.ensures.out_after ∙ ap (λ (x : Result ℕ Refusal). told_exported x c.export.new.out) c.in_err-n.was) refl)
 
 pub returns : goal.returns
 returns c = let a = c.args in
