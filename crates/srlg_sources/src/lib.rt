@@ -74,9 +74,7 @@ fn mark(rows: &mut [[u64; 18]], source: usize, p: usize)
     requires { (source < length rows.old) × (p < 1024) }
     ensures { Marked rows.old source p rows.new }
 {
-    let w = p / 64;
-    let bit = p % 64;
-    rows[source][w] |= 1 << bit;
+    rows[source][p / 64] |= 1 << (p % 64);
 }
 
 // The different numbers of keys that climb, ascending at the front of a list, and in the row of each source the bits of its numbers; how many numbers there are.
@@ -119,6 +117,7 @@ fn join_row(x: &mut [u64; 16], row: &[u64; 18], words: usize)
     requires { (length x.old ≡ 16) × (words ≤ 16) }
     ensures { (length x.new ≡ 16) × ((i : ℕ) → i < 64 * words → in_words x.new i ≡ in_words x.old i || in_words row.now i) }
 {
+    // By index: of elements that `iter_mut` lends beside another list, nothing would be known.
     for i in 0..words {
         x[i] |= row[i];
     }
