@@ -165,25 +165,15 @@ module _ {run : List ℕ} {sets : List (List ℕ)} {values : List ℕ} {rows cla
     pub writable : (s c : ℕ) → IsSet sets s → c < length classes → Writable run (slot_grid sets s) values rows classes places c d at
     writable s c of_s of_c = let placed = was.placed in record { fits = ok.slots.fits s of_s.inside; known = ok.known; inside = of_c; placed = omega arith; standing = was.standing }
 
-  -- ---- an entry that was read: its front is written, then its set
+  -- ---- an ASLA TLV: its front is written, then its set
 
-  module _ {groups : List (List ℕ)} {places d : List ℕ} {at : ℕ} (was : Opens places d at) (entered : Entered sets classes groups) (i : ℕ)
-      (h : i < length groups)
-      (room : at + length (entry_tlv run sets srlgs groups i) ≤ length d) (e : Asla) (is : e ≡ asla_of (get_or groups i [])) where
-    of_s : IsSet sets e.slot
-    of_s = rw is (entered.slot i h)
-
-    of_c : e.class < length classes
-    of_c = rw is (entered.class i h)
-
+  module _ {places d : List ℕ} {at : ℕ} (was : Opens places d at) (e : Asla) (of_s : IsSet sets e.slot) (of_c : e.class < length classes)
+      (room : at + length (asla_tlv run sets srlgs e) ≤ length d) where
     pub size-asks : (e.slot < length sets) × (e.class < length classes) × (count_in classes e.class ≤ most_numbers)
     size-asks = (of_s.inside, of_c, count-few e.class of_c)
 
-    entry-parts : front e ++ inner e ≡ entry_tlv run sets srlgs groups i
-    entry-parts = asla-parts e ∙ ap (asla_tlv run sets srlgs) is
-
     both-room : at + length (front e ++ inner e) ≤ length d
-    both-room = same-room entry-parts d at room
+    both-room = same-room (asla-parts e) d at room
 
     module _ (size : ℕ) (es : size ≡ set_size sets classes e.slot e.class) where
       size_is : size ≡ length (inner e)
@@ -202,10 +192,10 @@ module _ {run : List ℕ} {sets : List (List ℕ)} {values : List ℕ} {rows cla
         pub set-asks : (e.slot < length sets) × Writable run (slot_grid sets e.slot) values rows classes places e.class o r × (r + length (inner e) ≤ length o)
         set-asks = (of_s.inside, writable behind e.slot e.class of_s of_c, behind-room d at (front e) (inner e) both-room kept front-wrote)
 
-        pub entry-written : {t : ℕ} {places' x : List ℕ} → Written srlgs o r (inner e) t places' x
-            → Written srlgs d at (entry_tlv run sets srlgs groups i) t places' x
-        entry-written v =
-            (same_write entry-parts d at (behind-write d at (front e) (inner e) both-room kept front-wrote v.0), v.1)
+        pub asla-written : {t : ℕ} {places' x : List ℕ} → Written srlgs o r (inner e) t places' x
+            → Written srlgs d at (asla_tlv run sets srlgs e) t places' x
+        asla-written v =
+            (same_write (asla-parts e) d at (behind-write d at (front e) (inner e) both-room kept front-wrote v.0), v.1)
 
   -- ---- entries in turn
 
@@ -223,19 +213,23 @@ module _ {run : List ℕ} {sets : List (List ℕ)} {values : List ℕ} {rows cla
         record { low = omega arith; high = omega arith; still = refl; kept = refl; written = (each_start tlv_of first d at (length groups) room, was.standing) }
 
     module _ {i : ℕ} {places' o : List ℕ} {r : ℕ} (so : To i places' o r) where
-      module _ (h : i < length groups) where
-        pub asla-asks : Opens places' o r × Entered sets classes groups × (i < length groups) × (r + length (tlv_of i) ≤ length o)
-        asla-asks =
-            (open-on was so.still so.written.1, entered, h, each-room tlv_of first d at (length groups) room i so.low h so.kept so.written.0)
+      module _ (h : i < length groups) {e : Asla} (is : e ≡ asla_of (get_or groups i [])) where
+        pub asla-asks : Opens places' o r × IsSet sets e.slot × (e.class < length classes) × (r + length (asla_tlv run sets srlgs e) ≤ length o)
+        asla-asks = (
+          open-on was so.still so.written.1,
+          rw is (entered.slot i h),
+          rw is (entered.class i h),
+          rw is (each-room tlv_of first d at (length groups) room i so.low h so.kept so.written.0),
+        )
 
-        pub aslas-next : {places'' x : List ℕ} {t : ℕ} → length places'' ≡ length places' → length x ≡ length o → Written srlgs o r (tlv_of i) t places'' x
+        pub aslas-next : {places'' x : List ℕ} {t : ℕ} → length places'' ≡ length places' → length x ≡ length o → Written srlgs o r (asla_tlv run sets srlgs e) t places'' x
             → To (i + 1) places'' x t
         aslas-next e k v = record {
           low = omega (arith, so.low);
           high = omega arith;
           still = e ∙ so.still;
           kept = k ∙ so.kept;
-          written = (each-one tlv_of first d at (length groups) room i so.low h so.kept so.written.0 v.0, v.1);
+          written = (each-one tlv_of first d at (length groups) room i so.low h so.kept so.written.0 (rw is at v.0), v.1);
         }
 
       pub aslas-end : length groups ≤ i → Written srlgs d at (asla_tlvs run sets srlgs groups first (length groups - first)) r places' o

@@ -13,7 +13,7 @@ ghost use Rattle.replies.specs.Told.{told_exported};
 ghost use Rattle.tlv_bytes.specs.Tlvs.{in_tlvs};
 ghost use Rattle.grids.specs.Slots.{cell, cell_row, IsSet};
 ghost use Rattle.set_bytes.specs.Sets.{low_codes};
-ghost use Rattle.export_bytes.specs.Whole.{entry_tlv, asla_tlvs, top_set, whole_bytes, Tables, Entered, Open, answered};
+ghost use Rattle.export_bytes.specs.Whole.{asla_tlv, asla_tlvs, top_set, whole_bytes, Tables, Entered, Open, answered};
 ghost use Rattle.export_bytes.specs.Describes.{Describes};
 
 use grids::Sets;
@@ -51,6 +51,23 @@ impl Asla {
         ensures { (result ≡ asla_size sets.entry.rows.now srlgs.entry.classes.now self) × (result ≤ 5000000024) }
     {
         tlv_bytes::front_size(self.members) + set_size(sets, srlgs, self.slot, self.class)
+    }
+
+    // Its TLV: the front with the size of the set, then the set; the place after it.
+    fn write(
+        self,
+        sets: Sets<'_>,
+        srlgs: Srlgs<'_>,
+        places: &mut [usize],
+        out: &mut [u8],
+        at: usize,
+    ) -> usize
+        requires { Open sets.run.now sets.rows.now srlgs.values.now srlgs.rows.now srlgs.classes.now places.old out.old at × IsSet sets.rows.now self.slot × (self.class < length srlgs.classes.now) × (at + length (asla_tlv sets.run.now sets.rows.now (numbers_in srlgs.values.now srlgs.rows.now srlgs.classes.now) self) ≤ length out.old) }
+        ensures { Wrote (numbers_in srlgs.entry.values.now srlgs.entry.rows.now srlgs.entry.classes.now) out.old at (asla_tlv sets.entry.run.now sets.entry.rows.now (numbers_in srlgs.entry.values.now srlgs.entry.rows.now srlgs.entry.classes.now) self) result places.new out.new }
+    {
+        let size = set_size(sets, srlgs, self.slot, self.class);
+        let inner = tlv_bytes::write_front(self.members, size, out, at);
+        set_bytes::write_set(sets, self.slot, srlgs, places, self.class, out, inner)
     }
 }
 
@@ -133,25 +150,6 @@ pub fn measure(
     link + own + aslas
 }
 
-// The ASLA TLV of an entry: its front with the size of the set, then the set; the place after it.
-fn write_asla(
-    sets: Sets<'_>,
-    srlgs: Srlgs<'_>,
-    places: &mut [usize],
-    groups: &[[u64; 3]],
-    i: usize,
-    out: &mut [u8],
-    at: usize,
-) -> usize
-    requires { Open sets.run.now sets.rows.now srlgs.values.now srlgs.rows.now srlgs.classes.now places.old out.old at × Entered sets.rows.now srlgs.classes.now groups.now × (i < length groups.now) × (at + length (entry_tlv sets.run.now sets.rows.now (numbers_in srlgs.values.now srlgs.rows.now srlgs.classes.now) groups.now i) ≤ length out.old) }
-    ensures { Wrote (numbers_in srlgs.entry.values.now srlgs.entry.rows.now srlgs.entry.classes.now) out.old at (entry_tlv sets.entry.run.now sets.entry.rows.now (numbers_in srlgs.entry.values.now srlgs.entry.rows.now srlgs.entry.classes.now) groups.now i) result places.new out.new }
-{
-    let e = Asla::read(&groups[i]);
-    let size = set_size(sets, srlgs, e.slot, e.class);
-    let inner = tlv_bytes::write_front(e.members, size, out, at);
-    set_bytes::write_set(sets, e.slot, srlgs, places, e.class, out, inner)
-}
-
 // The ASLA TLVs of entries, from one on; the place after them.
 fn write_aslas(
     sets: Sets<'_>,
@@ -166,8 +164,8 @@ fn write_aslas(
     ensures { Wrote (numbers_in srlgs.entry.values.now srlgs.entry.rows.now srlgs.entry.classes.now) out.old at (asla_tlvs sets.entry.run.now sets.entry.rows.now (numbers_in srlgs.entry.values.now srlgs.entry.rows.now srlgs.entry.classes.now) groups.now first (length groups.now - first)) result places.new out.new }
 {
     let mut next = at;
-    for i in first..groups.len() {
-        next = write_asla(sets, srlgs, places, groups, i, out, next);
+    for e in &groups[first..] {
+        next = Asla::read(e).write(sets, srlgs, places, out, next);
     }
     next
 }
@@ -206,7 +204,7 @@ fn write_whole(
     set_bytes::write_kind(sets, top.slot, 1173, out, aslas)
 }
 
-// The export of the meaning that tables describe, or 5 where the buffer is too short; or its length alone, and nothing is written.
+// The export of the meaning that tables describe, refused where the buffer has no room for it; or its length alone, and nothing is written.
 pub fn export_sets(
     sets: Sets<'_>,
     srlgs: Srlgs<'_>,

@@ -1,26 +1,47 @@
--- what is written so far are the TLVs of the entries passed.
+-- What is written so far are the TLVs of the entries passed.
+use Prim.Native.Nat.{◌+◌, ◌-◌, ◌<◌}
+use mathlib.Core.Path.{◌≡◌, ◌∙◌, ap}
+use mathlib.Core.List.{[]}
+use lib.ListN.{length, get_or}
 use native.Mathlib.Omega.{arith}
+use native.Mathlib.Numerals.{unary_clauses}
+use Rattle.export_bytes.specs.Sizes.{asla_of}
+use Rattle.export_bytes.proofs.SizeLaws.{length_from, entry_from}
 use Rattle.export_bytes.proofs.Laws.{aslas-start, asla-asks, aslas-next, aslas-end}
 use Rattle.export_bytes.proofs.write_aslas.Goals as goal
+use Rattle.export_bytes.proofs.write_aslas.Goals.{After-read}
 
-pub loop-i-init : goal.loop-i-init
-loop-i-init c = let p = c.requires in aslas-start p.0.tables p.0 p.1 p.2 p.3
+inside : (c : After-read) → c.loop-e.e-index < length c.args.groups.now - c.args.first
+inside c = let some = c.requires.1.some in omega (arith, c.loop-e-test.true, length_from c.args.groups.now c.args.first (omega arith))
 
-pub write_asla-next-requires : goal.write_asla-next-requires
-write_asla-next-requires c = let p = c.requires in
-    asla-asks p.0.tables p.0 p.1 p.2 p.3 c.loop-i.invariant (omega arith)
+entry : (c : After-read) → c.read.result ≡ asla_of (get_or c.args.groups.now (c.args.first + c.loop-e.e-index) [])
+entry c = c.read.ensures ∙ ap asla_of (entry_from c.args.groups.now c.args.first c.loop-e.e-index (inside c))
 
-pub loop-i-preserved : goal.loop-i-preserved
-loop-i-preserved c = let p = c.requires in
-    let w = c.write_asla-next in
-    aslas-next p.0.tables p.0 p.1 p.2 p.3 c.loop-i.invariant (omega arith) w.auto.places w.auto.out
-    w.ensures
+pub loop-e-init : goal.loop-e-init
+loop-e-init c = let p = c.requires in simp unary_clauses (aslas-start p.0.tables p.0 p.1 p.2 p.3)
+
+pub write-next-requires : goal.write-next-requires
+write-next-requires c = let p = c.requires in
+    let q = (goal.at.write-next-requires c).After-read in
+    let i = inside q in
+    asla-asks p.0.tables p.0 p.1 p.2 p.3 c.loop-e.invariant (omega arith) (entry q)
+
+pub loop-e-preserved : goal.loop-e-preserved
+loop-e-preserved c = let p = c.requires in
+    let w = c.write-next in
+    let q = (goal.at.loop-e-preserved c).After-read in
+    let i = inside q in
+    let on : c.args.first + (c.loop-e.e-index + 1) ≡ c.args.first + c.loop-e.e-index + 1 = omega arith in
+    rw on (aslas-next p.0.tables p.0 p.1 p.2 p.3 c.loop-e.invariant (omega arith) (entry q) w.auto.places w.auto.out w.ensures)
 
 pub shape_of-places : goal.shape_of-places
-shape_of-places c = c.loop-i.invariant.still
+shape_of-places c = c.loop-e.invariant.still
 
 pub shape_of-out : goal.shape_of-out
-shape_of-out c = c.loop-i.invariant.kept
+shape_of-out c = c.loop-e.invariant.kept
 
 pub returns : goal.returns
-returns c = let p = c.requires in aslas-end p.0.tables p.0 p.1 p.2 p.3 c.loop-i.invariant (omega arith)
+returns c = let p = c.requires in
+    let some = p.1.some in
+    let n = length_from c.args.groups.now c.args.first (omega arith) in
+    aslas-end p.0.tables p.0 p.1 p.2 p.3 c.loop-e.invariant (omega (arith, n, c.loop-e-test.false))
