@@ -102,7 +102,7 @@ fn link_size(sets: &[[u32; 12]]) -> usize
     total
 }
 
-// The first entry that is written: the general set's, which is entry 0, unless it is empty.
+// The number of the first entry that is written: the general set's, which is entry 0, unless it is empty.
 pub fn first_entry(sets: Sets<'_>, srlgs: Srlgs<'_>, groups: &[[u64; 3]]) -> usize
     requires { Measurable sets.rows.now srlgs.classes.now groups.now }
     ensures { (result ≡ first_entry sets.entry.rows.now srlgs.entry.classes.now groups.now) × (result ≤ 1) }

@@ -130,7 +130,8 @@ fn export_slots(
     export_parts(sets, srlgs, t, groups, places, out)
 }
 
-// The export of the meaning that the first slots of a table and the SRLGs of a side resolve, or 5 where the buffer is too short; or its length alone, and nothing is written.
+// The export of the meaning that the first slots of a table and the SRLGs of a side resolve, refused where the buffer has no room for it; or its length alone, and
+// nothing is written.
 pub fn export_rows(
     sets: Sets<'_>,
     n: Plan,

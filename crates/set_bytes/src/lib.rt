@@ -39,6 +39,7 @@ fn write_bits(values: &[u64], bits: &[u64; 16], out: &mut [u8], at: usize) -> us
 {
     let n = (values.len() + 63) / 64;
     let mut k = at;
+    // By index: it says the word, and where its values begin.
     for w in 0..n {
         k = write_word(values, 64 * w, bits[w], out, k);
     }
@@ -89,7 +90,8 @@ impl Srlgs<'_> {
         write_bits(self.values, &bits, out, at)
     }
 
-    // The n numbers of a class, made or copied, and where they stand then; the place after them.
+    // The n numbers of a class, made or copied, and where they stand then; the place after them. Place 0 is a head's: a class with it is not
+    // written yet, and `places` is fixed memory that begins with zeros.
     fn write_numbers(
         self,
         places: &mut [usize],

@@ -11,7 +11,7 @@ ghost use Rattle.set_groups.specs.Members.{with_member};
 use grids::Sets;
 use masks::{Applications, Bits};
 
-// The slot, the class and the next entry that the third number of an entry says.
+// The slot, the class and the next entry that the third number of an entry says: packed, since an entry is three words of the caller's memory.
 pub fn slot_in(x: u64) -> usize
     ensures { (result ≡ slot_in x) × (result < 256) }
 {
@@ -53,7 +53,8 @@ fn same_set(sets: Sets<'_>, x: u64, s: usize, c: usize) -> bool
     sets.same_cells(t, s) || sets.same_values(t, s)
 }
 
-// The entry with the set of a slot and a class, if there is one, from the last of its bucket on. Entry 0 is no entry of a bucket.
+// The entry with the set of a slot and a class, if there is one, from the last of its bucket on. Entry 0 is in no bucket, and ends each chain:
+// an entry's number is one byte of fixed memory.
 fn find(
     sets: Sets<'_>,
     groups: &[[u64; 3]],
