@@ -52,7 +52,7 @@ fn index_slots(
     requires { PassedA a.now side × (count ≤ length sets.old) × Started side.names (take count sets.old) own.old }
     ensures { Indexed a.now (take count sets.new) own.new result }
 {
-    isis_index::index_a(a, side.names, side.legacy, &mut sets[..count], own)
+    isis_index::index_a(a, side, &mut sets[..count], own)
 }
 
 // The table of sets: a slot for whom run A names, and then its walk.

@@ -2,6 +2,7 @@
 use mathlib.Core.Path.{◌≡◌, refl, sym, ap, ◌∙◌}
 use mathlib.Core.Bool.{Bool, true, false, ◌&&◌, not, false≢true}
 use mathlib.Core.List.{List}
+use mathlib.Core.Logic.{◌⊎◌, inl, inr}
 use Prim.Native.Nat.{ℕ, zero, suc, ◌<◌}
 use native.Mathlib.Omega.{arith}
 use borrow.Author.Tests.{eqb-true, eqb-false}
@@ -9,6 +10,10 @@ use lib.Dec.{eqb}
 use lib.ListN.{get_or}
 use Rattle.linkstate.specs.Kinds.{link_codes}
 use Rattle.kinds.specs.Rules.{grid_codes}
+use Rattle.kinds.specs.declared.Rule.{Rule}
+use Rattle.kinds.specs.declared.Kind.TheVariants.{Srlg, Asla, Unknown}
+use Rattle.isis_kinds.specs.Rules.{rule_of_type}
+use Rattle.isis_kinds.proofs.Laws.{kind-read}
 use Rattle.isis_kinds.proofs.Computing.{computing}
 use Rattle.isis.specs.Types.{code_of_type}
 use Rattle.isis.proofs.TypeLaws.{wrong_of_code, right-code}
@@ -93,3 +98,9 @@ module _ {run : List ℕ} {t place n : ℕ} (r : Right run t place n) where
   pub value-link : (k : ℕ) → k < 3 → code_of_type t ≡ get_or link_codes k 0 → Value run place n
   unfolding computing every wrong_of_code
   value-link k h e = of_right (ap (λ (c : ℕ). wrong_of_code c 0) e ∙ every-at (λ i. wrong_of_code (get_or link_codes i 0) 0) 3 refl k h)
+
+-- A type that is no link's and of no application has no code in a set.
+pub silent : (t : ℕ) (r : Rule) → r ≡ rule_of_type t → (r.kind ≡ Srlg) ⊎ ((r.kind ≡ Asla) ⊎ (r.kind ≡ Unknown)) → code_of_type t ≡ 0
+silent t r e (inl h) = absurd (kind-read t r Srlg e h)
+silent t r e (inr (inl h)) = kind-read t r Asla e h
+silent t r e (inr (inr h)) = kind-read t r Unknown e h

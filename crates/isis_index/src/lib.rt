@@ -1,4 +1,4 @@
-// The walk of an accepted run A: each value goes to the slots of those that get it, in the table of the link's sets (document 01, "Who gets what").
+// The walk of an accepted run A: each value goes to the slots of those that get it, in the table of the link's sets.
 
 #![tactic(auto)]
 
@@ -6,8 +6,7 @@ ghost use Rattle.std.specs.Prelude.{◌≡◌, true, List, [], ◌∷◌, ℕ, �
 ghost use Rattle.linkstate.specs.Lists.{each};
 ghost use Rattle.linkstate.specs.Replies.{accepted, run_a};
 ghost use Rattle.linkstate.specs.Elements.{elements, faults};
-ghost use Rattle.linkstate.specs.Sides.{has_legacy};
-ghost use Rattle.rules.specs.Names.{Tells};
+ghost use Rattle.rules.specs.Names.{TellsSide};
 ghost use Rattle.masks.specs.Applications.{in_set, at_place};
 ghost use Rattle.isis.specs.RunA.{check_a, attributes_of, asla_advertisements, side_a};
 ghost use Rattle.grids.specs.Slots.{cell, IsSet};
@@ -20,21 +19,19 @@ ghost use Rattle.isis_index.specs.Indexed.{Indexed};
 use frames::{Element, One, Whole};
 use kinds::Kind;
 use masks::Applications;
-use rules::{Names, Rule};
+use rules::{Names, Rule, SideNames};
 
 // A legacy attribute, by its type.
 fn enter_legacy(a: &[u8], sets: &mut [[u32; 12]], t: usize, place: usize, n: usize)
     requires { Table a.now sets.old × (3 ≤ length sets.old) × Right a.now t place n }
     ensures { (v : List ℕ) → Took a.now sets.old sets.new from_legacy (attribute_at t place n v ∷ []) }
 {
-    let rule = isis_kinds::classify_type(t as usize);
+    let rule = isis_kinds::classify_type(t);
     let kind = rule.kind;
     match kind {
         Kind::Link(k) => set_table::enter_link(sets, k, place, n),
         Kind::Application(k) => set_table::enter_one(a, sets, 1, k, place, n),
-        Kind::Srlg => (),
-        Kind::Asla => (),
-        Kind::Unknown => (),
+        Kind::Srlg | Kind::Asla | Kind::Unknown => (),
     }
 }
 
@@ -43,7 +40,7 @@ fn enter_general(a: &[u8], sets: &mut [[u32; 12]], t: usize, place: usize, n: us
     requires { Table a.now sets.old × (3 ≤ length sets.old) × Right a.now t place n }
     ensures { (v : List ℕ) → Took a.now sets.old sets.new heard_by_all (attribute_at t place n v ∷ []) }
 {
-    let rule = isis_kinds::classify_type(t as usize);
+    let rule = isis_kinds::classify_type(t);
     let kind = rule.kind;
     match kind {
         Kind::Link(k) => {
@@ -52,9 +49,7 @@ fn enter_general(a: &[u8], sets: &mut [[u32; 12]], t: usize, place: usize, n: us
             }
         }
         Kind::Application(k) => set_table::enter_one(a, sets, 0, k, place, n),
-        Kind::Srlg => (),
-        Kind::Asla => (),
-        Kind::Unknown => (),
+        Kind::Srlg | Kind::Asla | Kind::Unknown => (),
     }
 }
 
@@ -72,7 +67,7 @@ fn enter_for(
     requires { Ready a.now own.now sets.old have.old × Right a.now t place n × Within who (owning own.now) }
     ensures { (v : List ℕ) → TookFor a.now own.now sets.old have.old sets.new have.new (heard who) (attribute_at t place n v ∷ []) }
 {
-    let rule = isis_kinds::classify_type(t as usize);
+    let rule = isis_kinds::classify_type(t);
     let kind = rule.kind;
     match kind {
         Kind::Link(k) => {
@@ -84,9 +79,7 @@ fn enter_for(
             }
         }
         Kind::Application(k) => { set_table::enter_named(a, sets, own, have, k, place, n, who) }
-        Kind::Srlg => (),
-        Kind::Asla => (),
-        Kind::Unknown => (),
+        Kind::Srlg | Kind::Asla | Kind::Unknown => (),
     }
 }
 
@@ -247,26 +240,21 @@ fn add_all_old(a: &[u8], sets: &mut [[u32; 12]], s: usize)
 }
 
 // The slot of RSVP-TE's set: the general set's, legacy's, or its own, which is filled up from legacy's.
-fn rsvp_te_slot(
-    a: &[u8],
-    named: Names,
-    legacy: bool,
-    sets: &mut [[u32; 12]],
-    own: &[[u8; 2]; 128],
-) -> usize
-    requires { Table a.now sets.old × (1 < length sets.old) × (in_set named.named 0 ≡ true → IsSet sets.old (slot_at own.now 7)) }
-    ensures { (result ≡ rsvp_te_slot named legacy own.now) × Table a.now sets.new × Given sets.old sets.new (from_old sets.old (filled_slot named legacy own.now)) }
+fn rsvp_te_slot(a: &[u8], side: SideNames, sets: &mut [[u32; 12]], own: &[[u8; 2]; 128]) -> usize
+    requires { Table a.now sets.old × (1 < length sets.old) × (in_set side.names.named 0 ≡ true → IsSet sets.old (slot_at own.now 7)) }
+    ensures { (result ≡ rsvp_te_slot side.names side.legacy own.now) × Table a.now sets.new × Given sets.old sets.new (from_old sets.old (filled_slot side.names side.legacy own.now)) }
 {
-    let l = named.is_named_with_l(0);
-    let n = named.is_named(0);
-    match rules::rsvp_te_rule(l, n, legacy) {
+    let names = side.names;
+    let l = names.is_named_with_l(0);
+    let n = names.is_named(0);
+    match rules::rsvp_te_rule(l, n, side.legacy) {
         Rule::NamingFirst => {
             let s = usize::from(own[7][0]);
             add_all_old(a, sets, s);
-            return s;
+            s
         }
-        Rule::General => return 0,
-        _ => return 1,
+        Rule::General => 0,
+        _ => 1,
     }
 }
 
@@ -288,19 +276,13 @@ fn walk_and_settle(a: &[u8], named: Names, sets: &mut [[u32; 12]], own: &[[u8; 2
     settle(sets, named.is_named_with_l(0));
 }
 
-// Run A, accepted, whose applications have their slots and of whose legacy it is known whether it has a value: the table of its sets, and the slot of every subject. The answer is the slot of RSVP-TE's set.
-pub fn index_a(
-    a: &[u8],
-    named: Names,
-    legacy: bool,
-    sets: &mut [[u32; 12]],
-    own: &mut [[u8; 2]; 128],
-) -> usize
-    requires { (faults run_a check_a (elements 1 0 a.now) ≡ accepted) × (length a.now < 65536) × Tells (side_a a.now).live named × (legacy ≡ has_legacy (side_a a.now)) × Started named sets.old own.old }
+// Run A, accepted, whose applications have their slots: the table of its sets, and the slot of every subject. The answer is the slot of RSVP-TE's set.
+pub fn index_a(a: &[u8], side: SideNames, sets: &mut [[u32; 12]], own: &mut [[u8; 2]; 128]) -> usize
+    requires { (faults run_a check_a (elements 1 0 a.now) ≡ accepted) × (length a.now < 65536) × TellsSide (side_a a.now) side × Started side.names sets.old own.old }
     ensures { Indexed a.now sets.new own.new result }
 {
-    walk_and_settle(a, named, sets, own);
-    let r = rsvp_te_slot(a, named, legacy, sets, own);
-    give_old(named.flagged, own);
+    walk_and_settle(a, side.names, sets, own);
+    let r = rsvp_te_slot(a, side, sets, own);
+    give_old(side.names.flagged, own);
     r
 }

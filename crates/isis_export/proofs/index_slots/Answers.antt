@@ -10,7 +10,7 @@ use Rattle.isis_export.proofs.index_slots.Goals as goal
 pub index_a-requires : goal.index_a-requires
 index_a-requires c = let p = c.requires in
     let a = p.0 in
-    (a.passed, omega (arith, a.short), a.tells.0, a.tells.1, p.2)
+    (a.passed, omega (arith, a.short), a.tells, p.2)
 
 pub returns : goal.returns
 returns c = let n = c.args.count in

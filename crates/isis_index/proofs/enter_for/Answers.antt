@@ -8,7 +8,7 @@ use Rattle.isis.specs.Types.{code_of_type}
 use Rattle.isis_kinds.proofs.Laws.{kind-read}
 use Rattle.set_table.specs.Tables.{cell_of}
 use Rattle.isis_index.specs.Index.{owning, heard}
-use Rattle.isis_index.proofs.Codes.{value-grid, value-link}
+use Rattle.isis_index.proofs.Codes.{value-grid, value-link, silent}
 use Rattle.isis_index.proofs.Cells.{maximum-only, unheard-link, nothing}
 use Rattle.isis_index.proofs.Heard.{heard-legacy, heard-without, heard-alone, alone-link, for-only, for-named, for-none}
 use Rattle.isis_index.proofs.enter_for.Goals as goal
@@ -59,14 +59,5 @@ returns-in-Application c = let a = c.args in
 
 pub returns-in-Srlg : goal.returns-in-Srlg
 returns-in-Srlg c = let a = c.args in
-    absurd (kind-read a.t _ _ c.classify_type-rule.ensures c.in-Srlg.is)
-
-pub returns-in-Asla : goal.returns-in-Asla
-returns-in-Asla c = let a = c.args in
-    let k = kind-read a.t _ _ c.classify_type-rule.ensures c.in-Asla.is in
-    λ v. for-none a.a.now a.own.now a.sets.now a.have.now c.requires.0 a.who a.t a.place a.n v (λ x w. nothing a.own.now (code_of_type a.t) (cell_of a.place a.n) (heard a.who) k x w)
-
-pub returns-in-Unknown : goal.returns-in-Unknown
-returns-in-Unknown c = let a = c.args in
-    let k = kind-read a.t _ _ c.classify_type-rule.ensures c.in-Unknown.is in
+    let k = silent a.t _ c.classify_type-rule.ensures c.in-Srlg.is in
     λ v. for-none a.a.now a.own.now a.sets.now a.have.now c.requires.0 a.who a.t a.place a.n v (λ x w. nothing a.own.now (code_of_type a.t) (cell_of a.place a.n) (heard a.who) k x w)

@@ -4,7 +4,7 @@ use Rattle.isis.specs.Types.{code_of_type}
 use Rattle.isis_kinds.proofs.Laws.{kind-read}
 use Rattle.set_table.specs.Tables.{cell_of}
 use Rattle.isis_index.specs.Index.{from_legacy}
-use Rattle.isis_index.proofs.Codes.{value-grid, value-link}
+use Rattle.isis_index.proofs.Codes.{value-grid, value-link, silent}
 use Rattle.isis_index.proofs.Cells.{legacy-grid, legacy-link, nothing, took-only, took-none, a-set}
 use Rattle.isis_index.proofs.enter_legacy.Goals as goal
 
@@ -30,14 +30,5 @@ returns-in-Application c = let a = c.args in
 
 pub returns-in-Srlg : goal.returns-in-Srlg
 returns-in-Srlg c = let a = c.args in
-    absurd (kind-read a.t _ _ c.classify_type-rule.ensures c.in-Srlg.is)
-
-pub returns-in-Asla : goal.returns-in-Asla
-returns-in-Asla c = let a = c.args in
-    let k = kind-read a.t _ _ c.classify_type-rule.ensures c.in-Asla.is in
-    λ v. took-none a.a.now a.sets.now from_legacy a.t a.place a.n v c.requires.0 (λ owns x w. nothing owns (code_of_type a.t) (cell_of a.place a.n) from_legacy k x w)
-
-pub returns-in-Unknown : goal.returns-in-Unknown
-returns-in-Unknown c = let a = c.args in
-    let k = kind-read a.t _ _ c.classify_type-rule.ensures c.in-Unknown.is in
+    let k = silent a.t _ c.classify_type-rule.ensures c.in-Srlg.is in
     λ v. took-none a.a.now a.sets.now from_legacy a.t a.place a.n v c.requires.0 (λ owns x w. nothing owns (code_of_type a.t) (cell_of a.place a.n) from_legacy k x w)
