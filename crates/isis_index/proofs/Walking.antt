@@ -14,7 +14,7 @@ use Rattle.linkstate.specs.Elements.{Element, element, elements, faults}
 use Rattle.linkstate.specs.Attributes.{Attribute}
 use Rattle.linkstate.specs.Sides.{names}
 use Rattle.linkstate.proofs.ListLaws.{any_append}
-use Rattle.linkstate.proofs.WalkLaws.{left, length-one}
+use Rattle.linkstate.proofs.WalkLaws.{left, type-one, length-one}
 use Rattle.frames.proofs.Walks.{Stands, stands}
 use Rattle.isis.specs.RunA.{check_a, asla_advertisements, side_a}
 use Rattle.isis_grids.proofs.Walks.{left-all, inside, passed, rest_ok, turn}
@@ -166,6 +166,9 @@ module _ {a : List ℕ} {owns begun table have : List (List ℕ)} {es : List Ele
 
     pub place-inside : o + 2 + length v ≤ length a
     place-inside = omega (arith, walking-inside p.walks here, o-is, n-is)
+
+    pub place-kind : get_or a o 0 ≡ t
+    place-kind = rw o-is (sym (type-one a p.at) ∙ there.whole.type)
 
     pub place_here : length a < 65536 → Here a o (o + 2 + length v)
     place_here small = rw (o-is, ← n-is) (walking_here p.walks here small)

@@ -2,7 +2,7 @@
 
 #![tactic(auto)]
 
-ghost use Rattle.std.specs.Prelude.{◌≡◌, true, List, [], ◌∷◌, ℕ, ◌≤◌, ◌<◌, length, get_or, set};
+ghost use Rattle.std.specs.Prelude.{◌≡◌, true, List, [], ◌∷◌, ℕ, ◌+◌, ◌≤◌, ◌<◌, length, get_or, set};
 ghost use Rattle.linkstate.specs.Lists.{each};
 ghost use Rattle.linkstate.specs.Replies.{accepted, run_a};
 ghost use Rattle.linkstate.specs.Elements.{elements, faults};
@@ -162,20 +162,20 @@ fn add_asla(
 // An element of an accepted run A.
 fn add_element(
     a: &[u8],
-    at: usize,
-    end: usize,
+    e: Element<'_>,
     sets: &mut [[u32; 12]],
     own: &[[u8; 2]; 128],
     have: &mut [[u64; 2]; 10],
 )
-    requires { Ready a.now own.now sets.old have.old × Here a.now at end × Owning own.now (asla_advertisements (here_in a.now at)) }
-    ensures { Gains a.now own.now sets.old sets.new have.new (λ src. takes src (here_in a.now at)) }
+    requires { Ready a.now own.now sets.old have.old × Here a.now e.at (e.at + 2 + length e.value.now) × (get_or a.now e.at 0 ≡ e.kind) × Owning own.now (asla_advertisements (here_in a.now e.at)) }
+    ensures { Gains a.now own.now sets.old sets.new have.new (λ src. takes src (here_in a.now e.entry.at)) }
 {
-    if a[at] == 16 {
-        return add_asla(a, at, end, sets, own, have);
+    let place = e.at + 2;
+    let n = e.value.len();
+    if e.kind == 16 {
+        return add_asla(a, e.at, place + n, sets, own, have);
     }
-    let value = at + 2;
-    enter_legacy(a, sets, usize::from(a[at]), value, end - value);
+    enter_legacy(a, sets, e.kind, place, n);
 }
 
 // The whole of an accepted run A, for a table of empty rows.
@@ -184,8 +184,8 @@ fn walk(a: &[u8], sets: &mut [[u32; 12]], own: &[[u8; 2]; 128])
     ensures { (length sets.new ≡ length sets.old) × Walked a.now own.now sets.new }
 {
     let mut have = [[0u64; 2]; 10];
-    for Element { at, value, .. } in Whole::<One>::new(a, 0) {
-        add_element(a, at, at + 2 + value.len(), sets, own, &mut have);
+    for e in Whole::<One>::new(a, 0) {
+        add_element(a, e, sets, own, &mut have);
     }
 }
 
