@@ -11,7 +11,8 @@ ghost use Rattle.masks.specs.Applications.{in_set, at_place};
 ghost use Rattle.isis.specs.RunA.{check_a, attributes_of, asla_advertisements, side_a};
 ghost use Rattle.grids.specs.Slots.{cell, IsSet};
 ghost use Rattle.set_table.specs.Tables.{first, Table, Given, only_at, slot_at, Within, Owned, Gave};
-ghost use Rattle.isis_index.specs.Index.{owning, Right, Listed, attribute_at, Took, TookFor, Ready, from_legacy, heard_by_all, heard, takes, part_of, here_in, Here, Ground, Owning, ReadAs, Gains, Empty, Walked};
+ghost use Rattle.isis_index.specs.Index.{owning, Right, Listed, attribute_at, Took, TookFor, Ready, from_legacy, heard_by_all, heard};
+ghost use Rattle.isis_index.specs.Index.{takes, part_of, here_in, Here, Ground, Owning, ReadAs, Gains, Empty, Walked};
 ghost use Rattle.isis_index.specs.Started.{Started};
 ghost use Rattle.isis_index.specs.Settled.{settled, Settled, from_old, rsvp_te_slot, filled_slot};
 ghost use Rattle.isis_index.specs.Indexed.{Indexed};
@@ -167,7 +168,8 @@ fn add_element(
     own: &[[u8; 2]; 128],
     have: &mut [[u64; 2]; 10],
 )
-    requires { Ready a.now own.now sets.old have.old × Here a.now e.at (e.at + 2 + length e.value.now) × (get_or a.now e.at 0 ≡ e.kind) × Owning own.now (asla_advertisements (here_in a.now e.at)) }
+    requires { Ready a.now own.now sets.old have.old × Here a.now e.at (e.at + 2 + length e.value.now) × (get_or a.now e.at 0 ≡ e.kind)
+        × Owning own.now (asla_advertisements (here_in a.now e.at)) }
     ensures { Gains a.now own.now sets.old sets.new have.new (λ src. takes src (here_in a.now e.entry.at)) }
 {
     let place = e.at + 2;
@@ -180,7 +182,8 @@ fn add_element(
 
 // The whole of an accepted run A, for a table of empty rows.
 fn walk(a: &[u8], sets: &mut [[u32; 12]], own: &[[u8; 2]; 128])
-    requires { (faults run_a check_a (elements 1 0 a.now) ≡ accepted) × (length a.now < 65536) × Ground own.now sets.old × Empty sets.old × Owning own.now (side_a a.now).live }
+    requires { (faults run_a check_a (elements 1 0 a.now) ≡ accepted) × (length a.now < 65536) × Ground own.now sets.old × Empty sets.old
+        × Owning own.now (side_a a.now).live }
     ensures { (length sets.new ≡ length sets.old) × Walked a.now own.now sets.new }
 {
     let mut have = [[0u64; 2]; 10];
@@ -242,7 +245,8 @@ fn add_all_old(a: &[u8], sets: &mut [[u32; 12]], s: usize)
 // The slot of RSVP-TE's set: the general set's, legacy's, or its own, which is filled up from legacy's.
 fn rsvp_te_slot(a: &[u8], side: SideNames, sets: &mut [[u32; 12]], own: &[[u8; 2]; 128]) -> usize
     requires { Table a.now sets.old × (1 < length sets.old) × (in_set side.names.named 0 ≡ true → IsSet sets.old (slot_at own.now 7)) }
-    ensures { (result ≡ rsvp_te_slot side.names side.legacy own.now) × Table a.now sets.new × Given sets.old sets.new (from_old sets.old (filled_slot side.names side.legacy own.now)) }
+    ensures { (result ≡ rsvp_te_slot side.names side.legacy own.now) × Table a.now sets.new
+        × Given sets.old sets.new (from_old sets.old (filled_slot side.names side.legacy own.now)) }
 {
     let names = side.names;
     let l = names.is_named_with_l(0);
@@ -269,7 +273,8 @@ fn give_old(who: Applications, own: &mut [[u8; 2]; 128])
 
 // The whole of an accepted run A, for a table of empty rows, and then the link's bandwidths.
 fn walk_and_settle(a: &[u8], named: Names, sets: &mut [[u32; 12]], own: &[[u8; 2]; 128])
-    requires { (faults run_a check_a (elements 1 0 a.now) ≡ accepted) × (length a.now < 65536) × Ground own.now sets.old × Empty sets.old × Owning own.now (side_a a.now).live }
+    requires { (faults run_a check_a (elements 1 0 a.now) ≡ accepted) × (length a.now < 65536) × Ground own.now sets.old × Empty sets.old
+        × Owning own.now (side_a a.now).live }
     ensures { Settled a.now own.now sets.old sets.new (in_set named.flagged 0) }
 {
     walk(a, sets, own);
@@ -278,7 +283,8 @@ fn walk_and_settle(a: &[u8], named: Names, sets: &mut [[u32; 12]], own: &[[u8; 2
 
 // Run A, accepted, whose applications have their slots: the table of its sets, and the slot of every subject. The answer is the slot of RSVP-TE's set.
 pub fn index_a(a: &[u8], side: SideNames, sets: &mut [[u32; 12]], own: &mut [[u8; 2]; 128]) -> usize
-    requires { (faults run_a check_a (elements 1 0 a.now) ≡ accepted) × (length a.now < 65536) × TellsSide (side_a a.now) side × Started side.names sets.old own.old }
+    requires { (faults run_a check_a (elements 1 0 a.now) ≡ accepted) × (length a.now < 65536) × TellsSide (side_a a.now) side
+        × Started side.names sets.old own.old }
     ensures { Indexed a.now sets.new own.new result }
 {
     walk_and_settle(a, side.names, sets, own);

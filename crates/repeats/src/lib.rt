@@ -30,6 +30,7 @@ pub fn stood<W: Width>(s: &[u8], from: usize, at: usize, kind: usize) -> bool
     requires { (ts : List ℕ) × Walked W.BYTES s.now at from ts }
     ensures { (ts : List ℕ) → Walked W.BYTES s.now at from ts → result ≡ member kind ts }
 {
+    // The contract says of a place before which nothing stands not even that it is one of s.
     if from == at {
         return false;
     }
