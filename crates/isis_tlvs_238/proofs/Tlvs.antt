@@ -6,8 +6,7 @@ use Prim.Native.Nat.{ℕ, ◌+◌, ◌-◌, ◌/◌, ◌≤◌, ◌<◌}
 use native.Mathlib.Omega.{arith}
 use borrow.Author.Tests.{eq-eqb, ne_eqb, ltb-true, ltb-false}
 use lib.Dec.{eqb, ltb}
-use lib.ListN.{length, take, drop, length-take, length-drop}
-use lib.Seq.{drop-drop, drop-length}
+use lib.ListN.{length, take, drop, length-drop}
 use Rattle.linkstate.specs.Lists.{keep, each, put}
 use Rattle.linkstate.specs.Bytes.{words}
 use Rattle.linkstate.specs.Replies.{accepted, run_b}
@@ -168,17 +167,16 @@ words-decided w true l d ts ws e f = go (selects w d) l e
 pub wrote_nothing : (l : List ℕ) (k : ℕ) (ws : List ℕ) → ws ≡ [] → (k ≡ k + length ws) × (l ≡ put l k ws)
 wrote_nothing l k ws e = (omega (arith, ap length e), put-nil l k ∙ ap (put l k) (sym e))
 
--- What is written of a 238 whose values begin at an offset.
-pub wrote-part : (w : Which) (at t : ℕ) (value l m : List ℕ) (k r from : ℕ) → t ≡ 238 → from ≤ length value → words (drop from value) ≡ words_in w (element at 238 value)
-    → r ≡ k + length (words (take (length value - from) (drop from value))) → m ≡ put l k (words (take (length value - from) (drop from value)))
+-- What is written of a 238 whose values have these bytes.
+pub wrote-part : (w : Which) (at t : ℕ) (value s l m : List ℕ) (k r : ℕ) → t ≡ 238 → words s ≡ words_in w (element at 238 value)
+    → r ≡ k + length (words s) → m ≡ put l k (words s)
     → (r ≡ k + length (words_in w (element at t value))) × (m ≡ put l k (words_in w (element at t value)))
-wrote-part w at t value l m k r from is h e f g =
-    let z : words (take (length value - from) (drop from value)) ≡ words_in w (element at t value) = ap words (rest-is value from h) ∙ e ∙ ap (λ (i : ℕ). words_in w (element at i value)) (sym is) in
+wrote-part w at t value s l m k r is e f g =
+    let z : words s ≡ words_in w (element at t value) = e ∙ ap (λ (i : ℕ). words_in w (element at i value)) (sym is) in
     (f ∙ ap (λ (ws : List ℕ). k + length ws) z, g ∙ ap (put l k) z)
 
-pub part-few : (value : List ℕ) (k r from : ℕ) → r ≡ k + length (words (take (length value - from) (drop from value))) → r ≤ k + length value / 4
-part-few value k r from e =
-    omega (arith, length-words (take (length value - from) (drop from value)), length-take (length value - from) (drop from value), length-drop from value)
+pub part-few : (value s : List ℕ) (k r : ℕ) → length s ≤ length value → r ≡ k + length (words s) → r ≤ k + length value / 4
+part-few value s k r h e = omega (arith, length-words s)
 
 -- Another type says nothing.
 module _ (at t : ℕ) (value : List ℕ) (other : t ≡ 238 → ⊥) where
@@ -205,29 +203,23 @@ module _ (at t : ℕ) (value v : List ℕ) (is : t ≡ 238) (e : v ≡ after_nei
       (words (srlg_values v)) refl (words-one _ (srlg_values v))
       ∙ ap (λ (b : Bool). cond b (cond (l_flag v) [] (words (srlg_values v))) []) (ap (λ (b : Bool). live_srlg at v && b) (selects-same w at v) ∙ sym f)
 
-  -- Where its values begin: past the end with L or where it is not taken.
-  past_end : (ws : List ℕ) → ws ≡ [] → words (drop (length value) value) ≡ ws
+  -- The bytes of its values: none with L or where it is not taken.
+  pub words-l : (w : Which) → l_flag v ≡ true → words [] ≡ words_in w (element at t value)
   unfolding words
-  past_end ws f = ap words (drop-length value) ∙ sym f
-
-  pub start-l : (w : Which) → l_flag v ≡ true → words (drop (length value) value) ≡ words_in w (element at t value)
-  start-l w l = past_end _ (words_are w (live_srlg at v && selects w (advertisement v [])) refl ∙ rw l (go (live_srlg at v && selects w (advertisement v []))))
+  words-l w l = sym (words_are w (live_srlg at v && selects w (advertisement v [])) refl ∙ rw l (go (live_srlg at v && selects w (advertisement v []))))
     where
       go : (b : Bool) → cond {A = List ℕ} b [] [] ≡ []
       go true = refl
       go false = refl
 
-  pub start-not : (w : Which) (x : Bool) → x ≡ live_srlg at v && selects w (advertisement v []) → x ≡ false → words (drop (length value) value) ≡ words_in w (element at t value)
-  start-not w x f n = past_end _ (words_are w x f ∙ rw n)
+  pub words-not : (w : Which) (x : Bool) → x ≡ live_srlg at v && selects w (advertisement v []) → x ≡ false → words [] ≡ words_in w (element at t value)
+  unfolding words
+  words-not w x f n = sym (words_are w x f ∙ rw n)
 
-  pub start-at : (w : Which) (x : Bool) (k i : ℕ) → x ≡ live_srlg at v && selects w (advertisement v []) → x ≡ true → l_flag v ≡ false → k ≡ header_length v → i ≡ identifier_bytes v
-      → words (drop (7 + k + 1 + i) value) ≡ words_in w (element at t value)
-  unfolding srlg_values after_neighbour
-  start-at w x k i f n l ek ei =
-      let z : 7 + k + 1 + i ≡ 7 + (header_length v + 1 + identifier_bytes v) = omega arith in
-      ap (λ (j : ℕ). words (drop j value)) z
-      ∙ ap words (sym (drop-drop (header_length v + 1 + identifier_bytes v) 7 value) ∙ ap (drop (header_length v + 1 + identifier_bytes v)) (sym e))
-      ∙ sym (words_are w x f ∙ rw (n, l))
+  pub words-at : (w : Which) (x : Bool) (k : ℕ) → x ≡ live_srlg at v && selects w (advertisement v []) → x ≡ true → l_flag v ≡ false
+      → k ≡ header_length v + 1 + identifier_bytes v → words (drop k v) ≡ words_in w (element at t value)
+  unfolding srlg_values
+  words-at w x k f n l e = ap (λ (j : ℕ). words (drop j v)) e ∙ sym (words_are w x f ∙ rw (n, l))
 
 -- Masks that are not too long have eight bytes at most.
 pub masks-short : (v : List ℕ) → mask_too_long v ≡ false → (sabm_length v ≤ 8) × (udabm_length v ≤ 8)

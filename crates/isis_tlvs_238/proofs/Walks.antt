@@ -1,20 +1,20 @@
 -- A walk over a run B that passed its checks: one turn, and the numbers of its TLVs together.
-use mathlib.Core.Path.{◌≡◌, refl, sym, ap, ap₂, ◌∙◌}
+use mathlib.Core.Path.{◌≡◌, refl, sym, ap, ◌∙◌}
 use mathlib.Core.List.{List, [], ◌∷◌, ◌++◌, append_assoc, append-nil}
-use Prim.Native.Nat.{ℕ, ◌+◌, ◌-◌, ◌≤◌, ◌<◌}
+use Prim.Native.Nat.{ℕ, ◌+◌, ◌*◌, ◌/◌, ◌≤◌, ◌<◌}
 use native.Mathlib.Omega.{arith}
-use native.Mathlib.Nat.{zero-add}
 use lib.Dec.{eqb}
-use lib.ListN.{length, take, drop, get_or, length-append}
+use lib.ListN.{length, length-append}
 use Rattle.linkstate.specs.Lists.{keep, each, put}
-use Rattle.linkstate.specs.Bytes.{bytes_at, words}
-use Rattle.linkstate.specs.Replies.{Verdict, accepted, run_b}
-use Rattle.linkstate.specs.Elements.{Element, element, cut, elements, faults}
+use Rattle.linkstate.specs.Bytes.{words}
+use Rattle.linkstate.specs.Replies.{accepted, run_b}
+use Rattle.linkstate.specs.Elements.{Element, element, elements, faults}
 use Rattle.linkstate.specs.Attributes.{Attribute, of_kind}
 use Rattle.linkstate.specs.Sides.{of_live}
 use Rattle.linkstate.proofs.ListLaws.{keep_append, each_append}
-use Rattle.linkstate.proofs.WalkLaws.{left, type_at, type-one, length-one, faults-passed, each-end, each_turn}
-use Rattle.octets.proofs.Laws.{part-is, put-nil, put_then}
+use Rattle.frames.specs.Uncut.{left}
+use Rattle.frames.proofs.Walks.{Stands, stands, left-all, passed-here, passed-rest}
+use Rattle.octets.proofs.Laws.{put-nil, put_then}
 use Rattle.isis.specs.RunB.{check_b, srlg_advertisements, side_b}
 use Rattle.isis_tlvs_238.specs.declared.Which.{Which}
 use Rattle.isis_tlvs_238.specs.Selected.{selects, srlg_words, words_in, Whole}
@@ -46,57 +46,42 @@ live-words w b c = sym (words-all w (elements 1 0 b))
 
 -- ---- one turn
 
--- The value of the TLV at a position, as the part of the run that is lent.
-abbrev pub value_at : List ℕ → ℕ → List ℕ
-value_at b at = take (at + 2 + get_or b (at + 1) 0 - (at + 2)) (drop (at + 2) b)
+-- The elements of a run B that are left at a place of it; at most a number for each four bytes before it was written, from `from` on up to `to`.
+pub record AtPlace (b : List ℕ) (es : List Element) (from to : ℕ) : Type 0 where
+  pub place : ℕ
+  pub left : es ≡ left 1 0 b place
+  pub passed : faults run_b check_b es ≡ accepted
+  pub bound : place ≤ length b
+  pub few : 4 * to ≤ 4 * from + place
 
-abbrev pub tlv_at : List ℕ → ℕ → Element
-tlv_at b at = element at (get_or b at 0) (value_at b at)
+one : 0 < 1
+one = omega arith
 
-abbrev checked : Element → Verdict
-checked (element at t v) = check_b at t v
-checked (cut at) = accepted
+pub place-begin : {b : List ℕ} {es : List Element} (from : ℕ) → es ≡ elements 1 0 b → faults run_b check_b (elements 1 0 b) ≡ accepted → AtPlace b es from from
+place-begin {b} from e ok = record { place = 0; left = e ∙ sym (left-all 1 0 b); passed = ap (faults run_b check_b) e ∙ ok; bound = omega arith; few = omega arith }
 
-module _ (b : List ℕ) (at : ℕ) (here : at < length b) (ok : faults run_b check_b (left 1 0 b at) ≡ accepted) where
-  abbrev next : ℕ
-  next = at + 2 + get_or b (at + 1) 0
+module _ {b : List ℕ} {es : List Element} {from to : ℕ} (p : AtPlace b es from to) {o t : ℕ} {v : List ℕ} {rest : List Element} (e : es ≡ element o t v ∷ rest) where
+  there : Stands 1 one 0 b p.place o t v rest
+  there = stands 1 one 0 b p.place (sym p.left ∙ e)
 
-  -- as the laws of elements tell it
-  here-is : element (0 + at) (type_at 1 b at) (bytes_at b (at + 2) (get_or b (at + 1) 0)) ≡ tlv_at b at
-  here-is = ap₂ (λ (i t : ℕ). element i t (bytes_at b (at + 2) (get_or b (at + 1) 0))) (zero-add at) (type-one b at) ∙ ap (element at (get_or b at 0)) (sym (part-is b (at + 2) (get_or b (at + 1) 0)))
+  pub value-passed : check_b o t v ≡ accepted
+  value-passed = passed-here run_b check_b e p.passed
 
-  passes : (next ≤ length b) × (check_b at (get_or b at 0) (value_at b at) ≡ accepted) × (faults run_b check_b (left 1 0 b next) ≡ accepted)
-  passes =
-      let p = faults-passed run_b check_b 1 (omega arith) 0 b at (get_or b (at + 1) 0) (length-one b at) here ok in
-      (p.0, ap checked (sym here-is) ∙ p.1, p.2)
+  pub value-whole : Whole t v
+  value-whole = tlv.whole o t v value-passed
 
-  pub inside : next ≤ length b
-  inside = passes.0
+  -- room for as many numbers as the value can have
+  pub place-room : to + length v / 4 ≤ from + length b / 4
+  place-room = let s = there in let f = p.few in omega (arith, s.whole.within)
 
-  pub rest_ok : faults run_b check_b (left 1 0 b next) ≡ accepted
-  rest_ok = passes.2
+  pub place-next : (k : ℕ) → k ≤ to + length v / 4 → AtPlace b rest from k
+  place-next k h =
+      let s = there in
+      let f = p.few in
+      record { place = p.place + 2 + length v; left = s.behind; passed = passed-rest run_b check_b e p.passed; bound = omega (arith, s.whole.within); few = omega (arith, s.whole.within) }
 
-  pub value-whole : Whole (get_or b at 0) (value_at b at)
-  value-whole = tlv.whole at (get_or b at 0) (value_at b at) passes.1
-
-  pub turn : {A : Type 0} (f : Element → List A) → each f (left 1 0 b at) ≡ f (tlv_at b at) ++ each f (left 1 0 b next)
-  turn f =
-      each_turn f 1 (omega arith) 0 b at (get_or b (at + 1) 0) (length-one b at) inside
-      ∙ ap (λ (e : Element). f e ++ each f (left 1 0 b next)) here-is
-
-  -- the numbers written so far, with this TLV's
-  pub words-turn : (w : Which) (all ws : List ℕ) → ws ++ each (words_in w) (left 1 0 b at) ≡ all → (ws ++ words_in w (tlv_at b at)) ++ each (words_in w) (left 1 0 b next) ≡ all
-  words-turn w all ws e =
-      append_assoc ws (words_in w (tlv_at b at)) (each (words_in w) (left 1 0 b next)) ∙ ap (λ (l : List ℕ). ws ++ l) (sym (turn (words_in w))) ∙ e
-
--- ---- the end
-
-module _ (b : List ℕ) (at : ℕ) (end : length b ≤ at) where
-  pub none_left : {A : Type 0} (f : Element → List A) → each f (left 1 0 b at) ≡ []
-  none_left f = each-end f 1 (omega arith) 0 b at end
-
-  pub words-end : (w : Which) (all ws : List ℕ) → ws ++ each (words_in w) (left 1 0 b at) ≡ all → ws ≡ all
-  words-end w all ws e = sym (append-nil ws) ∙ ap (λ (l : List ℕ). ws ++ l) (sym (none_left (words_in w))) ∙ e
+pub place-few : {b : List ℕ} {es : List Element} {from to : ℕ} → AtPlace b es from to → to ≤ from + length b / 4
+place-few p = let f = p.few in let g = p.bound in omega arith
 
 -- ---- what is written
 
@@ -110,23 +95,20 @@ pub record Wrote (before after : List ℕ) (from to : ℕ) (rest all : List ℕ)
 pub wrote_none : (l : List ℕ) (from : ℕ) (all : List ℕ) → Wrote l l from from all all
 wrote_none l from all = record { written = []; place = omega arith; list = put-nil l from; joined = refl }
 
-module _ (b : List ℕ) (at : ℕ) (w : Which) (before after : List ℕ) (from to : ℕ) (all : List ℕ) (so : Wrote before after from to (each (words_in w) (left 1 0 b at)) all) where
-  pub wrote-next : (last : List ℕ) (k : ℕ) → at < length b → faults run_b check_b (left 1 0 b at) ≡ accepted → k ≡ to + length (words_in w (tlv_at b at)) → last ≡ put after to (words_in w (tlv_at b at)) → k ≤ length before
-      → Wrote before last from k (each (words_in w) (left 1 0 b (at + 2 + get_or b (at + 1) 0))) all
-  wrote-next last k here ok e f room =
+module _ (w : Which) {es : List Element} {before after : List ℕ} {from to : ℕ} {all : List ℕ} (so : Wrote before after from to (each (words_in w) es) all) where
+  pub wrote-next : {x : Element} {rest : List Element} → es ≡ x ∷ rest → (last : List ℕ) (k : ℕ) → k ≡ to + length (words_in w x) → last ≡ put after to (words_in w x)
+      → k ≤ length before → Wrote before last from k (each (words_in w) rest) all
+  unfolding each
+  wrote-next {x} {rest} i last k e f room =
       record {
-        written = so.written ++ words_in w (tlv_at b at);
-        place = omega (arith, so.place, length-append so.written (words_in w (tlv_at b at)));
-        list = put_then before after last from so.written to (words_in w (tlv_at b at)) so.list f so.place (omega arith);
-        joined = words-turn b at here ok w all so.written so.joined;
+        written = so.written ++ words_in w x;
+        place = omega (arith, so.place, length-append so.written (words_in w x));
+        list = put_then before after last from so.written to (words_in w x) so.list f so.place (omega arith);
+        joined = append_assoc so.written (words_in w x) (each (words_in w) rest) ∙ ap (λ (es : List Element). so.written ++ each (words_in w) es) (sym i) ∙ so.joined;
       }
 
-  pub wrote-all : length b ≤ at → (to ≡ from + length all) × (after ≡ put before from all)
+  pub wrote-all : es ≡ [] → (to ≡ from + length all) × (after ≡ put before from all)
+  unfolding each
   wrote-all end =
-      let e = words-end b at end w all so.written so.joined in
+      let e : so.written ≡ all = sym (append-nil so.written) ∙ ap (λ (es : List Element). so.written ++ each (words_in w) es) (sym end) ∙ so.joined in
       (so.place ∙ ap (λ (l : List ℕ). from + length l) e, so.list ∙ ap (put before from) e)
-
--- ---- a TLV's own check
-
-pub value-passed : (b : List ℕ) (at : ℕ) → at < length b → faults run_b check_b (left 1 0 b at) ≡ accepted → check_b at (get_or b at 0) (value_at b at) ≡ accepted
-value-passed b at here ok = (passes b at here ok).1

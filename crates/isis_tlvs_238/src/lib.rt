@@ -21,6 +21,7 @@ ghost use Rattle.linkstate.specs.Sides.{of_live};
 ghost use Rattle.isis.specs.MaskHeader.{sabm_length, udabm_length, header_length, advertisement};
 ghost use Rattle.isis_check_a.specs.Headers.{header_of};
 
+use frames::One;
 use isis_check_a::Header;
 use replies::Subject;
 use rules::{Rule, SideNames};
@@ -61,31 +62,24 @@ fn sort_through(out: &mut [u32], k: usize, tmp: &mut [u32]) -> usize
     srlg_sort::sort_in(&mut out[0..k], tmp)
 }
 
-// The same with room of its own, for few numbers and for as many as a link can have.
-fn sort_few(out: &mut [u32], k: usize) -> usize
-    requires { (k ≤ length out.old) × (k ≤ 64) }
+// The same with room of its own for N numbers.
+fn sort_with<const N: usize>(out: &mut [u32], k: usize) -> usize
+    requires { (k ≤ length out.old) × (k ≤ N) × (N ≤ 512) }
     ensures { (take result out.new ≡ distinct (take k out.old)) × (result ≤ k) }
 {
-    let mut tmp = [0u32; 64];
+    let mut tmp = [0u32; N];
     sort_through(out, k, &mut tmp)
 }
 
-fn sort_many(out: &mut [u32], k: usize) -> usize
-    requires { (k ≤ length out.old) × (k ≤ 512) }
-    ensures { (take result out.new ≡ distinct (take k out.old)) × (result ≤ k) }
-{
-    let mut tmp = [0u32; 512];
-    sort_through(out, k, &mut tmp)
-}
-
+// For few numbers, and for as many as a link can have.
 fn sort_front(out: &mut [u32], k: usize) -> usize
     requires { (k ≤ length out.old) × (k ≤ 512) }
     ensures { (take result out.new ≡ distinct (take k out.old)) × (result ≤ k) }
 {
     if k <= 64 {
-        return sort_few(out, k);
+        return sort_with::<64>(out, k);
     }
-    sort_many(out, k)
+    sort_with::<512>(out, k)
 }
 
 // The SRLGs of a subject, ascending, at the front of the list, by whom side B names and whether run C has a value; how many there are. What stands behind them is of no meaning.
@@ -98,7 +92,7 @@ pub fn srlgs_of(b: &[u8], c: &[u8], whom: Subject, side: SideNames, out: &mut [u
     sort_front(out, k)
 }
 
-// Which live TLVs 238 are read: those that name an application, or the general ones.
+// Which live TLVs 238 are read: those that name an application, or the general ones. The type of isis_grids has two more, which nobody asks of a TLV 238.
 #[derive(Clone, Copy)]
 pub enum Which {
     Naming(u32),
@@ -120,24 +114,6 @@ fn passes(which: Which, standard: &[u8], user: &[u8]) -> bool
     }
 }
 
-// The masks of what follows the neighbour bytes and has the header h.
-fn standard_mask(v: &[u8], h: Header) -> &[u8]
-    requires { (h ≡ header_of v.now) × (header_length v.now ≤ length v.now) }
-    ensures { result.now ≡ take (sabm_length v.now) (drop 2 v.now) }
-{
-    let end = 2 + h.standard;
-    &v[2..end]
-}
-
-fn user_mask(v: &[u8], h: Header) -> &[u8]
-    requires { (h ≡ header_of v.now) × (header_length v.now ≤ length v.now) }
-    ensures { result.now ≡ take (udabm_length v.now) (drop (2 + sabm_length v.now) v.now) }
-{
-    let start = 2 + h.standard;
-    let end = start + h.user;
-    &v[start..end]
-}
-
 // Whether a TLV 238 is live and selected, by what follows its neighbour bytes. The masks are looked at first: that is the quicker test.
 fn taken(v: &[u8], h: Header, which: Which) -> bool
     requires { (h ≡ header_of v.now) × Listed v.now }
@@ -146,33 +122,33 @@ fn taken(v: &[u8], h: Header, which: Which) -> bool
     if isis_check_a::mask_too_long(h) {
         return false;
     }
-    if !passes(which, standard_mask(v, h), user_mask(v, h)) {
+    let middle = 2 + h.standard;
+    if !passes(which, &v[2..middle], &v[middle..middle + h.user]) {
         return false;
     }
     isis_check::live_srlg(v)
 }
 
-// Where the SRLG values of a TLV 238 begin; past the end where they are not read, or the TLV is not selected.
-fn values_start(value: &[u8], which: Which) -> usize
+// The bytes of the SRLG values of a TLV 238: none where they are not read, or the TLV is not selected.
+fn values_in(value: &[u8], which: Which) -> &[u8]
     requires { Whole 238 value.now }
-    ensures { ((at : ℕ) → words (drop result value.now) ≡ words_in which (element at 238 value.now)) × (result ≤ length value.now) }
+    ensures { ((at : ℕ) → words result.now ≡ words_in which (element at 238 value.now)) × (length result.now ≤ length value.now) }
 {
     let v = &value[7..];
     let h = isis_check_a::read_header(v);
-    let unread = h.l;
-    if unread {
-        return value.len();
+    if h.l {
+        return &[];
     }
     if !taken(v, h, which) {
-        return value.len();
+        return &[];
     }
     let length_byte = isis_check_a::header_length(h);
-    let identifiers = v[length_byte] as usize;
-    7 + length_byte + 1 + identifiers
+    let start = length_byte + 1 + usize::from(v[length_byte]);
+    &v[start..]
 }
 
 // The SRLG numbers of one TLV of run B, if it is selected, written from a place of the list on; the place after them.
-fn add_words(t: u8, value: &[u8], which: Which, out: &mut [u32], k: usize) -> usize
+fn add_words(t: usize, value: &[u8], which: Which, out: &mut [u32], k: usize) -> usize
     requires { Whole t value.now × (k + length value.now / 4 ≤ length out.old) }
     ensures by_index { (at : ℕ) → (result ≡ k + length (words_in which (element at t value.now))) × (out.new ≡ put out.old k (words_in which (element at t value.now))) }
     ensures upper_bound { result ≤ k + length value.now / 4 }
@@ -180,8 +156,7 @@ fn add_words(t: u8, value: &[u8], which: Which, out: &mut [u32], k: usize) -> us
     if t != 238 {
         return k;
     }
-    let start = values_start(value, which);
-    srlg::words_into(&value[start..], out, k)
+    srlg::words_into(values_in(value, which), out, k)
 }
 
 // The SRLG numbers of the live TLVs 238 that are selected, in byte order, written from a place of the list on; the place after them.
@@ -191,12 +166,8 @@ pub fn collect(b: &[u8], which: Which, out: &mut [u32], at: usize) -> usize
     ensures upper_bound { result ≤ at + length b.now / 4 }
 {
     let mut k = at;
-    let mut i = 0;
-    while i < b.len() {
-        let value = i + 2;
-        let next = value + b[i + 1] as usize;
-        k = add_words(b[i], &b[value..next], which, out, k);
-        i = next;
+    for e in frames::Whole::<One>::new(b, 0) {
+        k = add_words(e.kind, e.value, which, out, k);
     }
     k
 }

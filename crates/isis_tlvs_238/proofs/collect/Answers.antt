@@ -1,77 +1,53 @@
 -- What is written so far, with the numbers of what is left, is all.
-use lib.ListN.{length, get_or}
-use Prim.Native.Nat.{ℕ, ◌+◌, ◌≤◌}
+use lib.ListN.{length}
+use Prim.Native.Nat.{◌+◌}
 use mathlib.Core.List.{List}
-use mathlib.Core.Path.{◌≡◌, refl, ◌∙◌, ap}
+use Prim.Native.Nat.{ℕ}
+use mathlib.Core.Path.{refl, ◌∙◌, ap}
 use native.Mathlib.Omega.{arith}
+use Rattle.frames.specs.Left.{whole_left}
+use Rattle.frames.proofs.Walks.{uncut}
+use Rattle.isis.specs.RunB.{check_b}
+use Rattle.linkstate.specs.Replies.{run_b}
 use Rattle.linkstate.specs.Lists.{put}
-use Rattle.isis_check_a.proofs.Laws.{part_length}
-use Rattle.isis_tlvs_238.proofs.Walks.{inside, rest_ok, value-whole, live-words, value_at, wrote_none, wrote-next, wrote-all}
+use Rattle.isis_tlvs_238.proofs.Walks.{live-words, place-begin, value-whole, place-room, place-next, place-few, wrote_none, wrote-next, wrote-all}
 use Rattle.isis_tlvs_238.proofs.collect.Goals as goal
-use Rattle.isis_tlvs_238.proofs.collect.Goals.{In-loop-i}
 
--- the TLV at a turn lies within b, and its value has the length that its length byte says
-within : (c : In-loop-i) → let b = c.args.b.now in c.loop-i.i + 2 + get_or b (c.loop-i.i + 1) 0 ≤ length b
-within c = inside c.args.b.now c.loop-i.i (omega arith) c.loop-i.invariant.1
+pub new-e-items-requires-clause-uncut : goal.new-e-items-requires-clause-uncut
+new-e-items-requires-clause-uncut c = uncut run_b check_b _ c.requires.0
 
-size : (c : In-loop-i) → let b = c.args.b.now in length (value_at b c.loop-i.i) ≡ get_or b (c.loop-i.i + 1) 0
-size c = part_length c.args.b.now (c.loop-i.i + 2) _ (inside c.args.b.now c.loop-i.i (omega arith) c.loop-i.invariant.1)
-
-pub loop-i-init : goal.loop-i-init
-loop-i-init c = (omega arith, c.requires.0, refl, omega arith, wrote_none _ _ _)
-
-pub overflow_add-value : goal.overflow_add-value
-overflow_add-value c = omega (arith, within (goal.at.overflow_add-value c).In-loop-i)
-
-pub overflow_add-next : goal.overflow_add-next
-overflow_add-next c = omega (arith, within (goal.at.overflow_add-next c).In-loop-i)
-
-pub bounds-b-i : goal.bounds-b-i
-bounds-b-i c = omega (arith, within (goal.at.bounds-b-i c).In-loop-i)
-
-pub overflow_cast-next : goal.overflow_cast-next
-overflow_cast-next c = omega (arith, c.type_inv.b (c.loop-i.i + 1))
-
-pub overflow_add-next-in-loop-i : goal.overflow_add-next-in-loop-i
-overflow_add-next-in-loop-i c = omega (arith, within (goal.at.overflow_add-next-in-loop-i c).In-loop-i)
-
-pub bounds-b-i-in-loop-i : goal.bounds-b-i-in-loop-i
-bounds-b-i-in-loop-i c = omega arith
-
-pub slice_bounds-add_words-count : goal.slice_bounds-add_words-count
-slice_bounds-add_words-count c = omega arith
-
-pub slice_bounds-add_words-start : goal.slice_bounds-add_words-start
-slice_bounds-add_words-start c = omega arith
-
-pub slice_bounds-add_words-end : goal.slice_bounds-add_words-end
-slice_bounds-add_words-end c = omega (arith, within (goal.at.slice_bounds-add_words-end c).In-loop-i)
+pub loop-e-init : goal.loop-e-init
+loop-e-init c = let e = ap whole_left c.into_iter-e-iterator.ensures.into_iter_gives ∙ c.new-e-items.ensures in
+    record {
+      place = place-begin c.args.at e c.requires.0;
+      same = refl;
+      wrote = rw e (wrote_none _ _ _);
+    }
 
 pub add_words-k-requires : goal.add_words-k-requires
-add_words-k-requires c = (value-whole c.args.b.now c.loop-i.i (omega arith) c.loop-i.invariant.1, omega (arith, within (goal.at.add_words-k-requires c).In-loop-i, size (goal.at.add_words-k-requires c).In-loop-i))
+add_words-k-requires c = let i = c.loop-e.invariant in
+    let e = c.in-Some.ensures.steps in
+    (value-whole i.place e, omega (arith, place-room i.place e, c.requires.1, i.same))
 
-pub loop-i-smaller : goal.loop-i-smaller
-loop-i-smaller c = omega (arith, within (goal.at.loop-i-smaller c).In-loop-i)
-
-pub loop-i-preserved : goal.loop-i-preserved
-loop-i-preserved c = let b = c.args.b.now in
-    let w = c.add_words-k in (
-      within (goal.at.loop-i-preserved c).In-loop-i,
-      rest_ok b c.loop-i.i (omega arith) c.loop-i.invariant.1,
-      w.auto.out ∙ c.loop-i.invariant.2,
-      omega (arith, w.ensures.upper_bound, size (goal.at.loop-i-preserved c).In-loop-i),
-      wrote-next b c.loop-i.i _ _ _ _ _ _ c.loop-i.invariant.4 _ _ (omega arith) c.loop-i.invariant.1 (w.ensures.by_index c.loop-i.i).0 (w.ensures.by_index c.loop-i.i).1
-          (omega (arith, w.ensures.upper_bound, size (goal.at.loop-i-preserved c).In-loop-i, within (goal.at.loop-i-preserved c).In-loop-i, c.requires.1)),
-    )
+pub loop-e-preserved : goal.loop-e-preserved
+loop-e-preserved c = let i = c.loop-e.invariant in
+    let e = c.in-Some.ensures.steps in
+    let r = c.add_words-k.ensures in
+    let at = c.in-Some.e.at in
+    record {
+      place = place-next i.place e _ r.upper_bound;
+      same = c.add_words-k.auto.out ∙ i.same;
+      wrote = wrote-next c.args.which i.wrote e _ _ (r.by_index at).0 (r.by_index at).1 (omega (arith, r.upper_bound, place-room i.place e, c.requires.1));
+    }
 
 pub shape_of-out : goal.shape_of-out
-shape_of-out c = c.loop-i.invariant.2
+shape_of-out c = c.loop-e.invariant.same
 
 pub returns : goal.returns
-returns c = let b = c.args.b.now in record {
+returns c = let i = c.loop-e.invariant in record {
   by_index = λ x.
-      let e = live-words c.args.which b x in
-      let w = wrote-all b c.loop-i.i _ _ _ _ _ _ c.loop-i.invariant.4 (omega arith) in
+      let e = live-words c.args.which c.args.b.now x in
+      let w = wrote-all c.args.which i.wrote c.in-None.ensures.steps.0 in
       (w.0 ∙ ap (λ (ws : List ℕ). c.args.at + length ws) e, w.1 ∙ ap (put c.args.out.now c.args.at) e);
-  upper_bound = omega (arith, c.loop-i.invariant.3, c.loop-i.invariant.0);
+  upper_bound = place-few i.place;
 }
