@@ -1,5 +1,5 @@
 -- The keys and sources of run B, TLV by TLV: one law for each way that a turn can go. Assumes nothing.
-use mathlib.Core.Path.{◌≡◌, refl, sym, ap, ap₂, ◌∙◌}
+use mathlib.Core.Path.{◌≡◌, refl, sym, ap, ap₂, subst, ◌∙◌}
 use mathlib.Core.Bool.{Bool, true, false, cond, ◌&&◌, ◌||◌, or-false, and-false, false≢true}
 use mathlib.Core.List.{List, [], ◌∷◌, ◌++◌, map, append_assoc, append-nil}
 use Prim.Native.Nat.{ℕ, ◌+◌, ◌*◌, ◌/◌, ◌%◌, ◌≤◌, ◌<◌}
@@ -10,13 +10,11 @@ use lib.Bits.{bit_or}
 use lib.ListN.{length, get_or, set, take, replicate, get_or-replicate, length-take, length-set, length-append}
 use lib.Seq.{get_or-set_same, get_or-set_other}
 use Rattle.linkstate.specs.Lists.{put, each, all, any, keep, numbers, member}
-use Rattle.linkstate.specs.Replies.{accepted, run_b}
 use Rattle.linkstate.specs.Bytes.{words}
 use Rattle.linkstate.specs.Masks.{in_number}
 use Rattle.linkstate.specs.Attributes.{srlgs}
 use Rattle.linkstate.specs.Sides.{Side, names, of_live, general_set}
-use Rattle.linkstate.specs.Elements.{elements, faults}
-use Rattle.linkstate.proofs.WalkLaws.{left}
+use Rattle.linkstate.specs.Elements.{Element, elements}
 use Rattle.octets.proofs.Laws.{put-nil, put_then, front-is}
 use Rattle.masks.specs.Sets.{turned_place}
 use Rattle.masks.proofs.Steps.{zero-none}
@@ -40,12 +38,12 @@ use Rattle.srlg_table.proofs.Sizes.{low_bit}
 use Rattle.srlg_classes.specs.Sided.{carried, Carried}
 use Rattle.srlg_classes.proofs.Siding.{both_words}
 use Rattle.srlg_classes.proofs.Carrying.{sourced, values-small}
-use Rattle.isis.specs.RunB.{check_b, side_b, srlg_attribute}
+use Rattle.isis.specs.RunB.{side_b, srlg_attribute}
 use Rattle.isis_tlvs_238.specs.declared.Which.{Which}
 use Rattle.isis_tlvs_238.specs.declared.Which.TheVariants.{Naming, General}
 use Rattle.isis_tlvs_238.specs.Selected.{selects, srlg_words, words_in}
 use Rattle.isis_tlvs_238.proofs.Tlvs.{words-one}
-use Rattle.isis_tlvs_238.proofs.Walks.{tlv_at, turn, none_left, live-words}
+use Rattle.isis_tlvs_238.proofs.Walks.{AtPlace, live-words}
 use Rattle.isis_srlg_index.specs.Sources.{Adds, nothing, generals, source, Gathering, Unused, Legacy, Indexes}
 use Rattle.isis_srlg_index.specs.declared.Indexed.{Indexed}
 
@@ -169,21 +167,21 @@ swap true true z = refl
 swap true false z = refl
 swap false y z = refl
 
-module _ (b : List ℕ) (at : ℕ) (keys₀ keys : List ℕ) (rows : List (List ℕ)) (k : Keys) (so : Gathering b at keys₀ keys rows k) (inside : at < length b)
-    (ok : faults run_b check_b (left 1 0 b at) ≡ accepted)
-    (low : k.sources < 128) (next : ℕ) (is : next ≡ at + 2 + get_or b (at + 1) 0) where
+module _ (b : List ℕ) {es rest : List Element} {x : Element} (is : es ≡ x ∷ rest) (at next : ℕ) (keys₀ keys : List ℕ) (rows : List (List ℕ)) (k : Keys)
+    (so : Gathering b es at keys₀ keys rows k) (low : k.sources < 128) where
   abbrev K : List ℕ
   K = so.written
 
-  step : (w : Which) → each (words_in w) (left 1 0 b at) ≡ words_in w (tlv_at b at) ++ each (words_in w) (left 1 0 b next)
-  step w = turn b at inside ok (words_in w) ∙ ap (λ (i : ℕ). words_in w (tlv_at b at) ++ each (words_in w) (left 1 0 b i)) (sym is)
+  step : (w : Which) → each (words_in w) es ≡ words_in w x ++ each (words_in w) rest
+  unfolding each
+  step w = ap (each (words_in w)) is
 
-  none-step : (w : Which) → words_in w (tlv_at b at) ≡ [] → each (words_in w) (left 1 0 b next) ≡ each (words_in w) (left 1 0 b at)
-  none-step w e = sym (step w ∙ ap (λ (l : List ℕ). l ++ each (words_in w) (left 1 0 b next)) e)
+  none-step : (w : Which) → words_in w x ≡ [] → each (words_in w) rest ≡ each (words_in w) es
+  none-step w e = sym (step w ∙ ap (λ (l : List ℕ). l ++ each (words_in w) rest) e)
 
   pub gathering-next : (r : Keys) (keys' : List ℕ) (rows' : List (List ℕ)) → r.count ≤ length keys₀ → 27 * r.sources ≤ 54 + next
       → (k.sources + 1 ≤ r.sources → k.sources < length rows)
-      → Adds (tlv_at b at) keys rows k r keys' rows' → Gathering b next keys₀ keys' rows' r
+      → Adds x keys rows k r keys' rows' → Gathering b rest next keys₀ keys' rows' r
   gathering-next r keys' rows' fits few room (nothing no_names no-general e f g) =
       rw (e, f, g)
       record {
@@ -201,7 +199,7 @@ module _ (b : List ℕ) (at : ℕ) (keys₀ keys : List ℕ) (rows : List (List 
             ∙ so.naming a v h;
       }
   gathering-next r keys' rows' fits few room (generals no_names small count e f g) =
-      let ws = words_in General (tlv_at b at) in
+      let ws = words_in General x in
       let added = map (key_of 1) ws in
       let two = so.few.0 in
       record {
@@ -214,8 +212,8 @@ module _ (b : List ℕ) (at : ℕ) (keys₀ keys : List ℕ) (rows : List (List 
         blank = rw (e, g) so.blank;
         none = other-numbers 0 1 K ws small (λ z. omega arith) ∙ so.none;
         filled = λ j h l. let (v, m) = so.filled j h (omega arith) in (v, still-member v j 1 K ws small m);
-        general = ap (λ (l : List ℕ). l ++ each (words_in General) (left 1 0 b next)) (own-numbers 1 K ws small)
-            ∙ append_assoc (numbers_of 1 K) ws (each (words_in General) (left 1 0 b next))
+        general = ap (λ (l : List ℕ). l ++ each (words_in General) rest) (own-numbers 1 K ws small)
+            ∙ append_assoc (numbers_of 1 K) ws (each (words_in General) rest)
             ∙ ap (λ (l : List ℕ). numbers_of 1 K ++ l) (sym (step General)) ∙ so.general;
         naming = λ a v h.
             ap₂ (λ (x y : Bool). x || y) (ap₂ (λ (q : List (List ℕ)) (n : ℕ). carried q n (K ++ added) (turned_place a) v) g e
@@ -238,17 +236,17 @@ module _ (b : List ℕ) (at : ℕ) (keys₀ keys : List ℕ) (rows : List (List 
         blank = rw (e, g) (blank-more rows n who.standard who.user (omega arith) low l so.blank);
         none = other-numbers 0 n K ws small (λ z. omega arith) ∙ so.none;
         filled = λ j h p. filled_at j h (order j n) (rw e at p);
-        general = ap (λ (l : List ℕ). l ++ each (words_in General) (left 1 0 b next)) (other-numbers 1 n K ws small (λ z. omega arith))
+        general = ap (λ (l : List ℕ). l ++ each (words_in General) rest) (other-numbers 1 n K ws small (λ z. omega arith))
             ∙ ap (λ (l : List ℕ). numbers_of 1 K ++ l) (none-step General no-general) ∙ so.general;
         naming = λ a v h.
             ap₂ (λ (x y : Bool). x || y) (ap₂ (λ (q : List (List ℕ)) (m : ℕ). carried q m (K ++ added) (turned_place a) v) g e
             ∙ carried-more rows n who.standard who.user (omega arith) low l K ws small so.low (turned_place a) v) refl
             ∙ swap (in_words (who.standard ∷ who.user ∷ []) (turned_place a) && member v ws) (carried rows n K (turned_place a) v)
-            (member v (each (words_in (Naming a)) (left 1 0 b next)))
+            (member v (each (words_in (Naming a)) rest))
             ∙ ap (λ (x : Bool). carried rows n K (turned_place a) v || x)
-            (ap (λ (x : Bool). (x && member v ws) || member v (each (words_in (Naming a)) (left 1 0 b next))) (sym (both_words who a h))
-            ∙ sym (ap (member v) (step (Naming a)) ∙ member-append v (words_in (Naming a) (tlv_at b at)) (each (words_in (Naming a)) (left 1 0 b next))
-            ∙ ap (λ (x : Bool). x || member v (each (words_in (Naming a)) (left 1 0 b next))) (ap (member v) (named a) ∙ member-cond v (in_set who a) ws)))
+            (ap (λ (x : Bool). (x && member v ws) || member v (each (words_in (Naming a)) rest)) (sym (both_words who a h))
+            ∙ sym (ap (member v) (step (Naming a)) ∙ member-append v (words_in (Naming a) x) (each (words_in (Naming a)) rest)
+            ∙ ap (λ (x : Bool). x || member v (each (words_in (Naming a)) rest)) (ap (member v) (named a) ∙ member-cond v (in_set who a) ws)))
             ∙ so.naming a v h;
       }
     where
@@ -262,6 +260,13 @@ module _ (b : List ℕ) (at : ℕ) (keys₀ keys : List ℕ) (rows : List (List 
                 ∙ ap (member v) (own-numbers k.sources K ws small
                 ∙ ap (λ (l : List ℕ). l ++ ws) (numbers-beyond k.sources k.sources K (omega arith) so.low)) ∙ m,
           )
+
+-- What a turn of the loop keeps, with the elements that are left.
+pub record Kept (b : List ℕ) (es : List Element) (keys₀ keys : List ℕ) (rows₀ rows : List (List ℕ)) (k : Keys) : Type 0 where
+  pub at : AtPlace b es 0 k.count
+  pub keys_length : length keys ≡ length keys₀
+  pub rows_length : length rows ≡ length rows₀
+  pub so : Gathering b es at.place keys₀ keys rows k
 
 -- ---- before the first TLV
 
@@ -281,10 +286,10 @@ unfolding carried member
 none-carried rows n a v = any_none (λ j. naming rows n a j && member v (numbers_of j [])) 128
     (λ j h. ap (λ (l : List ℕ). naming rows n a j && member v l) (no-numbers j) ∙ and-false (naming rows n a j))
 
-pub gathering-start : (b keys : List ℕ) (rows : List (List ℕ)) (k : Keys) → 2 ≤ length rows → k.count ≡ 0 → k.sources ≡ 2
-    → Gathering b 0 keys keys (set (set rows 0 blank-row) 1 blank-row) k
+pub gathering-start : (b : List ℕ) {es : List Element} → es ≡ elements 1 0 b → (keys : List ℕ) (rows : List (List ℕ)) (k : Keys) → 2 ≤ length rows → k.count ≡ 0 → k.sources ≡ 2
+    → Gathering b es 0 keys keys (set (set rows 0 blank-row) 1 blank-row) k
 unfolding all
-gathering-start b keys rows k room count sources =
+gathering-start b {es} e keys rows k room count sources =
     record {
       written = [];
       count = count;
@@ -295,9 +300,10 @@ gathering-start b keys rows k room count sources =
       blank = λ j i h l. ap (λ (r : List ℕ). in_words r i) (at j (rw sources at h)) ∙ blank-bits i l;
       none = no-numbers 0;
       filled = λ j h l. absurd (omega arith);
-      general = ap (λ (l : List ℕ). l ++ each (words_in General) (elements 1 0 b)) (no-numbers 1);
-      naming = λ a v h. ap (λ (x : Bool). x || member v (each (words_in (Naming a)) (elements 1 0 b)))
-          (none-carried (set (set rows 0 blank-row) 1 blank-row) k.sources (turned_place a) v);
+      general = ap (λ (l : List ℕ). l ++ each (words_in General) es) (no-numbers 1) ∙ ap (each (words_in General)) e;
+      naming = λ a v h. ap (λ (x : Bool). x || member v (each (words_in (Naming a)) es))
+          (none-carried (set (set rows 0 blank-row) 1 blank-row) k.sources (turned_place a) v)
+          ∙ ap (λ (es : List Element). member v (each (words_in (Naming a)) es)) e;
     }
   where
     at : (j : ℕ) → j < 2 → get_or (set (set rows 0 blank-row) 1 blank-row) j [] ≡ blank-row
@@ -314,9 +320,23 @@ gathering-start b keys rows k room count sources =
 
 -- ---- all of run B, and run C
 
-pub gathering-end : (b : List ℕ) (at : ℕ) (keys₀ keys : List ℕ) (rows : List (List ℕ)) (k : Keys) → at ≡ length b → Gathering b at keys₀ keys rows k
-    → Gathering b (length b) keys₀ keys rows k
-gathering-end b at keys₀ keys rows k e so = rw e at so
+pub gathering-end : (b : List ℕ) {es : List Element} (at : ℕ) (keys₀ keys : List ℕ) (rows : List (List ℕ)) (k : Keys) → es ≡ [] → at ≤ length b
+    → Gathering b es at keys₀ keys rows k → Gathering b [] (length b) keys₀ keys rows k
+gathering-end b {es} at keys₀ keys rows k e h before =
+    let so : Gathering b [] at keys₀ keys rows k = subst (λ (es : List Element). Gathering b es at keys₀ keys rows k) e before in
+    record {
+      written = so.written;
+      count = so.count;
+      list = so.list;
+      few = (so.few.0, omega (arith, so.few.1));
+      low = so.low;
+      wide = so.wide;
+      blank = so.blank;
+      none = so.none;
+      filled = so.filled;
+      general = so.general;
+      naming = so.naming;
+    }
 
 -- A source that names RSVP-TE and has a number gives it to RSVP-TE.
 named-carried : (rows : List (List ℕ)) (n : ℕ) (K : List ℕ) (j v : ℕ) → 1 < j → j < n → n ≤ 128 → named_by rows j 7 ≡ true → member v (numbers_of j K) ≡ true
@@ -335,7 +355,7 @@ legacy-words b c v = sym (member-distinct v (srlg_words (srlg_attribute 0 c ∷ 
 
 module _ (b c : List ℕ) (named : Names) (keys₀ keys : List ℕ) (rows : List (List ℕ)) (k : Keys) (is : Legacy b c named keys₀ keys rows k)
     (room : k.sources ≤ length rows) where
-  abbrev so : Gathering b (length b) keys₀ keys rows k
+  abbrev so : Gathering b [] (length b) keys₀ keys rows k
   so = is.gathered
 
   abbrev K' : List ℕ
@@ -347,16 +367,14 @@ module _ (b c : List ℕ) (named : Names) (keys₀ keys : List ℕ) (rows : List
   all_words w v = ap (member v) (live-words w b c) ∙ sym (member-distinct v (srlg_words (of_live (selects w) (side_b b c))))
 
   general-all : (v : ℕ) → member v (numbers_of 1 K') ≡ member v (srlgs (general_set (side_b b c)))
-  unfolding general_set selects
+  unfolding general_set selects each
   general-all v =
-      ap (member v) (sym (append-nil (numbers_of 1 K')) ∙ ap (λ (l : List ℕ). numbers_of 1 K' ++ l) (sym (none_left b (length b) (omega arith) (words_in General)))
-      ∙ so.general) ∙ all_words General v
+      ap (member v) (sym (append-nil (numbers_of 1 K')) ∙ so.general) ∙ all_words General v
 
   naming-all : (a v : ℕ) → a < 128 → carried rows k.sources K' (turned_place a) v ≡ member v (srlgs (of_live (names a) (side_b b c)))
-  unfolding selects member
+  unfolding selects member each
   naming-all a v h =
       sym (or-false (carried rows k.sources K' (turned_place a) v))
-      ∙ ap (λ (l : List ℕ). carried rows k.sources K' (turned_place a) v || member v l) (sym (none_left b (length b) (omega arith) (words_in (Naming a))))
       ∙ so.naming a v h ∙ all_words (Naming a) v
 
   sources-few : k.sources ≤ 128

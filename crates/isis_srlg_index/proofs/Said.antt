@@ -9,7 +9,7 @@ use Rattle.linkstate.proofs.ListLaws.{and_l, and_r}
 use lib.Dec.{eqb}
 use lib.Bits.{bit_or}
 use lib.ListN.{length, set, take, drop, length-drop, length-take}
-use lib.Seq.{drop-drop, drop-length, length-take-le}
+use lib.Seq.{drop-drop, length-take-le}
 use Rattle.linkstate.specs.Lists.{put}
 use Rattle.linkstate.specs.Bytes.{words}
 use Rattle.linkstate.specs.Elements.{Element, element}
@@ -34,24 +34,9 @@ use Rattle.isis_tlvs_238.specs.declared.Which.TheVariants.{Naming, General}
 use Rattle.isis_tlvs_238.specs.Selected.{selects, words_in}
 use Rattle.isis_tlvs_238.proofs.Tlvs as tlv
 use Rattle.isis_srlg_index.specs.declared.Tlv.{Tlv}
-use Rattle.isis_srlg_index.specs.Sources.{no_tlv, Lives, Says, Adds, nothing, generals, source}
+use Rattle.isis_srlg_index.specs.Sources.{Lives, Says, Adds, nothing, generals, source}
 
 -- ---- nothing
-
-no_words : (v : List ℕ) → words (drop (length v) v) ≡ []
-unfolding words
-no_words v = ap words (drop-length v)
-
--- No advertisement of an element has a number that is read.
-pub says_nothing : (e : Element) (value : List ℕ) (r : Tlv) → ((w : Which) → words_in w e ≡ []) → r ≡ no_tlv (length value) → Says e value r
-says_nothing e value r none is =
-    rw is record {
-      naming = λ n. none (Naming n) ∙ sym (ap (λ (b : Bool). cond b (words (drop (length value) value)) []) (set-none _ (place_none _ refl refl) n));
-      generals = none General;
-      apart = λ f. absurd (false≢true f);
-      within = omega arith;
-      head = λ h. absurd (omega arith);
-    }
 
 pub dead-words : (at t : ℕ) (value v : List ℕ) (l : Bool) → t ≡ 238 → v ≡ after_neighbour value → l ≡ live_srlg at v → l ≡ false → (w : Which)
     → words_in w (element at t value) ≡ []
@@ -60,7 +45,8 @@ dead-words at t value v l is e f d w =
     ∙ ap (λ (b : Bool). cond (b && selects w (advertisement v [])) (cond (l_flag v) [] (words (srlg_values v))) []) (sym f ∙ d)
 
 pub unread-words : (at t : ℕ) (value v : List ℕ) → t ≡ 238 → v ≡ after_neighbour value → l_flag v ≡ true → (w : Which) → words_in w (element at t value) ≡ []
-unread-words at t value v is e l w = sym (tlv.start-l at t value v is e w l) ∙ no_words value
+unfolding words
+unread-words at t value v is e l w = sym (tlv.words-l at t value v is e w l)
 
 -- ---- a live TLV 238 without L
 

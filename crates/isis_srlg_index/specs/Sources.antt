@@ -1,10 +1,9 @@
 -- What one TLV of run B says of SRLGs, and the keys and sources that it adds.
-use Rattle.std.specs.Prelude.{◌≡◌, true, false, cond, ◌&&◌, ◌||◌, eqb, List, [], map, ◌++◌, ℕ, ◌+◌, ◌*◌, ◌/◌, ◌≤◌, ◌<◌, length, get_or, set, take, drop}
+use Rattle.std.specs.Prelude.{◌≡◌, true, false, cond, ◌&&◌, ◌||◌, eqb, List, [], map, ◌++◌, ℕ, ◌+◌, ◌*◌, ◌/◌, ◌≤◌, ◌<◌, length, get_or, set, take, drop, Option, Some, None}
 use Rattle.linkstate.specs.Limits.{most_numbers}
 use Rattle.linkstate.specs.Lists.{put, each, all, member}
 use Rattle.linkstate.specs.Bytes.{words}
 use Rattle.linkstate.specs.Elements.{Element, elements, faults}
-use Rattle.linkstate.proofs.WalkLaws.{left}
 use Rattle.masks.specs.Sets.{turned_place}
 use Rattle.srlg_ranks.specs.Ranks.{in_words}
 use Rattle.srlg_classes.specs.Sided.{carried, Carried, Sourced}
@@ -21,6 +20,7 @@ use Rattle.srlg_sources.specs.Sources.{Small, key_of, in_rows, numbers_of, sourc
 use Rattle.srlg_table.specs.Blocks.{named_by}
 use Rattle.isis_check_a.specs.declared.Header.{Header}
 use Rattle.isis_check_a.specs.Headers.{header_of}
+use Rattle.isis_tlvs_238.specs.declared.Which.{Which}
 use Rattle.isis_tlvs_238.specs.declared.Which.TheVariants.{Naming, General}
 use Rattle.isis_tlvs_238.specs.Selected.{words_in}
 use Rattle.isis_srlg_index.specs.declared.Tlv.{Tlv}
@@ -34,10 +34,6 @@ least_value = 25
 -- A TLV that passed its checks, at some place of the run.
 abbrev pub Passed : ℕ → List ℕ → Type 0
 Passed t value = (at : ℕ) × (check_b at t value ≡ accepted)
-
--- What is read of a TLV that has no number for anybody.
-abbrev pub no_tlv : ℕ → Tlv
-no_tlv n = record { general = false; who = record { standard = 0; user = 0 }; start = n }
 
 -- A TLV 238 that can be read, by what follows its neighbour bytes: its header is h, its masks are not too long, and they and the identifiers lie within it.
 pub record Readable (v : List ℕ) (h : Header) : Type 0 where
@@ -60,6 +56,11 @@ pub record Says (e : Element) (value : List ℕ) (r : Tlv) : Type 0 where
   pub within : r.start ≤ length value
   pub head : r.start + 4 ≤ length value → r.general ≡ false → least_value ≤ length value
 
+-- The same, if anything is read; else the TLV has no number for anybody.
+abbrev pub Reads : Element → List ℕ → Option Tlv → Type 0
+Reads e value None = (w : Which) → words_in w e ≡ []
+Reads e value (Some r) = Says e value r
+
 -- A TLV of run B that passed its checks, and room for its numbers and for a source more.
 pub record RoomAt (t : ℕ) (value keys : List ℕ) (rows : List (List ℕ)) (k : Keys) : Type 0 where
   pub passed : Passed t value
@@ -78,8 +79,8 @@ pub data Adds (e : Element) (keys : List ℕ) (rows : List (List ℕ)) (k : Keys
       → rows' ≡ set rows k.sources (source_row who.standard who.user)
       → Adds e keys rows k r keys' rows'
 
--- The keys and sources of the TLVs before an offset: with the numbers of what is left there, they are those of all.
-pub record Gathering (b : List ℕ) (at : ℕ) (keys₀ keys : List ℕ) (rows : List (List ℕ)) (k : Keys) : Type 0 where
+-- The keys and sources of the TLVs before an offset: with the numbers of the elements that are left there, they are those of all.
+pub record Gathering (b : List ℕ) (es : List Element) (at : ℕ) (keys₀ keys : List ℕ) (rows : List (List ℕ)) (k : Keys) : Type 0 where
   pub written : List ℕ
   pub count : k.count ≡ length written
   pub list : keys ≡ put keys₀ 0 written
@@ -89,14 +90,14 @@ pub record Gathering (b : List ℕ) (at : ℕ) (keys₀ keys : List ℕ) (rows :
   pub blank : (j i : ℕ) → j < k.sources → i < most_numbers → in_words (get_or rows j []) i ≡ false
   pub none : numbers_of 0 written ≡ []
   pub filled : (j : ℕ) → 1 < j → j < k.sources → (v : ℕ) × (member v (numbers_of j written) ≡ true)
-  pub general : numbers_of 1 written ++ each (words_in General) (left 1 0 b at) ≡ each (words_in General) (elements 1 0 b)
+  pub general : numbers_of 1 written ++ each (words_in General) es ≡ each (words_in General) (elements 1 0 b)
   pub naming : (a v : ℕ) → a < 128
-      → carried rows k.sources written (turned_place a) v || member v (each (words_in (Naming a)) (left 1 0 b at))
+      → carried rows k.sources written (turned_place a) v || member v (each (words_in (Naming a)) es)
       ≡ member v (each (words_in (Naming a)) (elements 1 0 b))
 
 -- All of run B.
 abbrev pub Gathered : List ℕ → List ℕ → List ℕ → List (List ℕ) → Keys → Type 0
-Gathered b keys₀ keys rows k = Gathering b (length b) keys₀ keys rows k
+Gathered b keys₀ keys rows k = Gathering b [] (length b) keys₀ keys rows k
 
 -- Run C need not be read: nobody is named with L, and some source has a number for RSVP-TE.
 pub record Unused (who : Names) (rows : List (List ℕ)) (sources : ℕ) : Type 0 where

@@ -9,8 +9,9 @@ ghost use Rattle.srlg_table.specs.Blocks.{named_by};
 ghost use Rattle.srlg_classes.specs.Sided.{Carried};
 ghost use Rattle.isis.specs.MaskHeader.{l_flag};
 ghost use Rattle.isis.specs.RunB.{check_b, live_srlg, side_b};
-ghost use Rattle.isis_srlg_index.specs.Sources.{no_tlv, Passed, Readable, Lives, Says, RoomAt, Adds, Gathered, Unused, WithLegacy, Room, Ready, Indexes};
+ghost use Rattle.isis_srlg_index.specs.Sources.{Passed, Readable, Lives, Reads, RoomAt, Adds, Gathered, Unused, WithLegacy, Room, Ready, Indexes};
 
+use frames::{One, Whole};
 use isis_check_a::Header;
 use masks::Applications;
 use rules::Names;
@@ -24,21 +25,6 @@ struct Tlv {
     start: usize,
 }
 
-// One of n value bytes that has no number.
-fn no_tlv(n: usize) -> Tlv
-    ensures { result ≡ no_tlv n }
-{
-    let who = Applications {
-        standard: 0,
-        user: 0,
-    };
-    Tlv {
-        general: false,
-        who,
-        start: n,
-    }
-}
-
 // A live TLV 238 without L, by what follows its neighbour bytes and has the header h.
 fn live_tlv(v: &[u8], h: Header) -> Tlv
     requires { Readable v.now h }
@@ -46,7 +32,7 @@ fn live_tlv(v: &[u8], h: Header) -> Tlv
 {
     let who = masks::with_masks(masks::nobody(), v, 2, h.standard, h.user);
     let length_byte = 2 + h.standard + h.user;
-    let identifiers = v[length_byte] as usize;
+    let identifiers = usize::from(v[length_byte]);
     Tlv {
         general: (h.standard == 0) & (h.user == 0),
         who,
@@ -61,40 +47,42 @@ fn tells_link(v: &[u8], h: Header) -> bool
 {
     let length_byte = isis_check_a::header_length(h);
     let list = length_byte + 1;
-    let end = list + v[length_byte] as usize;
+    let end = list + usize::from(v[length_byte]);
     isis_check::identifies_link(&v[list..end])
 }
 
-// A TLV of run B. With L no number of it is read.
-fn read_tlv(t: u8, value: &[u8]) -> Tlv
+// A TLV of run B, if it has a number that is read: none is with L.
+fn read_tlv(t: usize, value: &[u8]) -> Option<Tlv>
     requires { Passed t value.now × (length value.now ≤ 2048) }
-    ensures { (at : ℕ) → Says (element at t value.now) value.now result }
+    ensures { (at : ℕ) → Reads (element at t value.now) value.now result }
 {
     if t != 238 {
-        return no_tlv(value.len());
+        return None;
     }
     let v = &value[7..];
     let h = isis_check_a::read_header(v);
     let unread = h.l;
     if unread {
-        return no_tlv(value.len());
+        return None;
     }
     if isis_check_a::mask_too_long(h) {
-        return no_tlv(value.len());
+        return None;
     }
     if !tells_link(v, h) {
-        return no_tlv(value.len());
+        return None;
     }
-    live_tlv(v, h)
+    Some(live_tlv(v, h))
 }
 
 // The keys of one TLV of run B, behind those that are there.
-fn add_tlv(t: u8, value: &[u8], keys: &mut [u64], rows: &mut [[u64; 18]], k: Keys) -> Keys
+fn add_tlv(t: usize, value: &[u8], keys: &mut [u64], rows: &mut [[u64; 18]], k: Keys) -> Keys
     requires { RoomAt t value.now keys.old rows.old k }
     ensures by_index { (at : ℕ) → Adds (element at t value.now) keys.old rows.old k result keys.new rows.new }
     ensures count_bound { (result.count ≤ k.count + length value.now / 4) × (27 * result.sources ≤ 27 * k.sources + 2 + length value.now) }
 {
-    let tlv = read_tlv(t, value);
+    let Some(tlv) = read_tlv(t, value) else {
+        return k;
+    };
     let start = tlv.start;
     if value.len() - start < 4 {
         return k;
@@ -125,12 +113,8 @@ fn gather_b(b: &[u8], keys: &mut [u64], rows: &mut [[u64; 18]]) -> Keys
         count: 0,
         sources: 2,
     };
-    let mut at = 0;
-    while at < b.len() {
-        let value = at + 2;
-        let next = value + b[at + 1] as usize;
-        k = add_tlv(b[at], &b[value..next], keys, rows, k);
-        at = next;
+    for e in Whole::<One>::new(b, 0) {
+        k = add_tlv(e.kind, e.value, keys, rows, k);
     }
     k
 }

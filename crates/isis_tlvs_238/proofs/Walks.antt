@@ -54,14 +54,14 @@ pub record AtPlace (b : List ℕ) (es : List Element) (from to : ℕ) : Type 0 w
   pub bound : place ≤ length b
   pub few : 4 * to ≤ 4 * from + place
 
-one : 0 < 1
+pub one : 0 < 1
 one = omega arith
 
-pub place-begin : {b : List ℕ} {es : List Element} (from : ℕ) → es ≡ elements 1 0 b → faults run_b check_b (elements 1 0 b) ≡ accepted → AtPlace b es from from
+abbrev pub place-begin : {b : List ℕ} {es : List Element} (from : ℕ) → es ≡ elements 1 0 b → faults run_b check_b (elements 1 0 b) ≡ accepted → AtPlace b es from from
 place-begin {b} from e ok = record { place = 0; left = e ∙ sym (left-all 1 0 b); passed = ap (faults run_b check_b) e ∙ ok; bound = omega arith; few = omega arith }
 
 module _ {b : List ℕ} {es : List Element} {from to : ℕ} (p : AtPlace b es from to) {o t : ℕ} {v : List ℕ} {rest : List Element} (e : es ≡ element o t v ∷ rest) where
-  there : Stands 1 one 0 b p.place o t v rest
+  pub there : Stands 1 one 0 b p.place o t v rest
   there = stands 1 one 0 b p.place (sym p.left ∙ e)
 
   pub value-passed : check_b o t v ≡ accepted
@@ -70,11 +70,14 @@ module _ {b : List ℕ} {es : List Element} {from to : ℕ} (p : AtPlace b es fr
   pub value-whole : Whole t v
   value-whole = tlv.whole o t v value-passed
 
+  pub place-inside : p.place + 2 + length v ≤ length b
+  place-inside = let s = there in omega (arith, s.whole.within)
+
   -- room for as many numbers as the value can have
   pub place-room : to + length v / 4 ≤ from + length b / 4
   place-room = let s = there in let f = p.few in omega (arith, s.whole.within)
 
-  pub place-next : (k : ℕ) → k ≤ to + length v / 4 → AtPlace b rest from k
+  abbrev pub place-next : (k : ℕ) → k ≤ to + length v / 4 → AtPlace b rest from k
   place-next k h =
       let s = there in
       let f = p.few in

@@ -1,22 +1,20 @@
--- `isis_srlg_index::gather_b` meets its contract: TLV by TLV. Assumes nothing.
+-- TLV by TLV.
 use Prim.Native.Nat.{ℕ, ◌/◌, ◌+◌, ◌*◌, ◌≤◌, ◌<◌}
-use mathlib.Core.Path.{◌≡◌, refl, ◌∙◌}
+use mathlib.Core.Path.{◌≡◌, refl, ap, ◌∙◌}
 use mathlib.Core.List.{List}
 use native.Mathlib.Omega.{arith}
-use lib.ListN.{length, get_or, length-set}
-use Rattle.isis_check_a.proofs.Laws.{part_length}
-use Rattle.isis_tlvs_238.proofs.Walks.{inside, rest_ok, value-passed, value_at}
+use lib.ListN.{length, length-set}
+use Rattle.frames.specs.Left.{whole_left}
+use Rattle.frames.proofs.Walks.{uncut}
+use Rattle.isis.specs.RunB.{check_b}
+use Rattle.linkstate.specs.Replies.{run_b}
+use Rattle.isis_tlvs_238.proofs.Walks.{place-begin, value-passed, place-inside, place-room, place-next, place-few}
 use Rattle.isis_srlg_index.proofs.Gathers.{gathering-start, gathering-next, gathering-end}
 use Rattle.isis_srlg_index.proofs.gather_b.Goals as goal
 
--- the value of the TLV at a turn has the length that its length byte says
-size : (b : List ℕ) (at : ℕ) → at + 2 + get_or b (at + 1) 0 ≤ length b → length (value_at b at) ≡ get_or b (at + 1) 0
-size b at w = part_length b (at + 2) _ w
-
 -- a source more has a row
-room : (b : List ℕ) (at n sources : ℕ) → at + 2 + get_or b (at + 1) 0 ≤ length b → 27 * sources ≤ 54 + at → 2 + length b / 27 ≤ n
-    → 25 ≤ length (value_at b at) → sources < n
-room b at n sources w few r h = omega (arith, size b at w)
+room : (b v : List ℕ) (place n sources : ℕ) → place + 2 + length v ≤ length b → 27 * sources ≤ 54 + place → 2 + length b / 27 ≤ n → 25 ≤ length v → sources < n
+room b v place n sources w few r h = omega arith
 
 pub bounds-rows-0 : goal.bounds-rows-0
 bounds-rows-0 c = omega (arith, c.requires.1.sources)
@@ -24,102 +22,59 @@ bounds-rows-0 c = omega (arith, c.requires.1.sources)
 pub bounds-rows-1 : goal.bounds-rows-1
 bounds-rows-1 c = simp length-set (omega (arith, c.requires.1.sources))
 
-pub loop-at-init : goal.loop-at-init
-loop-at-init c = (
-  omega arith,
-  c.requires.0,
-  refl,
-  refl,
-  omega arith,
-  gathering-start c.args.b.now c.args.keys.now c.args.rows.now _
-      (omega (arith, c.requires.1.sources)) refl refl,
-)
+pub new-e-items-requires-clause-uncut : goal.new-e-items-requires-clause-uncut
+new-e-items-requires-clause-uncut c = uncut run_b check_b _ c.requires.0
 
-pub overflow_add-value : goal.overflow_add-value
-overflow_add-value c =
-    let w = inside c.args.b.now c.loop-at.at (omega arith) c.loop-at.invariant.1 in
-    omega (arith, w)
-
-pub overflow_add-next : goal.overflow_add-next
-overflow_add-next c =
-    let w = inside c.args.b.now c.loop-at.at (omega arith) c.loop-at.invariant.1 in
-    omega (arith, w)
-
-pub bounds-b-at : goal.bounds-b-at
-bounds-b-at c =
-    let w = inside c.args.b.now c.loop-at.at (omega arith) c.loop-at.invariant.1 in
-    omega (arith, w)
-
-pub overflow_cast-next : goal.overflow_cast-next
-overflow_cast-next c = omega (arith, c.type_inv.b (c.loop-at.at + 1))
-
-pub overflow_add-next-in-loop-at : goal.overflow_add-next-in-loop-at
-overflow_add-next-in-loop-at c =
-    let w = inside c.args.b.now c.loop-at.at (omega arith) c.loop-at.invariant.1 in
-    omega (arith, w)
-
-pub bounds-b-at-in-loop-at : goal.bounds-b-at-in-loop-at
-bounds-b-at-in-loop-at c = omega arith
-
-pub slice_bounds-add_tlv-count : goal.slice_bounds-add_tlv-count
-slice_bounds-add_tlv-count c = omega arith
-
-pub slice_bounds-add_tlv-start : goal.slice_bounds-add_tlv-start
-slice_bounds-add_tlv-start c = omega arith
-
-pub slice_bounds-add_tlv-end : goal.slice_bounds-add_tlv-end
-slice_bounds-add_tlv-end c =
-    let w = inside c.args.b.now c.loop-at.at (omega arith) c.loop-at.invariant.1 in
-    omega (arith, w)
+pub loop-e-init : goal.loop-e-init
+loop-e-init c =
+    let e = ap whole_left c.into_iter-e-iterator.ensures.into_iter_gives ∙ c.new-e-items.ensures in
+    record {
+      at = place-begin 0 e c.requires.0;
+      keys_length = refl;
+      rows_length = refl;
+      so = gathering-start c.args.b.now e c.args.keys.now c.args.rows.now _ (omega (arith, c.requires.1.sources)) refl refl;
+    }
 
 pub add_tlv-k-requires : goal.add_tlv-k-requires
 add_tlv-k-requires c =
-    let b = c.args.b.now in
-    let at = c.loop-at.at in
-    let i = c.loop-at.invariant in
-    let w = inside b at (omega arith) i.1 in
-    let few = i.5.few in
-    let rows : length c.loop-at.rows ≡ length c.args.rows.now = i.3 ∙ simp length-set in
+    let i = c.loop-e.invariant in
+    let e = c.in-Some.ensures.steps in
+    let few = i.so.few in
+    let rows : length c.loop-e.rows ≡ length c.args.rows.now = i.rows_length ∙ simp length-set in
     let short = c.requires.1.short.0 in
+    let end = place-inside i.at e in
     record {
-      passed = (at, value-passed b at (omega arith) i.1);
-      size = omega (arith, w, size b at w);
+      passed = (c.in-Some.e.at, value-passed i.at e);
+      size = omega (arith, end);
       few = (few.0, omega arith);
-      numbers = omega (arith, w, size b at w, c.requires.1.numbers, i.2, i.4);
-      source = room b at _ _ w few.1 (omega (arith, c.requires.1.sources));
+      numbers = omega (arith, place-room i.at e, c.requires.1.numbers, i.keys_length);
+      source = room _ c.in-Some.e.value.now _ _ _ end few.1 (omega (arith, c.requires.1.sources));
     }
 
-pub loop-at-smaller : goal.loop-at-smaller
-loop-at-smaller c =
-    let w = inside c.args.b.now c.loop-at.at (omega arith) c.loop-at.invariant.1 in
-    omega (arith, w)
-
-pub loop-at-preserved : goal.loop-at-preserved
-loop-at-preserved c =
-    let b = c.args.b.now in
-    let at = c.loop-at.at in
-    let i = c.loop-at.invariant in
-    let inner = inside b at (omega arith) i.1 in
+pub loop-e-preserved : goal.loop-e-preserved
+loop-e-preserved c =
+    let i = c.loop-e.invariant in
+    let e = c.in-Some.ensures.steps in
     let w = c.add_tlv-k in
     let (count, sources) = w.ensures.count_bound in
-    let few = i.5.few.1 in
-    let rows : length c.loop-at.rows ≡ length c.args.rows.now = i.3 ∙ simp length-set in (
-      inner,
-      rest_ok b at (omega arith) i.1,
-      w.auto.keys ∙ i.2,
-      w.auto.rows ∙ i.3,
-      omega (arith, size b at inner),
-      gathering-next b at _ _ _ c.loop-at.k i.5 (omega arith) i.1 (omega (arith, c.requires.1.short)) _ refl _ _ _
-          (omega (arith, size b at inner, inner, c.requires.1.numbers))
-          (omega (arith, size b at inner)) (λ h. room b at _ _ inner few (omega (arith, c.requires.1.sources)) (omega arith)) (w.ensures.by_index at),
-    )
+    let few = i.so.few.1 in
+    let rows : length c.loop-e.rows ≡ length c.args.rows.now = i.rows_length ∙ simp length-set in
+    let next = place-next i.at e _ count in
+    record {
+      at = next;
+      keys_length = w.auto.keys ∙ i.keys_length;
+      rows_length = w.auto.rows ∙ i.rows_length;
+      so = gathering-next _ e _ _ _ _ _ c.loop-e.k i.so (omega (arith, c.requires.1.short, i.at.bound)) _ _ _
+          (omega (arith, place-room i.at e, c.requires.1.numbers)) (omega (arith, sources))
+          (λ h. room _ c.in-Some.e.value.now _ _ _ next.bound few (omega (arith, c.requires.1.sources)) (omega arith)) (w.ensures.by_index c.in-Some.e.at);
+    }
 
 pub shape_of-keys : goal.shape_of-keys
-shape_of-keys c = c.loop-at.invariant.2
+shape_of-keys c = c.loop-e.invariant.keys_length
 
 pub shape_of-rows : goal.shape_of-rows
-shape_of-rows c = c.loop-at.invariant.3 ∙ simp length-set
+shape_of-rows c = c.loop-e.invariant.rows_length ∙ simp length-set
 
 pub returns : goal.returns
-returns c = let i = c.loop-at.invariant in
-    (gathering-end _ c.loop-at.at _ _ _ c.loop-at.k (omega arith) i.5, omega arith)
+returns c = let i = c.loop-e.invariant in
+    (gathering-end _ _ _ _ _ c.loop-e.k c.in-None.ensures.steps.0 i.at.bound i.so, omega (arith, place-few i.at))

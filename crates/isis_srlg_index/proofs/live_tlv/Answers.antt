@@ -21,10 +21,6 @@ overflow_add-length_byte-2 c = let (a, b, e) = header-sizes c.args.v.now c.args.
 pub bounds-v-length_byte : goal.bounds-v-length_byte
 bounds-v-length_byte c = let (a, b, e) = header-sizes c.args.v.now c.args.h c.requires.header c.requires.masks in omega (arith, c.requires.inside)
 
-pub overflow_cast-identifiers : goal.overflow_cast-identifiers
-overflow_cast-identifiers c = let h = c.args.h in
-    omega (arith, c.type_inv.v (2 + h.standard + h.user))
-
 pub overflow_add-result : goal.overflow_add-result
 overflow_add-result c = let (a, b, e) = header-sizes c.args.v.now c.args.h c.requires.header c.requires.masks in omega arith
 

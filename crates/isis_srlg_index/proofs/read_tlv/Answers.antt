@@ -14,7 +14,7 @@ use Rattle.isis_tlvs_238.specs.Selected.{Listed}
 use Rattle.isis_tlvs_238.proofs.Tlvs.{whole as tlv-whole, other-words, after_is, behind-listed}
 use Rattle.isis_srlg_index.proofs.Identified.{behind-long, behind-few, too_long}
 use Rattle.isis_srlg_index.specs.Sources.{Passed, Readable}
-use Rattle.isis_srlg_index.proofs.Said.{says_nothing, dead-words, unread-words, says-live}
+use Rattle.isis_srlg_index.proofs.Said.{dead-words, unread-words, says-live}
 use Rattle.isis_srlg_index.proofs.read_tlv.Goals as goal
 
 -- a 238 that passed its checks, and where it is live its masks and identifiers lie within it
@@ -29,7 +29,7 @@ readable t value p e few h is short =
     record { header = is; masks = m; inside = (behind-listed _ (whole t value p e)).listed m; size = omega (arith, few, behind-few value) }
 
 pub returns-then-t-ne238 : goal.returns-then-t-ne238
-returns-then-t-ne238 c = λ at. says_nothing _ _ _ (other-words at _ _ (λ e. omega arith)) c.no_tlv.ensures
+returns-then-t-ne238 c = λ at. other-words at _ _ (λ e. omega arith)
 
 pub slice_bounds-v-count : goal.slice_bounds-v-count
 slice_bounds-v-count c = omega (arith, (whole _ _ c.requires.0 c.if-t-ne238.false).0)
@@ -43,16 +43,13 @@ read_header-h-requires c = (behind-listed _ (whole _ _ c.requires.0 c.if-t-ne238
 pub returns-then-unread : goal.returns-then-unread
 returns-then-unread c =
     let nine = (whole _ _ c.requires.0 c.if-t-ne238.false).0 in
-    λ at.
-    says_nothing _ _ _ (unread-words at _ _ _ (omega arith) (after_is _ nine) (sym (header-l _ _ c.read_header-h.ensures.0) ∙ c.if-unread.true))
-    c.no_tlv-then-unread.ensures
+    λ at. unread-words at _ _ _ (omega arith) (after_is _ nine) (sym (header-l _ _ c.read_header-h.ensures.0) ∙ c.if-unread.true)
 
 pub returns-then-mask_too_long : goal.returns-then-mask_too_long
 returns-then-mask_too_long c =
     let nine = (whole _ _ c.requires.0 c.if-t-ne238.false).0 in
     let m = sym (header-too-long _ _ c.read_header-h.ensures.0) ∙ sym c.mask_too_long.ensures ∙ c.if-mask_too_long.true in
-    λ at.
-    says_nothing _ _ _ (dead-words at _ _ _ false (omega arith) (after_is _ nine) (too_long at _ m) refl) c.no_tlv-then-mask_too_long.ensures
+    λ at. dead-words at _ _ _ false (omega arith) (after_is _ nine) (too_long at _ m) refl
 
 pub tells_link-requires : goal.tells_link-requires
 tells_link-requires c =
@@ -64,9 +61,7 @@ tells_link-requires c =
 pub returns-then-not-tells_link : goal.returns-then-not-tells_link
 returns-then-not-tells_link c =
     let nine = (whole _ _ c.requires.0 c.if-t-ne238.false).0 in
-    λ at.
-    says_nothing _ _ _ (dead-words at _ _ _ _ (omega arith) (after_is _ nine) (c.tells_link.ensures at) c.if-not-tells_link.true)
-    c.no_tlv-then-not-tells_link.ensures
+    λ at. dead-words at _ _ _ _ (omega arith) (after_is _ nine) (c.tells_link.ensures at) c.if-not-tells_link.true
 
 pub live_tlv-requires : goal.live_tlv-requires
 live_tlv-requires c =

@@ -23,9 +23,6 @@ bounds-v-length_byte c =
     let e = c.header_length-length_byte.ensures ∙ header-bytes _ _ c.requires.0.header in
     omega (arith, e, c.requires.0.inside)
 
-pub overflow_cast-end : goal.overflow_cast-end
-overflow_cast-end c = omega (arith, c.type_inv.v c.header_length-length_byte.result)
-
 pub overflow_add-end : goal.overflow_add-end
 overflow_add-end c =
     let e = c.header_length-length_byte.ensures ∙ header-bytes _ _ c.requires.0.header in
@@ -47,4 +44,4 @@ returns c =
     λ at.
     live-told at c.args.v.now _ _ _ c.requires.1 c.requires.0.masks (ap (λ (n : ℕ). n + 1) e)
     (ap (λ (n : ℕ). c.header_length-length_byte.result + 1 + n) (length-byte _ _ e))
-    c.identifies_link.ensures
+    (rw c.from.ensures at c.identifies_link.ensures)
