@@ -77,7 +77,8 @@ fn mark(rows: &mut [[u64; 18]], source: usize, p: usize)
     rows[source][p / 64] |= 1 << (p % 64);
 }
 
-// The different numbers of keys that climb, ascending at the front of a list, and in the row of each source the bits of its numbers; how many numbers there are.
+// The different numbers of keys that climb, ascending at the front of a list, and in the row of each source the bits of its numbers;
+// how many numbers there are.
 pub fn rank(keys: &[u64], values: &mut [u64], rows: &mut [[u64; 18]]) -> usize
     requires { Climbs number keys.now × (length keys.now ≤ 1024) × (length keys.now ≤ length values.old) × (all (in_rows (length rows.old)) keys.now ≡ true) }
     ensures { Ranked keys.now values.new result rows.old rows.new }
@@ -103,7 +104,8 @@ fn sort_first(keys: &mut [u64], values: &mut [u64], m: usize)
     key_sort::sort_keys(&mut keys[0..m], &mut values[0..m]);
 }
 
-// The first m keys sorted, and ranked: the different numbers, ascending at the front of a list, and in the row of each source the bits of its numbers; how many numbers there are.
+// The first m keys sorted, and ranked: the different numbers, ascending at the front of a list, and in the row of each source the bits of its numbers;
+// how many numbers there are.
 pub fn order(keys: &mut [u64], values: &mut [u64], rows: &mut [[u64; 18]], m: usize) -> usize
     requires { (m ≤ 1024) × (m ≤ length keys.old) × (m ≤ length values.old) × (all (in_rows (length rows.old)) (take m keys.old) ≡ true) }
     ensures { Ordered (take m keys.old) values.new result rows.old rows.new }
