@@ -6,8 +6,7 @@ use mathlib.Core.Path.{sym, ap, ◌∙◌, subst}
 use mathlib.Core.List.{List}
 use native.Mathlib.Omega.{arith}
 use Rattle.std.proofs.Common.{rules}
-use Rattle.std.proofs.lemmas.List.{nil_from_length}
-use Rattle.masks.proofs.Steps.{Passed, passed-none, passed-next, passed-all, passed-room}
+use Rattle.masks.proofs.Steps.{Passed, passed-none, passed-next, passed-room}
 use Rattle.masks.proofs.few_bytes.Goals as goal
 use Rattle.masks.proofs.few_bytes.Goals.{In-Some}
 
@@ -25,6 +24,3 @@ overflow_add-m c = omega (arith, room (goal.at.overflow_add-m c).In-Some, c.from
 
 pub loop-b-preserved : goal.loop-b-preserved
 loop-b-preserved c = rw c.from.ensures (passed-next _ _ _ c.loop-b.invariant _ _ c.in-Some.ensures.steps)
-
-pub returns : goal.returns
-returns c = passed-all _ _ _ c.loop-b.invariant (nil_from_length _ c.in-None.ensures.steps.0)

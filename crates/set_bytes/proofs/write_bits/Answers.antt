@@ -33,9 +33,6 @@ loop-w-preserved c = let l = c.loop-w in
       bytes_word vs ws l.out _ l.w l.k _ _ p.ensures.1 r (omega (arith, c.requires.3, l.invariant.2, l.invariant.3)) l.invariant.4,
     )
 
-pub shape_of-out : goal.shape_of-out
-shape_of-out c = c.loop-w.invariant.2
-
 pub returns : goal.returns
 returns c = let l = c.loop-w in
     let a = c.args in

@@ -3,7 +3,7 @@ use mathlib.Core.Path.{refl, ◌∙◌}
 use native.Mathlib.Omega.{arith}
 use Rattle.grids.specs.Grids.{grid_value}
 use Rattle.grids.specs.Slots.{slot_grid}
-use Rattle.set_bytes.proofs.Laws.{extended-code, extended-start, extended-room, extended-next, extended-end}
+use Rattle.set_bytes.proofs.Laws.{extended-code, extended-start, extended-room, extended-next}
 use Rattle.set_bytes.proofs.write_extended.Goals as goal
 
 pub loop-c-init : goal.loop-c-init
@@ -23,11 +23,3 @@ loop-c-preserved c = let a = c.args in
       w.auto.out ∙ l.invariant.2,
       extended-next (grid_value a.sets.run.now (slot_grid a.sets.rows.now a.s)) a.out.now a.at c.requires.2 l.c l.invariant.0 (omega arith) l.invariant.2 l.invariant.3 w.ensures,
     )
-
-pub shape_of-out : goal.shape_of-out
-shape_of-out c = c.loop-c.invariant.2
-
-pub returns : goal.returns
-returns c = let a = c.args in
-    let l = c.loop-c in
-    extended-end (grid_value a.sets.run.now (slot_grid a.sets.rows.now a.s)) a.out.now a.at c.requires.2 l.c (omega arith) l.invariant.1 l.invariant.3

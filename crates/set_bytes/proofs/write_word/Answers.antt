@@ -1,5 +1,5 @@
 -- What is written, and what the bits left would be written as, is the whole.
-use mathlib.Core.Path.{refl, ◌∙◌, ap}
+use mathlib.Core.Path.{◌∙◌, ap}
 use lib.ListN.{length}
 use native.Mathlib.Omega.{arith}
 use Rattle.srlg.proofs.Laws.{length-bytes_of_words}
@@ -11,9 +11,6 @@ use Rattle.set_bytes.proofs.write_word.Goals.{In-Some}
 -- the lowest bit that is left
 lowest : (c : In-Some) → Turn c.args.values.now c.args.base c.loop-t.t-iterator.0 c.in-Some.t c.next.new.self.0
 lowest c = turn _ _ _ _ _ c.in-Some.ensures.steps c.loop-t.invariant.0
-
-pub loop-t-init : goal.loop-t-init
-loop-t-init c = rw c.into_iter-t-iterator.ensures.into_iter_gives (c.requires.1, refl, refl, refl)
 
 pub write32-requires : goal.write32-requires
 write32-requires c = let l = c.loop-t in

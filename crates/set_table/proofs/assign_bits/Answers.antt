@@ -1,11 +1,8 @@
 -- A slot and an empty row each, from the lowest bit on.
 use mathlib.Core.Path.{refl}
 use native.Mathlib.Omega.{arith}
-use Rattle.set_table.proofs.Assigns.{assigning-begin, assigning-end, assigning-as, room-left, turned-low}
+use Rattle.set_table.proofs.Assigns.{assigning-end, assigning-as, room-left, turned-low}
 use Rattle.set_table.proofs.assign_bits.Goals as goal
-
-pub loop-t-init : goal.loop-t-init
-loop-t-init c = let a = c.args in rw c.into_iter-t-iterator.ensures.into_iter_gives (assigning-begin a.own.now a.sets.now a.base a.set a.from c.requires.1)
 
 pub overflow_cast-own : goal.overflow_cast-own
 overflow_cast-own c = let i = c.loop-t.invariant in omega (arith, room-left i c.in-Some.ensures.steps c.requires.2, i.is.same, c.requires.3)

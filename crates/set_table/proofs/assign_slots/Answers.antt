@@ -13,9 +13,6 @@ assign_bits-requires c = let a = c.args in
     let e = c.empty_first.ensures in let r = c.assign_bits-k.ensures in
     (omega arith, r.1.owned, omega (arith, many-pair a.m, c.requires.1, e.0, r.0, r.1.same), omega (arith, c.requires.2, e.0, r.1.same))
 
-pub shape_of-sets : goal.shape_of-sets
-shape_of-sets c = let e = c.empty_first.ensures in let r = c.assign_bits-k.ensures in c.assign_bits.ensures.1.same ∙ r.1.same ∙ e.0
-
 pub returns : goal.returns
 returns c = let a = c.args in
     let e = c.empty_first.ensures in let r = c.assign_bits-k.ensures in

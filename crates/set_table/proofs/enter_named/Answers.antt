@@ -1,7 +1,7 @@
 -- `set_table::enter_named` meets its contract: nobody is new, or those that are take the value. Assumes nothing.
 use native.Mathlib.Omega.{arith}
 use Rattle.set_table.specs.Tables.{cell_of}
-use Rattle.set_table.proofs.Named.{fresh-of, named-given, none-given, having-next, both_zero}
+use Rattle.set_table.proofs.Named.{named-given, none-given, having-next, both_zero}
 use Rattle.set_table.proofs.enter_named.Goals as goal
 
 pub returns-then-fresh : goal.returns-then-fresh
@@ -12,11 +12,6 @@ returns-then-fresh c = let a = c.args in let p = c.requires.3 in
       none-given a.sets.now a.own.now a.have.now p.0 p.1 p.2 a.k c.requires.1 a.m p.3 _ m.ensures (cell_of a.place a.n) z.0 z.1,
       λ names sl hv w. hv,
     )
-
-pub enter_both-requires : goal.enter_both-requires
-enter_both-requires c = let a = c.args in let p = c.requires.3 in
-    let m = c.except-fresh in
-    (c.requires.0, c.requires.1, c.requires.2, fresh-of a.sets.now a.own.now a.have.now p.0 p.1 p.2 a.k c.requires.1 a.m p.3 _ m.ensures)
 
 pub returns : goal.returns
 returns c = let a = c.args in let p = c.requires.3 in

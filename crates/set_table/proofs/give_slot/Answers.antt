@@ -2,9 +2,6 @@
 use Rattle.set_table.proofs.Owns.{giving-next, gave-none}
 use Rattle.set_table.proofs.give_slot.Goals as goal
 
-pub loop-t-init : goal.loop-t-init
-loop-t-init c = rw c.into_iter-t-iterator.ensures.into_iter_gives record { owned = c.requires.2; gives = λ after g. g }
-
 pub loop-t-preserved : goal.loop-t-preserved
 loop-t-preserved c = giving-next c.loop-t.invariant c.requires.0 c.in-Some.ensures.steps
 

@@ -1,11 +1,8 @@
 -- The rows passed are the same, and those left decide.
-use mathlib.Core.Path.{refl, sym, ◌∙◌}
+use mathlib.Core.Path.{sym, ◌∙◌}
 use native.Mathlib.Omega.{arith}
 use Rattle.grids.proofs.Laws.{grids-end, grids-next, grids-differ}
 use Rattle.grids.proofs.Sets.same_values.Goals as goal
-
-pub loop-k-init : goal.loop-k-init
-loop-k-init c = (omega arith, refl)
 
 pub returns-then-not-same_value : goal.returns-then-not-same_value
 returns-then-not-same_value c = sym (grids-differ _ _ _ _ (omega arith) _ c.same_value.ensures c.if-not-same_value.true) ∙ c.loop-k.invariant.1

@@ -8,12 +8,6 @@ use Rattle.set_bytes.proofs.Srlgs.size.Goals as goal
 pub returns-in-None : goal.returns-in-None
 returns-in-None c = let a = c.args in (size_none (count_in a.self.classes.now a.c) (count_none (count_in a.self.classes.now a.c) (sym c.count.ensures ∙ c.in-None.is)), omega arith)
 
-pub overflow_mul-result : goal.overflow_mul-result
-overflow_mul-result c = let a = c.args in let s = count-some (count_in a.self.classes.now a.c) _ (sym c.count.ensures ∙ c.in-Some.is) in omega (arith, s.0)
-
-pub overflow_add-result : goal.overflow_add-result
-overflow_add-result c = let a = c.args in let s = count-some (count_in a.self.classes.now a.c) _ (sym c.count.ensures ∙ c.in-Some.is) in omega (arith, s.0)
-
 pub returns-in-Some : goal.returns-in-Some
 returns-in-Some c = let a = c.args in
     let s = count-some (count_in a.self.classes.now a.c) _ (sym c.count.ensures ∙ c.in-Some.is) in
