@@ -4,9 +4,6 @@ use native.Mathlib.Omega.{arith}
 use Rattle.srlg_classes.proofs.Siding.{settled-none}
 use Rattle.srlg_classes.proofs.classify.Goals as goal
 
-pub bounds-classes-0 : goal.bounds-classes-0
-bounds-classes-0 c = (c.requires.1 c.if-used-eq0.true).0
-
 pub returns-then-used-eq0 : goal.returns-then-used-eq0
 returns-then-used-eq0 c = let a = c.args in
     let z = c.if-used-eq0.true in
@@ -15,9 +12,3 @@ returns-then-used-eq0 c = let a = c.args in
       λ values side short so tells old.
           settled-none a.rows.now a.classes.now a.own.now a.used.sources a.who a.named _ values side (omega (arith, z)) p.0 p.2 refl refl refl so tells,
     )
-
-pub classify_with-requires : goal.classify_with-requires
-classify_with-requires c = (c.requires.0 (omega arith), omega arith, omega arith)
-
-pub classify_with-requires-2 : goal.classify_with-requires-2
-classify_with-requires-2 c = let p = c.requires.0 (omega arith) in (p, p.few, omega arith)

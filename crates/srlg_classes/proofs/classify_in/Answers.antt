@@ -11,27 +11,6 @@ pub first_classes-first-requires : goal.first_classes-first-requires
 first_classes-first-requires c = let p = c.requires.0 in
     (p.words, p.sources.0, p.sources.2, omega (arith, p.room), omega (arith, c.requires.1), refl, λ i h. get_or-replicate {A = ℕ} 128 i 0 0 h)
 
-pub give_firsts-requires : goal.give_firsts-requires
-give_firsts-requires c = let w = c.first_classes-first.ensures in
-    (c.requires.0.whole, omega (arith, w.few, w.legacy.low), omega (arith, w.few, w.general.low))
-
-pub give_named-count-requires : goal.give_named-count-requires
-give_named-count-requires c = let k = c.first_classes-first in
-    let w = k.ensures in
-    let p = c.requires.0 in (
-      p.words,
-      p.sources.0,
-      p.sources.1,
-      p.sources.2,
-      c.requires.2,
-      omega (arith, w.few, p.room, k.auto.classes),
-      omega (arith, w.few, c.requires.1, k.auto.heads),
-      omega (arith, p.few, k.auto.classes),
-      k.auto.buckets,
-      c.give_firsts.ensures.slots.size,
-      w.table,
-    )
-
 pub returns : goal.returns
 returns c = let a = c.args in
     let g = c.give_firsts.ensures in

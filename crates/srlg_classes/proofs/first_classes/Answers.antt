@@ -40,9 +40,6 @@ with_class-count-requires c = let w = c.with_class-one in
     let k = c.class_of-legacy in
     omega (arith, w.ensures, (with-more 1 k.result).1)
 
-pub shape_of-classes : goal.shape_of-classes
-shape_of-classes c = c.class_of-general.auto.classes ∙ c.class_of-legacy.auto.classes ∙ length-set c.args.classes.now 0 none_row
-
 pub returns : goal.returns
 returns c = firsts c.args.rows.now c.args.used.sources c.args.used.words _ _ _ _ _ _ _ c.class_of-legacy.result _ _ c.with_class-one.ensures
     c.with_class-count.ensures refl c.class_of-legacy.ensures c.class_of-general.ensures

@@ -1,10 +1,7 @@
 -- What is given, with what is left to give, is all.
 use Rattle.srlg_classes.specs.Owned.{slot_at}
-use Rattle.srlg_classes.proofs.Gives.{giving-start, giving-next, giving-end}
+use Rattle.srlg_classes.proofs.Gives.{giving-next, giving-end}
 use Rattle.srlg_classes.proofs.give.Goals as goal
-
-pub loop-t-init : goal.loop-t-init
-loop-t-init c = rw c.into_iter-t-iterator.ensures.into_iter_gives (giving-start c.args.bits c.args.base c.args.c c.args.own.now c.requires.1)
 
 pub loop-t-preserved : goal.loop-t-preserved
 unfolding slot_at

@@ -1,9 +1,0 @@
--- The length by the test.
-
-use Rattle.kinds.proofs.range_rule.Goals as goal
-
-pub returns-then-two : goal.returns-then-two
-returns-then-two c = rw c.if-two.true
-
-pub returns-else-two : goal.returns-else-two
-returns-else-two c = rw c.if-two.false
