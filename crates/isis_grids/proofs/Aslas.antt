@@ -3,12 +3,11 @@ use mathlib.Core.Path.{◌≡◌, refl, sym, ap, ap₂, ◌∙◌, subst}
 use mathlib.Core.Logic.{◌⊎◌, inl, inr, ⊎_elim}
 use mathlib.Core.Bool.{Bool, true, false, cond, ◌&&◌, ◌||◌, not}
 use mathlib.Core.List.{List, [], ◌∷◌, ◌++◌}
-use Prim.Native.Nat.{ℕ, ◌+◌, ◌-◌, ◌≤◌, ◌<◌}
+use Prim.Native.Nat.{ℕ, ◌+◌, ◌-◌, ◌≤◌}
 use native.Mathlib.Omega.{arith}
-use native.Mathlib.Nat.{zero-add}
 use borrow.Author.Tests.{eqb-true, eqb-false, eq-eqb, ne_eqb, ltb-false}
 use lib.Dec.{eqb, ltb}
-use lib.ListN.{length, take, drop, get_or, length-take}
+use lib.ListN.{length, take, drop, get_or}
 use lib.Seq.{drop-length, drop_at}
 use Rattle.linkstate.specs.Lists.{each, keep}
 use Rattle.linkstate.specs.Bytes.{bytes_at}
@@ -18,16 +17,16 @@ use Rattle.linkstate.specs.Attributes.{Attribute}
 use Rattle.linkstate.specs.Sides.{Advertisement, names, general, rsvp_te_alone, of_live}
 use Rattle.linkstate.proofs.ElementLaws.{none_left}
 use Rattle.linkstate.proofs.ListLaws.{keep_append, each_append}
-use Rattle.linkstate.proofs.WalkLaws.{left, not-accepted, once-faults}
+use Rattle.linkstate.proofs.WalkLaws.{not-accepted, once-faults}
 use Rattle.octets.proofs.Laws.{length-bytes_at, bytes_at-add}
 use Rattle.isis.specs.MaskHeader.{l_flag, mask_too_long, l_for_nobody, header_length, advertisement}
-use Rattle.isis.specs.RunA.{list_elements, check_attribute, known_type, check_asla, check_a, attributes_of, live_asla, asla_advertisements, side_a}
+use Rattle.isis.specs.RunA.{list_elements, check_attribute, known_type, check_asla, attributes_of, live_asla, asla_advertisements, side_a}
 use Rattle.isis_grids.specs.declared.Which.{Which}
 use Rattle.isis_grids.specs.declared.Which.TheVariants.{Naming, General, RsvpTeAlone, WithoutL}
-use Rattle.isis_grids.specs.Grid.{unchecked}
-use Rattle.isis_grids.specs.Selected.{selects, list_from, list_at, Headed, value_at, selected}
+use Rattle.isis_grids.specs.Selected.{selects, list_from, Headed, selected}
+use Rattle.frames.specs.Uncut.{Uncut, uncut as is_uncut}
+use Rattle.frames.proofs.Walks.{uncut}
 use Rattle.isis_grids.proofs.Grids.{All}
-use Rattle.isis_grids.proofs.Walks.{framed, element_at, inside, passed, turn}
 
 -- ---- one ASLA
 
@@ -137,20 +136,13 @@ module _ (w : Which) (v : List ℕ) where
   pub list-within : Headed v → list_from w v ≤ length v
   list-within h = ⊎_elim (λ e. omega arith) (λ e. omega (arith, e.0, h.1 e.2)) list_cases
 
-  pub list-framed : (at : ℕ) → check_asla at v ≡ accepted → faults run_a unchecked (elements 1 (at + 2 + list_from w v) (drop (list_from w v) v)) ≡ accepted
-  unfolding faults list_elements
-  list-framed at ok =
+  pub list-uncut : (at : ℕ) → check_asla at v ≡ accepted → Uncut (elements 1 (at + 2 + list_from w v) (drop (list_from w v) v))
+  unfolding list_elements
+  list-uncut at ok =
       ⊎_elim
-      (λ e. ap (λ (k : ℕ). faults run_a unchecked (elements 1 (at + 2 + k) (drop k v))) e ∙ ap (λ (l : List ℕ). faults run_a unchecked (elements 1 (at + 2 + length v) l)) (drop-length v) ∙ ap (faults run_a unchecked) (none_left 1 (at + 2 + length v)))
-      (λ e. ap (λ (k : ℕ). faults run_a unchecked (elements 1 (at + 2 + k) (drop k v))) e.0 ∙ framed check_attribute (list_elements at v) (list-ok at v ok e.2 e.1))
+      (λ e. ap (λ (k : ℕ). is_uncut (elements 1 (at + 2 + k) (drop k v))) e ∙ ap (λ (l : List ℕ). is_uncut (elements 1 (at + 2 + length v) l)) (drop-length v) ∙ ap is_uncut (none_left 1 (at + 2 + length v)))
+      (λ e. ap (λ (k : ℕ). is_uncut (elements 1 (at + 2 + k) (drop k v))) e.0 ∙ uncut run_a check_attribute (list_elements at v) (list-ok at v ok e.2 e.1))
       list_cases
-
--- As the code has it, of the ASLA at a position of the run.
-module _ (w : Which) (a : List ℕ) (at : ℕ) where
-  -- anything but an ASLA has no list
-  pub list-other : (get_or a at 0 ≡ 16 → ⊥) → at + 2 + get_or a (at + 1) 0 ≡ list_at w a at
-  unfolding list_at
-  list-other n = rw (ne_eqb (get_or a at 0) 16 n)
 
 -- What holds of the attributes of every list that is read holds of those that are selected.
 pub all-selected : (P : Attribute → Type 0) (w : Which) (at t : ℕ) (v : List ℕ) → (t ≡ 16 → l_flag v ≡ false → mask_too_long v ≡ false → All P (each attributes_of (list_elements at v))) → All P (selected w (element at t v))
@@ -179,7 +171,7 @@ pub live_all : (w : Which) (a : List ℕ) → of_live (selects w) (side_a a) ≡
 unfolding of_live side_a
 live_all w a = selected-all w (elements 1 0 a)
 
--- ---- a turn of a loop over run A that reads the selected lists
+-- ---- a list as a part of the run
 
 -- What follows a position inside a part, as a part of the run.
 bytes_of : (s : List ℕ) (p n : ℕ) → take n (drop p s) ≡ bytes_at s p n
@@ -196,78 +188,13 @@ part-drop s p n k h l =
     ∙ sym (drop_at (bytes_at s p k) (bytes_at s (p + k) m) k (length-bytes_at s p k (omega arith)))
     ∙ ap (drop k) (sym (bytes_at-add s p k m) ∙ ap (bytes_at s p) f)
 
+-- The value of the element at a position, by its length byte.
+abbrev pub value_at : List ℕ → ℕ → List ℕ
+value_at a at = bytes_at a (at + 2) (get_or a (at + 1) 0)
+
 -- The part of the run from a position to the end of the element at another.
 abbrev pub list_part : List ℕ → ℕ → ℕ → List ℕ
 list_part a at from = take (at + 2 + get_or a (at + 1) 0 - from) (drop from a)
-
--- An ASLA at a position has passed its checks.
-module _ (a : List ℕ) (at : ℕ) (here : at < length a) (ok : faults run_a check_a (left 1 0 a at) ≡ accepted) (asla : get_or a at 0 ≡ 16) where
-  asla-ok : check_asla at (value_at a at) ≡ accepted
-  unfolding check_a
-  asla-ok =
-      let p : check_a (0 + at) (get_or a at 0) (value_at a at) ≡ accepted = passed check_a 0 a at here ok in
-      ap (λ (i : ℕ). check_asla i (value_at a at)) (sym (zero-add at)) ∙ (rw asla at p)
-
-  pub asla-headed : Headed (value_at a at)
-  asla-headed = headed at (value_at a at) asla-ok
-
-module _ (w : Which) (a : List ℕ) (at : ℕ) (here : at < length a) (ok : faults run_a check_a (left 1 0 a at) ≡ accepted) where
-  -- The list at a position: framed, and with the attributes that are selected here.
-  abbrev Listed : ℕ → Type 0
-  Listed from = (faults run_a unchecked (elements 1 from (list_part a at from)) ≡ accepted) × (selected w (element_at 0 a at) ≡ each attributes_of (elements 1 from (list_part a at from)))
-
-  empty-list : (from : ℕ) → at + 2 + get_or a (at + 1) 0 ≤ from → list_part a at from ≡ []
-  empty-list from h = let z : at + 2 + get_or a (at + 1) 0 - from ≡ 0 = omega arith in ap (λ (n : ℕ). take n (drop from a)) z
-
-  listed-other : (get_or a at 0 ≡ 16 → ⊥) → Listed (at + 2 + get_or a (at + 1) 0)
-  unfolding faults each
-  listed-other n =
-      let i = at + 2 + get_or a (at + 1) 0 in
-      let e : elements 1 i (list_part a at i) ≡ [] = ap (elements 1 i) (empty-list i (omega arith)) ∙ none_left 1 i in
-      (ap (faults run_a unchecked) e, selected-other w (0 + at) (get_or a at 0) (value_at a at) n ∙ sym (ap (each attributes_of) e))
-
-  listed-asla : get_or a at 0 ≡ 16 → Listed (at + 2 + list_from w (value_at a at))
-  listed-asla asla =
-      let n = get_or a (at + 1) 0 in
-      let k = list_from w (value_at a at) in
-      let i = inside check_a 0 a at here ok in
-      let h : k ≤ n = omega (arith, list-within w (value_at a at) (asla-headed a at here ok asla), length-bytes_at a (at + 2) n i) in
-      let e : list_part a at (at + 2 + k) ≡ drop k (value_at a at) = part-drop a (at + 2) n k h i in (
-        ap (λ (l : List ℕ). faults run_a unchecked (elements 1 (at + 2 + k) l)) e ∙ list-framed w (value_at a at) at (asla-ok a at here ok asla),
-        ap (λ (o : ℕ). selected w (element o (get_or a at 0) (value_at a at))) (zero-add at)
-            ∙ selected-asla w at (get_or a at 0) (value_at a at) asla ∙ ap (λ (l : List ℕ). each attributes_of (elements 1 (at + 2 + k) l)) (sym e),
-      )
-
-  listed : (from : ℕ) → from ≡ list_at w a at → Listed from
-  unfolding list_at
-  listed from e = subst Listed (sym e) (go (eqb (get_or a at 0) 16) refl)
-    where
-      go : (b : Bool) → eqb (get_or a at 0) 16 ≡ b → Listed (cond b (at + 2 + list_from w (value_at a at)) (at + 2 + get_or a (at + 1) 0))
-      go true i = listed-asla (eqb-true (get_or a at 0) 16 i)
-      go false i = listed-other (eqb-false (get_or a at 0) 16 i)
-
-  pub list-part-framed : (from : ℕ) → from ≡ list_at w a at → faults run_a unchecked (elements 1 from (list_part a at from)) ≡ accepted
-  list-part-framed from e = (listed from e).0
-
-  pub list-part-room : (from : ℕ) → from < at + 2 + get_or a (at + 1) 0 → from + length (list_part a at from) ≤ length a
-  list-part-room from h = omega (arith, inside check_a 0 a at here ok, length-take (at + 2 + get_or a (at + 1) 0 - from) (drop from a))
-
-  -- What gathers attributes list by list gathers those of the run element by element.
-  module _ {G : Type 0} (F : G → List Attribute → G) (none : (g : G) → F g [] ≡ g) (joins : (g : G) (ts us : List Attribute) → F g (ts ++ us) ≡ F (F g ts) us) (g : G) (from : ℕ) (e : from ≡ list_at w a at) where
-    abbrev Rest : G → Type 0
-    Rest h = F h (each (selected w) (left 1 0 a (at + 2 + get_or a (at + 1) 0))) ≡ F g (each (selected w) (left 1 0 a at))
-
-    pub live-read : (h : G) → h ≡ F g (each attributes_of (elements 1 from (list_part a at from))) → Rest h
-    live-read h f =
-        let rest = each (selected w) (left 1 0 a (at + 2 + get_or a (at + 1) 0)) in
-        ap (λ (x : G). F x rest) (f ∙ ap (F g) (sym (listed from e).1))
-        ∙ sym (joins g (selected w (element_at 0 a at)) rest) ∙ ap (F g) (sym (turn check_a 0 a at here ok (selected w)))
-
-    pub live-unread : at + 2 + get_or a (at + 1) 0 ≤ from → Rest g
-    unfolding each
-    live-unread l =
-        live-read g
-        (sym (ap (λ (v : List ℕ). F g (each attributes_of (elements 1 from v))) (empty-list from l) ∙ ap (λ (es : List Element). F g (each attributes_of es)) (none_left 1 from) ∙ none g))
 
 -- ---- what an ASLA gives to those who select it, by its header
 

@@ -1,23 +1,15 @@
 -- The turns of the loops over run A and over attribute lists, where the checks have passed.
-use mathlib.Core.Path.{◌≡◌, refl, sym, ap, ◌∙◌}
-use mathlib.Core.List.{List, [], ◌∷◌, ◌++◌}
+use mathlib.Core.Path.{◌≡◌, sym, ap, ◌∙◌}
+use mathlib.Core.List.{List, ◌++◌}
 use Prim.Native.Nat.{ℕ, ◌+◌, ◌≤◌, ◌<◌}
 use native.Mathlib.Omega.{arith}
 use native.Mathlib.Nat.{add-zero}
 use lib.ListN.{length, get_or}
 use Rattle.linkstate.specs.Lists.{each}
 use Rattle.linkstate.specs.Bytes.{bytes_at}
-use Rattle.linkstate.specs.Replies.{Verdict, accepted, run_a, ◌then◌}
-use Rattle.linkstate.specs.Elements.{Element, element, cut, elements, faults}
-use Rattle.linkstate.proofs.WalkLaws.{left, type-one, length-one, faults-passed, each_turn, then-second, not-accepted}
-use Rattle.isis_grids.specs.Grid.{unchecked}
-
--- What passes its checks is framed.
-pub framed : (check : ℕ → ℕ → List ℕ → Verdict) (es : List Element) → faults run_a check es ≡ accepted → faults run_a unchecked es ≡ accepted
-unfolding faults unchecked ◌then◌
-framed check [] h = refl
-framed check (cut at ∷ es) h = absurd (not-accepted 3 run_a at h)
-framed check (element at t v ∷ es) h = framed check es (then-second (check at t v) (faults run_a check es) h)
+use Rattle.linkstate.specs.Replies.{Verdict, accepted, run_a}
+use Rattle.linkstate.specs.Elements.{Element, element, elements, faults}
+use Rattle.linkstate.proofs.WalkLaws.{left, type-one, length-one, faults-passed, each_turn}
 
 -- ---- one turn
 

@@ -1,7 +1,6 @@
 -- Which advertisements a grid is filled from, and where their attribute lists begin.
-use Rattle.std.specs.Prelude.{◌≡◌, Bool, false, cond, not, List, [], ℕ, ◌+◌, ◌≤◌, eqb, length, get_or}
+use Rattle.std.specs.Prelude.{◌≡◌, Bool, true, false, cond, not, List, [], ℕ, ◌≤◌, length, Option, Some, None}
 use Rattle.linkstate.specs.Lists.{keep, each}
-use Rattle.linkstate.specs.Bytes.{bytes_at}
 use Rattle.linkstate.specs.Elements.{Element}
 use Rattle.linkstate.specs.Attributes.{Attribute}
 use Rattle.linkstate.specs.Sides.{Advertisement, names, general, rsvp_te_alone}
@@ -25,11 +24,6 @@ unflagged standard user = record { L = false; standard_mask = standard; user_mas
 unfoldable pub list_from : Which → List ℕ → ℕ
 list_from w v = cond (l_flag v) (length v) (cond (mask_too_long v) (length v) (cond (selects w (advertisement v [])) (header_length v) (length v)))
 
--- Where in run A the list of the element at a position begins: at the element's end where it is no ASLA, or none to read.
-unfoldable pub list_at : Which → List ℕ → ℕ → ℕ
-list_at w a at =
-    cond (eqb (get_or a at 0) 16) (at + 2 + list_from w (bytes_at a (at + 2) (get_or a (at + 1) 0))) (at + 2 + get_or a (at + 1) 0)
-
 -- The value of an ASLA whose checks have passed: it has its fixed bytes, and its masks unless they are too long to be read.
 abbrev pub Headed : List ℕ → Type 0
 Headed v = (2 ≤ length v) × (mask_too_long v ≡ false → header_length v ≤ length v)
@@ -38,19 +32,16 @@ Headed v = (2 ≤ length v) × (mask_too_long v ≡ false → header_length v �
 unfoldable pub is_taken : Which → List ℕ → Bool
 is_taken w v = cond (l_flag v) false (cond (mask_too_long v) false (selects w (advertisement v [])))
 
--- The value of the element at a position, by its length byte.
-abbrev pub value_at : List ℕ → ℕ → List ℕ
-value_at a at = bytes_at a (at + 2) (get_or a (at + 1) 0)
+-- An ASLA whose masks are read, by its value.
+pub record Read (v : List ℕ) : Type 0 where
+  pub headed : Headed v
+  pub plain : l_flag v ≡ false
+  pub short : mask_too_long v ≡ false
 
--- The ASLA at a position of a run that passed its checks, and one whose masks are read.
-pub record AslaAt (a : List ℕ) (at : ℕ) : Type 0 where
-  pub inside : at + 2 + get_or a (at + 1) 0 ≤ length a
-  pub headed : Headed (value_at a at)
-
-pub record ReadAt (a : List ℕ) (at : ℕ) : Type 0 where
-  pub asla : AslaAt a at
-  pub plain : l_flag (value_at a at) ≡ false
-  pub short : mask_too_long (value_at a at) ≡ false
+-- Where its list begins, if it is selected and its list read.
+abbrev pub ListIn : Which → List ℕ → Option ℕ → Type 0
+ListIn w v None = is_taken w v ≡ false
+ListIn w v (Some n) = (is_taken w v ≡ true) × (n ≡ header_length v) × (n ≤ length v)
 
 -- The attributes of the advertisements of an element that are selected.
 unfoldable pub selected : Which → Element → List Attribute

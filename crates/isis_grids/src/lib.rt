@@ -12,10 +12,13 @@ ghost use Rattle.linkstate.specs.Sides.{names, rsvp_te_alone, of_live};
 ghost use Rattle.isis.specs.Types.{code_of_type};
 ghost use Rattle.isis.specs.MaskHeader.{l_flag, mask_too_long, advertisement};
 ghost use Rattle.isis.specs.RunA.{attributes_of, check_a, side_a};
-ghost use Rattle.isis_grids.specs.Grid.{row_of, unchecked};
-ghost use Rattle.isis_grids.specs.Selected.{selects, list_at, is_taken, value_at, AslaAt, ReadAt};
+ghost use Rattle.frames.specs.Left.{of_whole};
+ghost use Rattle.frames.specs.Uncut.{Uncut};
+ghost use Rattle.isis_grids.specs.Grid.{row_of};
+ghost use Rattle.isis_grids.specs.Selected.{selects, selected, is_taken, Headed, Read, ListIn};
 ghost use Rattle.isis_grids.specs.declared.Which.TheVariants.{General};
 
+use frames::{Element, One, Whole};
 use octets::Span;
 
 // The type in run A of a code; SRLG has none.
@@ -45,106 +48,103 @@ pub enum Which {
     WithoutL,
 }
 
-// Whether the ASLA at a position is without L, and its masks are not too long to be read: with L the first byte is 128 or more.
-fn is_read(a: &[u8], at: usize) -> bool
-    requires { AslaAt a.now at }
-    ensures { result ≡ not (l_flag (value_at a.now at)) && not (mask_too_long (value_at a.now at)) }
+// Whether the ASLA of a value is without L, and its masks are not too long to be read: with L the first byte is 128 or more.
+fn is_read(v: &[u8]) -> bool
+    requires { Headed v.now }
+    ensures { result ≡ not (l_flag v.now) && not (mask_too_long v.now) }
 {
-    if 8 < a[at + 2] {
+    if 8 < v[0] {
         return false;
     }
-    a[at + 3] % 128 <= 8
+    v[1] % 128 <= 8
 }
 
 // Whether such an ASLA names an application.
-fn names_at(a: &[u8], at: usize, n: u32) -> bool
-    requires { ReadAt a.now at }
-    ensures { result ≡ names n (advertisement (value_at a.now at) []) }
+fn names_in(v: &[u8], n: u32) -> bool
+    requires { Read v.now }
+    ensures { result ≡ names n (advertisement v.now []) }
 {
-    let standard = usize::from(a[at + 2]);
+    let standard = usize::from(v[0]);
     if n < 64 {
-        return masks::bit_at(a, at + 4, standard, n);
+        return masks::bit_at(v, 2, standard, n);
     }
     if 96 <= n {
         return false;
     }
-    let user = usize::from(a[at + 3] % 128);
-    masks::bit_at(a, at + 4 + standard, user, n - 64)
+    let user = usize::from(v[1] % 128);
+    masks::bit_at(v, 2 + standard, user, n - 64)
 }
 
 // Whether RSVP-TE's is its only bit.
-fn is_alone(a: &[u8], at: usize) -> bool
-    requires { ReadAt a.now at }
-    ensures { result ≡ rsvp_te_alone (advertisement (value_at a.now at) []) }
+fn is_alone(v: &[u8]) -> bool
+    requires { Read v.now }
+    ensures { result ≡ rsvp_te_alone (advertisement v.now []) }
 {
-    if !names_at(a, at, 0) {
+    if !names_in(v, 0) {
         return false;
     }
-    let m = at + 4 + usize::from(a[at + 2]);
-    let e = m + usize::from(a[at + 3] % 128);
-    masks::rsvp_te_alone(&a[at + 4..m], &a[m..e])
+    let m = 2 + usize::from(v[0]);
+    let e = m + usize::from(v[1] % 128);
+    masks::rsvp_te_alone(&v[2..m], &v[m..e])
 }
 
 // Whether both its masks have no byte; with L the first byte is not 0.
-fn is_general(a: &[u8], at: usize) -> bool
-    requires { AslaAt a.now at }
-    ensures { result ≡ is_taken General (value_at a.now at) }
+fn is_general(v: &[u8]) -> bool
+    requires { Headed v.now }
+    ensures { result ≡ is_taken General v.now }
 {
-    if a[at + 2] != 0 {
+    if v[0] != 0 {
         return false;
     }
-    a[at + 3] % 128 == 0
+    v[1] % 128 == 0
 }
 
-// Whether the ASLA at a position is selected, and its list read.
-fn is_selected(a: &[u8], at: usize, which: Which) -> bool
-    requires { AslaAt a.now at }
-    ensures { result ≡ is_taken which (value_at a.now at) }
+// Whether the ASLA of a value is selected, and its list read.
+fn is_selected(v: &[u8], which: Which) -> bool
+    requires { Headed v.now }
+    ensures { result ≡ is_taken which v.now }
 {
     match which {
         Which::Naming(n) => {
-            if !is_read(a, at) {
+            if !is_read(v) {
                 return false;
             }
-            names_at(a, at, n)
+            names_in(v, n)
         }
-        Which::General => is_general(a, at),
+        Which::General => is_general(v),
         Which::RsvpTeAlone => {
-            if !is_read(a, at) {
+            if !is_read(v) {
                 return false;
             }
-            is_alone(a, at)
+            is_alone(v)
         }
-        Which::WithoutL => is_read(a, at),
+        Which::WithoutL => is_read(v),
     }
 }
 
-// Where in run A the list of the ASLA at a position begins: at the ASLA's end where there is none to read, or it is not selected.
-fn list_at(a: &[u8], at: usize, which: Which) -> usize
-    requires { (get_or a.now at 0 ≡ 16) × AslaAt a.now at }
-    ensures { result ≡ list_at which a.now at }
+// Where in the value of an ASLA its list begins, if it is selected and its list read.
+fn list_in(v: &[u8], which: Which) -> Option<usize>
+    requires { Headed v.now }
+    ensures { ListIn which v.now result }
 {
-    if is_selected(a, at, which) {
-        return at + 4 + usize::from(a[at + 2]) + usize::from(a[at + 3] % 128);
+    if !is_selected(v, which) {
+        return None;
     }
-    at + 2 + usize::from(a[at + 1])
+    Some(2 + usize::from(v[0]) + usize::from(v[1] % 128))
 }
 
 // The row of one kind, by its type, in a list whose first byte is at an offset of run A.
 fn row_in(s: &[u8], base: usize, t: u8) -> Option<Span>
-    requires { (code_of_type t ≡ 0 → ⊥) × (base + length s.now < 18446744073709551616) × (faults run_a unchecked (elements 1 base s.now) ≡ accepted) }
+    requires { (code_of_type t ≡ 0 → ⊥) × (base + length s.now < 18446744073709551616) × Uncut (elements 1 base s.now) }
     ensures { result ≡ row_of (code_of_type t) (each attributes_of (elements 1 base s.now)) }
 {
-    let mut at = 0;
-    while at < s.len() {
-        let len = s[at + 1] as usize;
-        if s[at] == t {
+    for Element { at, kind, value } in Whole::<One>::new(s, base) {
+        if kind == usize::from(t) {
             return Some(Span {
-                place: base + at + 2,
-                len,
+                place: at + 2,
+                len: value.len(),
             });
         }
-        at = at + 2 + len;
     }
     None
 }
@@ -157,25 +157,28 @@ pub fn legacy_row(a: &[u8], t: u8) -> Option<Span>
     row_in(a, 0, t)
 }
 
+// The row of one kind, by its type, in the list of a sub-TLV of run A, if that is an ASLA which is selected.
+fn row_of_one(e: Element, which: Which, t: u8) -> Option<Span>
+    requires { (code_of_type t ≡ 0 → ⊥) × (e.at + 2 + length e.value.now < 18446744073709551616) × (check_a e.at e.kind e.value.now ≡ accepted) }
+    ensures { result ≡ row_of (code_of_type t) (selected which (of_whole e.entry)) }
+{
+    if e.kind != 16 {
+        return None;
+    }
+    let first = list_in(e.value, which)?;
+    row_in(&e.value[first..], e.at + 2 + first, t)
+}
+
 // The row of one kind, by its type, in the live ASLA sub-TLVs that are selected.
 pub fn live_row(a: &[u8], which: Which, t: u8) -> Option<Span>
     requires { (code_of_type t ≡ 0 → ⊥) × (faults run_a check_a (elements 1 0 a.now) ≡ accepted) }
     ensures { result ≡ row_of (code_of_type t) (of_live (selects which) (side_a a.now)) }
 {
-    let mut at = 0;
-    while at < a.len() {
-        let n = a[at + 1] as usize;
-        let next = at + 2 + n;
-        if a[at] == 16 {
-            let from = list_at(a, at, which);
-            if from < next {
-                let row = row_in(&a[from..next], from, t);
-                if row.is_some() {
-                    return row;
-                }
-            }
+    for e in Whole::<One>::new(a, 0) {
+        let row = row_of_one(e, which, t);
+        if row.is_some() {
+            return row;
         }
-        at = next;
     }
     None
 }
