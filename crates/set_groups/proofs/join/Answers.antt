@@ -1,14 +1,7 @@
 -- A member more of the entry that was found, or an entry more.
 use native.Mathlib.Omega.{arith}
-use Rattle.set_groups.specs.Table.{word}
-use Rattle.set_groups.proofs.Laws.{first-of, joined-there, joined-last}
+use Rattle.set_groups.proofs.Laws.{joined-there, joined-last}
 use Rattle.set_groups.proofs.join.Goals as goal
-
-pub find-requires : goal.find-requires
-find-requires c = let a = c.args in
-    let p = c.requires in
-    let b = c.bucket_of-b.ensures in
-    (p.0, p.1, p.5.entries, omega arith, first-of a.sets.run.now a.sets.rows.now (word a.groups.now) a.buckets.now a.count _ _ _ p.5 b.1 b.0 c.from-first.ensures)
 
 pub returns-in-Some : goal.returns-in-Some
 returns-in-Some c = let a = c.args in

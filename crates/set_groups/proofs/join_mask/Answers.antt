@@ -1,13 +1,10 @@
 -- What has joined is the table of all below the next.
 use Prim.Native.Nat.{ℕ, ◌+◌, ◌<◌}
-use mathlib.Core.Path.{refl, sym, ◌∙◌, subst}
+use mathlib.Core.Path.{sym, ◌∙◌, subst}
 use native.Mathlib.Omega.{arith}
 use Rattle.grids.specs.Slots.{IsSet}
 use Rattle.set_groups.proofs.Fills.{skipped, named_here, one_more, goes_on, all-past, next-low, next-here, next-none, next-ahead, slot_is, class-is}
 use Rattle.set_groups.proofs.join_mask.Goals as goal
-
-pub loop-t-init : goal.loop-t-init
-loop-t-init c = rw c.into_iter-t-iterator.ensures.into_iter_gives (refl, λ p from h b a. (from, b, a))
 
 pub join-count-requires : goal.join-count-requires
 join-count-requires c =
