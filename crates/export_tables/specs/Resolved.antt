@@ -3,12 +3,13 @@ use Rattle.std.specs.Prelude.{◌≡◌, Bool, true, List, map, ℕ, ◌+◌, �
 use Rattle.linkstate.specs.Limits.{most_numbers}
 use Rattle.linkstate.specs.Kinds.{codes}
 use Rattle.linkstate.specs.Attributes.{srlgs}
-use Rattle.linkstate.specs.Sides.{Side, general_set, application_set, has_legacy, rsvp_te_kind}
+use Rattle.linkstate.specs.Sides.{Side, general_set, application_set, rsvp_te_kind}
 use Rattle.linkstate.specs.Replies.{Exported}
 use Rattle.linkstate.specs.Meaning.{Meaning, row}
 use Rattle.linkstate.specs.Export.{top_value, export}
 use Rattle.rules.specs.declared.Names.{Names}
-use Rattle.rules.specs.Names.{Tells}
+use Rattle.rules.specs.declared.SideNames.{SideNames}
+use Rattle.rules.specs.Names.{TellsSide}
 use Rattle.masks.specs.Applications.{in_set}
 use Rattle.srlg_table.specs.declared.Used.{Used}
 use Rattle.srlg_classes.specs.Owned.{class_at, Roomy}
@@ -41,13 +42,12 @@ pub record Slotted (run : List ℕ) (sets own : List (List ℕ)) (p : ℕ → Bo
   pub unclassed : (a : ℕ) → a < 128 → class_at own a ≡ 0
 
 -- Numbers of 32 bits and rows of sources, as many as are used, that tell the SRLGs of a side with these names, and with a legacy value of the eleven kinds or without.
-pub record Listed (values : List ℕ) (rows : List (List ℕ)) (used : Used) (named : Names) (x : Bool) (side : Side) : Type 0 where
+pub record Listed (values : List ℕ) (rows : List (List ℕ)) (used : Used) (m : SideNames) (side : Side) : Type 0 where
   pub most : length values ≤ most_numbers
   pub small : (i : ℕ) → get_or values i 0 < 4294967296
   pub words : length values ≤ 64 * used.words
   pub sourced : Sourced values rows used.sources side
-  pub tells : Tells side.live named
-  pub old : x ≡ has_legacy side
+  pub tells : TellsSide side m
 
 -- Room for the classes of all subjects, for where these are written, and for a group of each application that passes a test.
 pub record Room (rows : List (List ℕ)) (used : Used) (named : Names) (own : List (List ℕ)) (p : ℕ → Bool) (classes groups : List (List ℕ))
@@ -66,13 +66,13 @@ asked n = in_set n.who
 -- What an export asks for: slots, room, and numbers and rows that tell the SRLGs of some side.
 pub record Ready (run : List ℕ) (n : Plan) (rows : List (List ℕ)) (values : List ℕ) (sets own classes groups : List (List ℕ)) (places : List ℕ) : Type 0 where
   pub slotted : Slotted run sets own (asked n) n.slot
-  pub room : Room rows n.used n.names own (asked n) classes groups places
-  pub listed : (side : Side) × Listed values rows n.used n.names n.legacy side
+  pub room : Room rows n.used n.side.names own (asked n) classes groups places
+  pub listed : (side : Side) × Listed values rows n.used n.side side
 
 -- It answers for every meaning that the table of sets and such a side resolve.
 abbrev pub AnswersAll : List ℕ → Plan → List (List ℕ) → List ℕ → List (List ℕ) → List (List ℕ) → List ℕ → Exported → Type 0
 AnswersAll run n rows values sets own buffer x =
-    (m : Meaning) (side : Side) → Listed values rows n.used n.names n.legacy side → Resolves m run sets own (asked n) n.slot side
+    (m : Meaning) (side : Side) → Listed values rows n.used n.side side → Resolves m run sets own (asked n) n.slot side
     → x ≡ answered n.measuring (export m) buffer
 
 -- Tables of which so many classes and groups are filled, and an export can be written from these. Nothing is written yet.

@@ -14,18 +14,16 @@ use export_bytes::Top;
 use grids::Sets;
 use masks::Applications;
 use replies::Refusal;
-use rules::Names;
+use rules::SideNames;
 use set_bytes::Srlgs;
 use srlg_table::Used;
 
-// What an export goes by: the applications that are named; whom the side of the SRLGs names, and whether its legacy attributes have a value of
-// the kinds of applications; how much of the sources of SRLGs is used; how many slots there are, and which is that of RSVP-TE's set; and whether the length
+// What an export goes by: the applications that are named; what the rule asks of the side of the SRLGs; how much of the sources of SRLGs is used; how many slots there are, and which is that of RSVP-TE's set; and whether the length
 // alone is asked for.
 #[derive(Clone, Copy)]
 pub struct Plan {
     pub who: Applications,
-    pub names: Names,
-    pub legacy: bool,
+    pub side: SideNames,
     pub used: Used,
     pub slots: usize,
     pub slot: usize,
@@ -113,7 +111,7 @@ fn export_slots(
     requires { Ready sets.run.now n rows.now values.now sets.rows.now own.old classes.old groups.old places.old }
     ensures { AnswersAll sets.entry.run.now n rows.now values.now sets.entry.rows.now own.old out.old (told_exported result out.new) }
 {
-    let k = srlg_classes::classify(rows, n.used, n.who, n.names, n.legacy, classes, own);
+    let k = srlg_classes::classify(rows, n.used, n.who, n.side, classes, own);
     let count = group(sets, own, n.who, k.general, groups);
     let t = Parts {
         classes: k.count,

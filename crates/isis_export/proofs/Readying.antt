@@ -9,15 +9,14 @@ use borrow.Author.Tests.{ltb-false, eqb-true, leb-true}
 use lib.Dec.{eqb, leb, ltb}
 use lib.ListN.{length, take, length-take}
 use Rattle.linkstate.specs.Attributes.{srlgs}
-use Rattle.linkstate.specs.Sides.{Side, names, of_live, general_set, has_legacy}
+use Rattle.linkstate.specs.Sides.{Side, names, of_live, general_set}
 use Rattle.linkstate.specs.Replies.{accepted, refused, Exported}
 use Rattle.linkstate.specs.Meaning.{meaning}
 use Rattle.linkstate.specs.Export.{export}
 use Rattle.linkstate.proofs.ListLaws.{and_l, and_r, or_l, or_r}
 use Rattle.linkstate.proofs.WalkLaws.{then-first, then-second, unrefused}
-use Rattle.rules.specs.declared.Names.{Names}
 use Rattle.rules.specs.declared.SideNames.{SideNames}
-use Rattle.rules.specs.Names.{Tells, Given}
+use Rattle.rules.specs.Names.{TellsSide, Given}
 use Rattle.srlg.specs.Ascending.{ascending}
 use Rattle.srlg_ranks.specs.Ranks.{picked, keep_from}
 use Rattle.srlg_table.specs.declared.Used.{Used}
@@ -89,11 +88,11 @@ both-short x y i j t = (leb-true x i (and_l (leb x i) (leb y j) t), leb-true y j
 -- ---- its SRLGs
 
 module _ {side : Side} {values : List ℕ} {rows : List (List ℕ)} {r : Indexed} (is : Indexes side values rows r) where
-  pub listed : {named : Names} {x : Bool} → Tells side.live named → x ≡ has_legacy side
-      → Listed (take r.count values) rows (record { words = (r.count + 63) / 64; sources = r.sources }) named x side
-  listed t o =
+  pub listed : {m : SideNames} → TellsSide side m
+      → Listed (take r.count values) rows (record { words = (r.count + 63) / 64; sources = r.sources }) m side
+  listed t =
       let l = length-take r.count values in
-      record { most = omega (arith, l, is.few); small = is.small; words = omega (arith, l, is.few); sourced = is.sourced; tells = t; old = o }
+      record { most = omega (arith, l, is.few); small = is.small; words = omega (arith, l, is.few); sourced = is.sourced; tells = t }
 
   pub in_use : InUse rows (record { words = (r.count + 63) / 64; sources = r.sources })
   in_use = record { words = omega (arith, is.few); sources = is.used }
@@ -111,10 +110,9 @@ none-legacy : srlgs (side_b [] []).legacy ≡ []
 unfolding computing
 none-legacy = refl
 
-pub listed-none : {rows : List (List ℕ)} {named : Names} {x : Bool} → Tells (side_b [] []).live named → x ≡ has_legacy (side_b [] [])
-    → Listed [] rows (record { words = 0; sources = 0 }) named x (side_b [] [])
+pub listed-none : {rows : List (List ℕ)} {m : SideNames} → TellsSide (side_b [] []) m → Listed [] rows (record { words = 0; sources = 0 }) m (side_b [] [])
 unfolding picked keep_from ascending
-listed-none t o =
+listed-none t =
     record {
       most = omega arith;
       small = λ i. omega arith;
@@ -129,7 +127,6 @@ listed-none t o =
             bare = λ e. sym none-legacy;
           };
       tells = t;
-      old = o;
     }
 
 -- ---- both
@@ -138,13 +135,13 @@ pub as-asked : {m n : Bool} → m ≡ n → (x : Exported) (result buffer : List
 as-asked h x result buffer e = e ∙ ap (λ (t : Bool). answered t result buffer) h
 
 module _ {a b c : List ℕ} {s : Sides} {used : Used} {measuring : Bool} {n : Link} {rows : List (List ℕ)} {values : List ℕ} where
-  pub ready : Passed a b c s → Joined s used measuring n → Listed values rows used s.b.names s.b.legacy (side_b b c) → (0 < used.words → InUse rows used)
+  pub ready : Passed a b c s → Joined s used measuring n → Listed values rows used s.b (side_b b c) → (0 < used.words → InUse rows used)
       → Ready a b c n rows values
   ready p j l w =
       record {
         passed = subst (PassedA a) (sym j.of.0) p.side_a;
         joined = j.both;
-        listed = subst (λ (u : Used). Listed values rows u n.b.names n.b.legacy (side_b b c)) (sym j.of.2)
-            (subst (λ (m : SideNames). Listed values rows used m.names m.legacy (side_b b c)) (sym j.of.1) l);
+        listed = subst (λ (u : Used). Listed values rows u n.b (side_b b c)) (sym j.of.2)
+            (subst (λ (m : SideNames). Listed values rows used m (side_b b c)) (sym j.of.1) l);
         used = subst (λ (u : Used). 0 < u.words → InUse rows u) (sym j.of.2) w;
       }

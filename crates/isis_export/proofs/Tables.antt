@@ -53,7 +53,7 @@ module _ {a b c : List ℕ} {n : Link} {rows : List (List ℕ)} {values : List �
 
   named_by : (i : ℕ) → p i ≡ named i (side_a a) || named i (side_b b c)
   named_by i = of.joined i ∙ ap₂ (λ (x y : Bool). x || y) (side-named (side_a a) n.a.names of.passed.tells.0 i)
-      (side-named (side_b b c) n.b.names of.listed.tells i)
+      (side-named (side_b b c) n.b.names of.listed.tells.0 i)
 
   -- Nobody from 96 on is named.
   retired : (i : ℕ) → 96 ≤ i → p i ≡ false

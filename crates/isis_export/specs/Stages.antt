@@ -1,13 +1,12 @@
 -- What is known of a link at the stages of its export: once its checks have passed, once its SRLGs are listed, and what the tables have room for.
-use Rattle.std.specs.Prelude.{◌≡◌, Bool, ◌||◌, List, [], ◌∷◌, ℕ, ◌+◌, ◌≤◌, ◌<◌, length, get_or, replicate}
+use Rattle.std.specs.Prelude.{◌≡◌, Bool, ◌||◌, List, ℕ, ◌+◌, ◌≤◌, ◌<◌, length, get_or, replicate}
 use Rattle.linkstate.specs.Limits.{most_sources}
 use Rattle.linkstate.specs.Replies.{accepted, run_a, run_b, Exported}
 use Rattle.linkstate.specs.Elements.{elements, faults}
 use Rattle.rules.specs.declared.SideNames.{SideNames}
 use Rattle.rules.specs.Names.{TellsSide}
 use Rattle.masks.specs.Applications.{in_set}
-use Rattle.srlg_ranks.specs.Ranks.{in_words}
-use Rattle.srlg_table.specs.Blocks.{size_of}
+use Rattle.srlg_classes.specs.Owned.{most_blocks}
 use Rattle.srlg_table.specs.declared.Used.{Used}
 use Rattle.set_table.specs.Tables.{how_many}
 use Rattle.set_groups.specs.Table.{left}
@@ -45,7 +44,7 @@ pub record InUse (rows : List (List ℕ)) (used : Used) : Type 0 where
 pub record Ready (a b c : List ℕ) (n : Link) (rows : List (List ℕ)) (values : List ℕ) : Type 0 where
   pub passed : PassedA a n.a
   pub joined : (i : ℕ) → in_set n.who i ≡ in_set n.a.names.named i || in_set n.b.names.named i
-  pub listed : Listed values rows n.used n.b.names n.b.legacy (side_b b c)
+  pub listed : Listed values rows n.used n.b (side_b b c)
   pub used : 0 < n.used.words → InUse rows n.used
 
 -- It is so of some runs B and C; and of all such the answer is theirs.
@@ -62,7 +61,7 @@ pub record Unowned (own : List (List ℕ)) : Type 0 where
 -- So many slots, classes and groups are enough for all whom the sides name, or either: slots from 3 on, three classes more, and an entry before the groups.
 pub record Enough (n : Link) (slots classes groups : ℕ) : Type 0 where
   pub slotted : (3 + how_many (in_set n.a.names.named) 128 ≤ slots) × (slots ≤ 256)
-  pub classed : (3 + size_of (in_words (n.b.names.named.standard ∷ n.b.names.named.user ∷ [])) ≤ classes) × (classes ≤ 99)
+  pub classed : (3 + most_blocks n.b.names ≤ classes) × (classes ≤ 99)
   pub grouped : 1 + left (in_set n.who) 1 ≤ groups
 
 -- Tables with that much room, and where classes are written. Nothing is written yet.

@@ -84,8 +84,7 @@ fn export_with(
     let s = fill_sets(a, n.a, sets, &mut own);
     let t = Plan {
         who: n.who,
-        names: n.b.names,
-        legacy: n.b.legacy,
+        side: n.b,
         used: n.used,
         slots: s.count,
         slot: s.rsvp,

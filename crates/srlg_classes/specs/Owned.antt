@@ -99,10 +99,14 @@ class_by LegacyFirst c first = first.legacy
 unfoldable pub rsvp_class : Names → Bool → List (List ℕ) → First → ℕ
 rsvp_class named x own first = class_by (rsvp_te_rule (in_set named.flagged 0) (in_set named.named 0) x) (class_at own 7) first
 
+-- How many applications are named: there are no more blocks of these.
+abbrev pub most_blocks : Names → ℕ
+most_blocks named = size_of (in_words (named.named.standard ∷ named.named.user ∷ []))
+
 -- What the tables must have room for: three classes, and one for each application that is named.
 pub record Roomy (rows : List (List ℕ)) (used : Used) (named : Names) (classes own : List (List ℕ)) : Type 0 where
   pub words : used.words ≤ 16
   pub sources : (2 ≤ used.sources) × (used.sources ≤ most_sources) × (used.sources ≤ length rows)
-  pub room : 3 + size_of (in_words (named.named.standard ∷ named.named.user ∷ [])) ≤ length classes
+  pub room : 3 + most_blocks named ≤ length classes
   pub few : length classes ≤ 99
   pub whole : length own ≡ 128

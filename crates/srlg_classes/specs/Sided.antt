@@ -1,17 +1,22 @@
 -- What sources of SRLGs say of a side (rules W1 to W13), and the classes of what its subjects get.
-use Rattle.std.specs.Prelude.{◌≡◌, Bool, true, false, ◌&&◌, List, [], ℕ, ◌≤◌, ◌<◌, length, get_or}
+use Rattle.std.specs.Prelude.{◌≡◌, Bool, true, false, ◌&&◌, List, [], ℕ, ◌*◌, ◌≤◌, ◌<◌, length, get_or}
 use Rattle.linkstate.specs.Limits.{most_sources, most_numbers}
 use Rattle.linkstate.specs.Lists.{numbers, any, all, member}
 use Rattle.linkstate.specs.Attributes.{srlgs}
 use Rattle.linkstate.specs.Sides.{Side, names, named_with_l, of_live, general_set, application_set, rsvp_te_kind}
 use Rattle.masks.specs.Sets.{turned_place}
+use Rattle.masks.specs.declared.Applications.{Applications}
+use Rattle.masks.specs.Applications.{in_set}
+use Rattle.rules.specs.declared.SideNames.{SideNames}
+use Rattle.rules.specs.Names.{TellsSide}
 use Rattle.srlg.specs.Ascending.{ascending}
 use Rattle.srlg_ranks.specs.Ranks.{keep_from, in_words, picked}
 use Rattle.srlg_sources.specs.Sources.{in_rows, numbers_of}
 use Rattle.srlg_table.specs.Blocks.{naming}
+use Rattle.srlg_table.specs.declared.Used.{Used}
 use Rattle.srlg_sources.specs.Classes.{class_numbers, Classed, class_of}
 use Rattle.srlg_classes.specs.declared.Classes.{Classes}
-use Rattle.srlg_classes.specs.Owned.{in_named}
+use Rattle.srlg_classes.specs.Owned.{Slots, in_named}
 
 -- The first n rows over an ascending list tell the SRLGs of a side: source 1 the general ones, those of the advertisements that name an application what these carry together,
 -- and source 0 the legacy ones wherever somebody gets them, which is with L, or RSVP-TE where nothing else is for it.
@@ -49,3 +54,10 @@ pub record Classified (values : List ℕ) (rows classes own : List (List ℕ)) (
   pub application : (a : ℕ) → 0 < a → a < 128 → asked a ≡ true → Has values rows classes r.count (class_of own a) (srlgs (application_set a side))
   pub general : Has values rows classes r.count r.general (srlgs (general_set side))
   pub rsvp : Has values rows classes r.count r.rsvp (srlgs (rsvp_te_kind 1096 side))
+
+-- Slots stay, and classes are so of every side that the sources tell, and whose names and legacy attributes these are.
+abbrev pub ClassifiesAll : List (List ℕ) → Used → Applications → SideNames → List (List ℕ) → List (List ℕ) → List (List ℕ) → Classes → Type 0
+ClassifiesAll rows used who m own classes after r =
+    Slots own after
+    × ((values : List ℕ) (side : Side) → length values ≤ 64 * used.words → Sourced values rows used.sources side → TellsSide side m
+    → Classified values rows classes after (in_set who) side r)

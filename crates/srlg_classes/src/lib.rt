@@ -4,17 +4,14 @@
 #![tactic(auto)]
 
 ghost use Rattle.std.specs.Prelude.{◌≡◌, true, false, List, [], ◌∷◌, ℕ, ◌+◌, ◌*◌, ◌≤◌, ◌<◌, length, get_or};
-ghost use Rattle.linkstate.specs.Sides.{Side, has_legacy};
-ghost use Rattle.rules.specs.Names.{Tells};
-ghost use Rattle.masks.specs.Applications.{in_set};
 ghost use Rattle.srlg_ranks.specs.Ranks.{in_words};
 ghost use Rattle.srlg_table.specs.Blocks.{size_of};
 ghost use Rattle.srlg_table.specs.Tables.{Rowed, Table};
-ghost use Rattle.srlg_classes.specs.Owned.{class_at, Slots, in_half, Gave, Firsts, Assigned, NamedOwn, rsvp_class, FirstOwn, Roomy};
-ghost use Rattle.srlg_classes.specs.Sided.{Sourced, Classified};
+ghost use Rattle.srlg_classes.specs.Owned.{class_at, Slots, in_half, Gave, Firsts, Assigned, NamedOwn, rsvp_class, FirstOwn, most_blocks, Roomy};
+ghost use Rattle.srlg_classes.specs.Sided.{ClassifiesAll};
 
 use masks::{Applications, Bits};
-use rules::{Names, Rule};
+use rules::{Names, Rule, SideNames};
 use srlg_table::Used;
 
 // The classes of the general set and of RSVP-TE, and how many classes there are.
@@ -112,7 +109,7 @@ fn give_named(
     blocks: &mut [[u64; 4]],
     count: usize,
 ) -> usize
-    requires { (used.words ≤ 16) × (2 ≤ used.sources) × (used.sources ≤ 128) × (used.sources ≤ length rows.now) × (size_of (in_words (named.named.standard ∷ named.named.user ∷ [])) ≤ length blocks.old) × (count + size_of (in_words (named.named.standard ∷ named.named.user ∷ [])) ≤ length classes.old) × (count + size_of (in_words (named.named.standard ∷ named.named.user ∷ [])) ≤ length heads.old) × (length classes.old ≤ 256) × (length buckets.old ≡ 128) × (length own.old ≡ 128) × Table rows.now used.sources used.words classes.old heads.old buckets.old count }
+    requires { (used.words ≤ 16) × (2 ≤ used.sources) × (used.sources ≤ 128) × (used.sources ≤ length rows.now) × (most_blocks named ≤ length blocks.old) × (count + most_blocks named ≤ length classes.old) × (count + most_blocks named ≤ length heads.old) × (length classes.old ≤ 256) × (length buckets.old ≡ 128) × (length own.old ≡ 128) × Table rows.now used.sources used.words classes.old heads.old buckets.old count }
     ensures { NamedOwn rows.now used.sources used.words named classes.old own.old classes.new heads.new buckets.new own.new count result }
 {
     let by = named.named;
@@ -128,12 +125,13 @@ fn give_named(
 
 // The class of RSVP-TE by its rule: of its own numbers, where it is named without L and has some, of the general ones, else of the legacy ones. It has
 // place 7.
-fn rsvp_class(named: Names, legacy: bool, own: &[[u8; 2]; 128], first: First) -> usize
-    ensures { result ≡ rsvp_class named legacy own.now first }
+fn rsvp_class(side: SideNames, own: &[[u8; 2]; 128], first: First) -> usize
+    ensures { result ≡ rsvp_class side.names side.legacy own.now first }
 {
+    let named = side.names;
     let l = named.is_named_with_l(0);
     let n = named.is_named(0);
-    match rules::rsvp_te_rule(l, n, legacy) {
+    match rules::rsvp_te_rule(l, n, side.legacy) {
         Rule::NamingFirst => {
             let c = usize::from(own[7][1]);
             if c == 0 { first.legacy } else { c }
@@ -161,23 +159,22 @@ fn classify_in(
     rows: &[[u64; 18]],
     used: Used,
     who: Applications,
-    named: Names,
-    legacy: bool,
+    side: SideNames,
     classes: &mut [[u64; 4]],
     own: &mut [[u8; 2]; 128],
     heads: &mut [[u32; 2]],
     blocks: &mut [[u64; 4]],
 ) -> Classes
-    requires { Roomy rows.now used named classes.old own.old × (3 + size_of (in_words (named.named.standard ∷ named.named.user ∷ [])) ≤ length heads.old) × (size_of (in_words (named.named.standard ∷ named.named.user ∷ [])) ≤ length blocks.old) }
-    ensures { Slots own.old own.new × ((values : List ℕ) (side : Side) → length values ≤ 64 * used.words → Sourced values rows.now used.sources side → Tells side.live named → legacy ≡ has_legacy side → Classified values rows.now classes.new own.new (in_set who) side result) }
+    requires { Roomy rows.now used side.names classes.old own.old × (3 + most_blocks side.names ≤ length heads.old) × (most_blocks side.names ≤ length blocks.old) }
+    ensures { ClassifiesAll rows.now used who side own.old classes.new own.new result }
 {
     let mut buckets = [0u8; 128];
     let first = first_classes(rows, used, classes, heads, &mut buckets);
-    give_firsts(who, named, first, own);
+    give_firsts(who, side.names, first, own);
     let count = give_named(
         rows,
         used,
-        named,
+        side.names,
         classes,
         heads,
         &mut buckets,
@@ -187,7 +184,7 @@ fn classify_in(
     );
     Classes {
         general: first.general,
-        rsvp: rsvp_class(named, legacy, own, first),
+        rsvp: rsvp_class(side, own, first),
         count,
     }
 }
@@ -197,43 +194,30 @@ fn classify_with<const ROOM: usize>(
     rows: &[[u64; 18]],
     used: Used,
     who: Applications,
-    named: Names,
-    legacy: bool,
+    side: SideNames,
     classes: &mut [[u64; 4]],
     own: &mut [[u8; 2]; 128],
 ) -> Classes
-    requires { Roomy rows.now used named classes.old own.old × (length classes.old ≤ ROOM) × (ROOM ≤ 99) }
-    ensures { Slots own.old own.new × ((values : List ℕ) (side : Side) → length values ≤ 64 * used.words → Sourced values rows.now used.sources side → Tells side.live named → legacy ≡ has_legacy side → Classified values rows.now classes.new own.new (in_set who) side result) }
+    requires { Roomy rows.now used side.names classes.old own.old × (length classes.old ≤ ROOM) × (ROOM ≤ 99) }
+    ensures { ClassifiesAll rows.now used who side own.old classes.new own.new result }
 {
     let mut heads = [[1u32; 2]; ROOM];
     let mut blocks = [[1u64; 4]; ROOM];
-    classify_in(
-        rows,
-        used,
-        who,
-        named,
-        legacy,
-        classes,
-        own,
-        &mut heads,
-        &mut blocks,
-    )
+    classify_in(rows, used, who, side, classes, own, &mut heads, &mut blocks)
 }
 
-// The classes of what subjects get: of the applications of a set, which are all that are asked for, of the general set and of RSVP-TE. `named` is whom this side names,
-// `legacy` whether its legacy attributes have a value of the kinds of applications.
+// The classes of what subjects get: of the applications of a set, which are all that are asked for, of the general set and of RSVP-TE, by what the rule asks of this side.
 // Where no word of bits is used nobody has a number, and all applications keep class 0.
 pub fn classify(
     rows: &[[u64; 18]],
     used: Used,
     who: Applications,
-    named: Names,
-    legacy: bool,
+    side: SideNames,
     classes: &mut [[u64; 4]],
     own: &mut [[u8; 2]; 128],
 ) -> Classes
-    requires { (0 < used.words → Roomy rows.now used named classes.old own.old) × (used.words ≡ 0 → (0 < length classes.old) × (length own.old ≡ 128) × ((a : ℕ) → a < 128 → class_at own.old a ≡ 0)) }
-    ensures { Slots own.old own.new × ((values : List ℕ) (side : Side) → length values ≤ 64 * used.words → Sourced values rows.now used.sources side → Tells side.live named → legacy ≡ has_legacy side → Classified values rows.now classes.new own.new (in_set who) side result) }
+    requires { (0 < used.words → Roomy rows.now used side.names classes.old own.old) × (used.words ≡ 0 → (0 < length classes.old) × (length own.old ≡ 128) × ((a : ℕ) → a < 128 → class_at own.old a ≡ 0)) }
+    ensures { ClassifiesAll rows.now used who side own.old classes.new own.new result }
 {
     if used.words == 0 {
         classes[0] = [0; 4];
@@ -244,7 +228,7 @@ pub fn classify(
         };
     }
     if classes.len() <= 16 {
-        return classify_with::<16>(rows, used, who, named, legacy, classes, own);
+        return classify_with::<16>(rows, used, who, side, classes, own);
     }
-    classify_with::<99>(rows, used, who, named, legacy, classes, own)
+    classify_with::<99>(rows, used, who, side, classes, own)
 }

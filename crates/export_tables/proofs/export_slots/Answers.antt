@@ -11,7 +11,7 @@ group-count-requires c =
     let p = c.requires in
     let k = c.classify-k in
     let l = p.listed.1 in
-    let of = k.ensures.1 a.values.now p.listed.0 l.words l.sourced l.tells l.old in
+    let of = k.ensures.1 a.values.now p.listed.0 l.words l.sourced l.tells in
     let few : length k.new.classes ≤ 99 = omega (arith, p.room.few, k.auto.classes) in
     (p.slotted.slots, placed p.slotted k.ensures.0 of few, p.room.grouped, general-low p.slotted k.ensures.0 of few)
 
@@ -22,7 +22,7 @@ export_parts-requires c =
     let k = c.classify-k in
     let s = p.slotted in
     let l = p.listed.1 in
-    let of = k.ensures.1 a.values.now p.listed.0 l.words l.sourced l.tells l.old in
+    let of = k.ensures.1 a.values.now p.listed.0 l.words l.sourced l.tells in
     let few : length k.new.classes ≤ 99 = omega (arith, p.room.few, k.auto.classes) in
     let f = c.group-count.ensures in
     record {
@@ -39,7 +39,7 @@ returns c m side l so =
     let a = c.args in
     let p = c.requires in
     let k = c.classify-k in
-    let of = k.ensures.1 a.values.now side l.words l.sourced l.tells l.old in
+    let of = k.ensures.1 a.values.now side l.words l.sourced l.tells in
     let few : length k.new.classes ≤ 99 = omega (arith, p.room.few, k.auto.classes) in
     let f = c.group-count.ensures in
     c.export_parts.ensures m (describes p.slotted k.ensures.0 of few f.1 f.2 m so)

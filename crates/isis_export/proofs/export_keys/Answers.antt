@@ -6,11 +6,11 @@ pub export_listed-requires : goal.export_listed-requires
 export_listed-requires c =
     let p = c.requires.0 in
     let is = c.index_srlgs-k.ensures in
-    (is.few.1, (_, _, ready p c.link_of-n.ensures (listed is p.tells.0 p.tells.1) (λ h. in_use is)))
+    (is.few.1, (_, _, ready p c.link_of-n.ensures (listed is p.tells) (λ h. in_use is)))
 
 pub returns : goal.returns
 returns c =
     let p = c.requires.0 in
     let is = c.index_srlgs-k.ensures in
     let n = c.link_of-n.ensures in
-    as-asked n.of.3 _ _ _ (c.export_listed.ensures _ _ (ready p n (listed is p.tells.0 p.tells.1) (λ h. in_use is)))
+    as-asked n.of.3 _ _ _ (c.export_listed.ensures _ _ (ready p n (listed is p.tells) (λ h. in_use is)))

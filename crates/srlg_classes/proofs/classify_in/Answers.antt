@@ -17,7 +17,7 @@ returns c = let a = c.args in
     let o = c.give_named-count.ensures in
     let p = c.requires.0 in (
       slots-then a.own.now _ _ g.slots o.slots,
-      λ values side short so tells old.
-          settled a.rows.now a.used.sources a.used.words a.who a.named _ _ _ _ a.own.now _ _ _ _ _ _ c.first_classes-first.ensures g o
-          values side so tells a.legacy old short p.words p.sources.2 _ refl c.rsvp_class.ensures refl,
+      λ values side short so told.
+          settled a.rows.now a.used.sources a.used.words a.who a.side.names _ _ _ _ a.own.now _ _ _ _ _ _ c.first_classes-first.ensures g o
+          values side so told.0 a.side.legacy told.1 short p.words p.sources.2 _ refl c.rsvp_class.ensures refl,
     )
