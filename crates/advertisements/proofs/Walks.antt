@@ -31,6 +31,6 @@ module _ (run : Run) (p : Element → Bool) {es : List Element} {whole : Holder}
     unfolding first_with lookup
     found-later h = rw (e, h) at so
 
-  pub found-behind : {at : ℕ} {rest : List Element} → es ≡ cut at ∷ rest → p (cut at) ≡ false → first_with run p rest ≡ whole
+  pub found-cut : {at : ℕ} {rest : List Element} → es ≡ cut at ∷ rest → rest ≡ [] → p (cut at) ≡ false → nowhere ≡ whole
   unfolding first_with lookup
-  found-behind e h = rw (e, h) at so
+  found-cut e i h = rw (e, h, i) at so

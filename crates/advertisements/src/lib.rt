@@ -232,7 +232,7 @@ fn first_in<W: Width>(s: &[u8], run: Run, test: Test, kind: Option<usize>) -> Op
 {
     for e in Elements::<W>::new(s, 0) {
         let Ok(e) = e else {
-            continue;
+            return None;
         };
         if is_such(e, run, test, kind) {
             return Some(Place { run, offset: e.at });

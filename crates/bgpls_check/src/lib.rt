@@ -108,12 +108,12 @@ pub fn read_asla_header(v: &[u8]) -> AslaHeader
     }
 }
 
-// 0, 4 or 8.
+// 0, 4 or 8. A match of the three is some four instructions a 1122 more.
 #[tactic(auto, unfolding(linkstate::specs::BgpLs::is_mask_length))]
 fn is_mask_length(n: usize) -> bool
     ensures { result ≡ is_mask_length n }
 {
-    matches!(n, 0 | 4 | 8)
+    (n % 4 == 0) & (n <= 8)
 }
 
 // Whether a 1122 with these mask lengths is not ignored.

@@ -121,6 +121,23 @@ module _ (w : ℕ) (p : 0 < w) (base : ℕ) (s : List ℕ) (at : ℕ) where
           not-cut : cut (base + at) ∷ [] ≡ element o t v ∷ rest → ⊥
           not-cut z = let y : ◌≡◌ {A = ℕ} 0 1 = cc in omega arith
 
+  -- Behind an element that is cut off there is none.
+  pub cut-last : {o : ℕ} {rest : List Element} → left w base s at ≡ cut o ∷ rest → rest ≡ []
+  cut-last {o} {rest} e = go (leb (length s) at) refl (leb (at + (w + w) + length_at w s at) (length s)) refl
+    where
+      go : (b : Bool) → leb (length s) at ≡ b → (c : Bool) → leb (at + (w + w) + length_at w s at) (length s) ≡ c → rest ≡ []
+      go true h c g = absurd (nothing (sym (left_end w p base s at (leb-true (length s) at h)) ∙ e))
+        where
+          nothing : [] ≡ cut o ∷ rest → ⊥
+          nothing z = let y : ◌≡◌ {A = ℕ} 0 1 = cc in omega arith
+      go false h true g =
+          absurd (whole (sym (left-whole w p base s at (length_at w s at) refl (leb-true (at + (w + w) + length_at w s at) (length s) g)) ∙ e))
+        where
+          whole : {t : ℕ} {v : List ℕ} {es : List Element} → element (base + at) t v ∷ es ≡ cut o ∷ rest → ⊥
+          whole z = let y : ◌≡◌ {A = ℕ} 0 1 = cc in omega arith
+      go false h false g =
+          let z = sym (left_cut w p base s at (leb-false (length s) at h) (leb-false (at + (w + w) + length_at w s at) (length s) g)) ∙ e in cc
+
 -- ---- bounds
 
 -- Each element stands in what ends at an offset of the run.

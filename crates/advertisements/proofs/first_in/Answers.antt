@@ -1,13 +1,14 @@
 -- What is left finds what the whole does.
 use mathlib.Core.Path.{sym, ◌∙◌}
-use Rattle.frames.proofs.Walks.{gave-whole, gave-cut}
+use Rattle.frames.proofs.Walks.{gave-whole, gave-cut, cut-last}
 use Rattle.advertisements.proofs.Tests.{such-cut}
-use Rattle.advertisements.proofs.Walks.{found-none, found_here, found-later, found-behind}
+use Rattle.advertisements.proofs.Walks.{found-none, found_here, found-later, found-cut}
 use Rattle.advertisements.proofs.first_in.Goals as goal
 
-pub loop-e-preserved-in_default : goal.loop-e-preserved-in_default
-loop-e-preserved-in_default g c =
-    found-behind _ _ c.loop-e.invariant (gave-cut c.in_default.field-0 c.in_default.is c.in-Some.ensures.steps) (such-cut c.args.run c.args.test c.args.kind _)
+pub returns-in_default : goal.returns-in_default
+returns-in_default g c =
+    let e = gave-cut c.in_default.field-0 c.in_default.is c.in-Some.ensures.steps in
+    found-cut _ _ c.loop-e.invariant e (cut-last g.W.Width.BYTES g.met.W.Width.some _ _ _ e) (such-cut c.args.run c.args.test c.args.kind _)
 
 pub returns-then-is_such : goal.returns-then-is_such
 returns-then-is_such g c =
