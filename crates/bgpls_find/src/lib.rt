@@ -35,7 +35,7 @@ pub struct Part {
     pub next: usize,
 }
 
-// Whether the mask that an application's bit is in ends before that bit, by the lengths of the masks.
+// Whether the mask that an application's bit is in ends before that bit, by the lengths of the masks. `as`: std has no From<u32> for usize.
 fn ends_before(h: AslaHeader, set: Set) -> bool
     ensures { result ≡ ends_before set h.standard h.user }
 {
@@ -119,7 +119,7 @@ pub struct Start {
     pub next: usize,
 }
 
-// The first attribute of a kind in a set.
+// The first attribute of a kind in a set. A loop, here and below: the next list is looked for only where the one at hand did not end the search.
 pub fn first_in(r: &[u8], start: Start, code: usize) -> Option<Span>
     requires { (run_verdict r.now ≡ accepted) × Starts start.set r.now start.first start.next }
     ensures { result ≡ found_in (of_kind code (attributes_in start.set r.now)) }

@@ -21,7 +21,7 @@ ghost use Rattle.isis_grids.specs.declared.Which.TheVariants.{General};
 use frames::{Element, One, Whole};
 use octets::Span;
 
-// The type in run A of a code; SRLG has none.
+// The type in run A of a code; SRLG has none. `as`: that the difference fits a byte is proved, and TryFrom would add a case that never comes.
 pub fn type_of(code: usize) -> u8
     requires { (is_code code ≡ true) × (eqb code 1096 ≡ false) }
     ensures { code_of_type result ≡ code }

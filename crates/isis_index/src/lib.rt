@@ -36,7 +36,7 @@ fn enter_legacy(a: &[u8], sets: &mut [[u32; 12]], t: usize, place: usize, n: usi
     }
 }
 
-// An attribute of a general advertisement, by its type.
+// An attribute of a general advertisement, by its type. No twin of the one above: of the link's kinds only the first is taken, and to another cell.
 fn enter_general(a: &[u8], sets: &mut [[u32; 12]], t: usize, place: usize, n: usize)
     requires { Table a.now sets.old × (3 ≤ length sets.old) × Right a.now t place n }
     ensures { (v : List ℕ) → Took a.now sets.old sets.new heard_by_all (attribute_at t place n v ∷ []) }
@@ -94,7 +94,7 @@ fn general_list(a: &[u8], from: usize, end: usize, sets: &mut [[u32; 12]])
     }
 }
 
-// The list of an advertisement that names a set.
+// The list of an advertisement that names a set. Apart from the one above, since one function would ask for whom at each attribute.
 fn named_list(
     a: &[u8],
     from: usize,
