@@ -4,8 +4,8 @@ use mathlib.Core.Path.{◌≡◌, ◌∙◌, ap}
 use mathlib.Core.List.{[]}
 use lib.ListN.{length, get_or}
 use native.Mathlib.Omega.{arith}
-use Rattle.export_bytes.specs.Sizes.{asla_of, sum_from, entry_size, asla_size}
-use Rattle.export_bytes.proofs.SizeLaws.{measured, sum-start, sum-next, length_from, entry_from}
+use Rattle.export_bytes.specs.Sizes.{asla_of, entry_size, asla_size}
+use Rattle.export_bytes.proofs.SizeLaws.{sum-start, sum-next, length_from, entry_from}
 use Rattle.export_bytes.proofs.aslas_size.Goals as goal
 use Rattle.export_bytes.proofs.aslas_size.Goals.{After-read}
 
@@ -18,25 +18,9 @@ entry c = c.read.ensures ∙ ap asla_of (entry_from c.args.groups.now c.args.fir
 pub loop-h-init : goal.loop-h-init
 loop-h-init c = let a = c.args in (sum-start (entry_size a.sets.rows.now a.srlgs.classes.now a.groups.now) a.first, omega arith)
 
-pub size-total-requires : goal.size-total-requires
-size-total-requires c = let a = c.args in
-    let q = (goal.at.size-total-requires c).After-read in
-    let i = inside q in
-    measured a.sets.rows.now a.srlgs.classes.now a.groups.now c.requires.0 (a.first + c.loop-h.h-index) (omega arith) _ (entry q)
-
-pub overflow_add-total : goal.overflow_add-total
-overflow_add-total c = let i = inside (goal.at.overflow_add-total c).After-read in omega (arith, c.loop-h.invariant.1, c.size-total.ensures.1, c.requires.0.most)
-
 pub loop-h-preserved : goal.loop-h-preserved
 loop-h-preserved c = let a = c.args in
     let z = c.size-total.ensures in (
       sum-next (entry_size a.sets.rows.now a.srlgs.classes.now a.groups.now) a.first _ _ _ c.loop-h.invariant.0 (z.0 ∙ ap (asla_size a.sets.rows.now a.srlgs.classes.now) (entry (goal.at.loop-h-preserved c).After-read)),
       omega (arith, c.loop-h.invariant.1, z.1),
     )
-
-pub returns : goal.returns
-returns c = let a = c.args in
-    let l = c.loop-h in
-    let some = c.requires.0.some in
-    let n = length_from a.groups.now a.first (omega arith) in
-    (l.invariant.0 ∙ ap (sum_from (entry_size a.sets.rows.now a.srlgs.classes.now a.groups.now) a.first) (omega (arith, n, l.auto.h-index-end, c.loop-h-test.false)), omega (arith, l.invariant.1, n, l.auto.h-index-end, c.requires.0.most))

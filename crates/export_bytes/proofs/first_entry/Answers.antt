@@ -1,9 +1,6 @@
 use native.Mathlib.Omega.{arith}
-use Rattle.export_bytes.proofs.SizeLaws.{measured, first-none, first_some}
+use Rattle.export_bytes.proofs.SizeLaws.{first-none, first_some}
 use Rattle.export_bytes.proofs.first_entry.Goals as goal
-
-pub set_size-requires : goal.set_size-requires
-set_size-requires c = measured c.args.sets.rows.now c.args.srlgs.classes.now c.args.groups.now c.requires 0 c.requires.some _ c.read-e.ensures
 
 pub returns-then-set_size-eq0 : goal.returns-then-set_size-eq0
 returns-then-set_size-eq0 c = let a = c.args in (first-none a.sets.rows.now a.srlgs.classes.now a.groups.now _ c.read-e.ensures _ c.set_size.ensures.0 c.if-set_size-eq0.true, omega arith)

@@ -1,7 +1,5 @@
 -- Kind by kind.
-use mathlib.Core.Path.{◌∙◌, ap}
 use native.Mathlib.Omega.{arith}
-use Rattle.export_bytes.specs.Sizes.{link_size}
 use Rattle.export_bytes.proofs.SizeLaws.{link_start, link-next}
 use Rattle.export_bytes.proofs.link_size.Goals as goal
 
@@ -10,6 +8,3 @@ loop-k-init c = (link_start c.args.sets.now, omega arith)
 
 pub loop-k-preserved : goal.loop-k-preserved
 loop-k-preserved c = let l = c.loop-k in let z = c.bandwidth_size-total.ensures in (link-next c.args.sets.now l.k l.total _ l.invariant.0 z.0, omega (arith, l.invariant.1, z.1))
-
-pub returns : goal.returns
-returns c = let l = c.loop-k in (l.invariant.0 ∙ ap (link_size c.args.sets.now) (omega arith), omega (arith, l.invariant.1))

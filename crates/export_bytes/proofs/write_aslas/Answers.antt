@@ -7,7 +7,7 @@ use native.Mathlib.Omega.{arith}
 use native.Mathlib.Numerals.{unary_clauses}
 use Rattle.export_bytes.specs.Sizes.{asla_of}
 use Rattle.export_bytes.proofs.SizeLaws.{length_from, entry_from}
-use Rattle.export_bytes.proofs.Laws.{aslas-start, asla-asks, aslas-next, aslas-end}
+use Rattle.export_bytes.proofs.Laws.{aslas-start, asla-asks, aslas-next}
 use Rattle.export_bytes.proofs.write_aslas.Goals as goal
 use Rattle.export_bytes.proofs.write_aslas.Goals.{After-read}
 
@@ -33,15 +33,3 @@ loop-e-preserved c = let p = c.requires in
     let i = inside q in
     let on : c.args.first + (c.loop-e.e-index + 1) ≡ c.args.first + c.loop-e.e-index + 1 = omega arith in
     rw on (aslas-next p.0.tables p.0 p.1 p.2 p.3 c.loop-e.invariant (omega arith) (entry q) w.auto.places w.auto.out w.ensures)
-
-pub shape_of-places : goal.shape_of-places
-shape_of-places c = c.loop-e.invariant.still
-
-pub shape_of-out : goal.shape_of-out
-shape_of-out c = c.loop-e.invariant.kept
-
-pub returns : goal.returns
-returns c = let p = c.requires in
-    let some = p.1.some in
-    let n = length_from c.args.groups.now c.args.first (omega arith) in
-    aslas-end p.0.tables p.0 p.1 p.2 p.3 c.loop-e.invariant (omega (arith, n, c.loop-e-test.false))
