@@ -1,4 +1,3 @@
--- Kind by kind.
 use native.Mathlib.Omega.{arith}
 use Rattle.export_bytes.proofs.SizeLaws.{link_start, link-next}
 use Rattle.export_bytes.proofs.link_size.Goals as goal

@@ -1,4 +1,3 @@
--- From the last byte, m is the number of the bytes passed.
 use Prim.Native.Nat.{ℕ, ◌<◌, ◌^◌}
 use Rattle.std.specs.Slice.Iter.{iter_rest}
 use Rattle.std.specs.Iterator.Adapters.{rev_source}

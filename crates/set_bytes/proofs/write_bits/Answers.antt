@@ -1,4 +1,3 @@
--- what is written, and what the words to come would be written as, is the whole.
 use Prim.Native.Nat.{ℕ, ◌+◌, ◌*◌, ◌/◌}
 use mathlib.Core.Path.{refl, ◌∙◌, ap}
 use lib.ListN.{length, get_or}

@@ -1,4 +1,3 @@
--- what is written so far are the TLVs of the kinds passed.
 use mathlib.Core.Path.{refl, ◌∙◌}
 use native.Mathlib.Omega.{arith}
 use Rattle.grids.specs.Grids.{grid_value}

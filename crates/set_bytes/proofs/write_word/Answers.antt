@@ -1,4 +1,3 @@
--- What is written, and what the bits left would be written as, is the whole.
 use mathlib.Core.Path.{◌∙◌, ap}
 use lib.ListN.{length}
 use native.Mathlib.Omega.{arith}

@@ -1,4 +1,4 @@
--- `set_groups::fill_groups` meets its contract: turned masks hold the same applications. Assumes nothing.
+-- Turned masks hold the same applications.
 use mathlib.Core.Path.{fun_ext}
 use Rattle.set_groups.proofs.Fills.{filled-as}
 use Rattle.set_groups.proofs.fill_groups.Goals as goal

@@ -1,4 +1,4 @@
--- `set_groups::find` meets its contract: entries of the bucket that were passed have other sets. Assumes nothing.
+-- Entries of the bucket that were passed have other sets.
 use Rattle.set_groups.specs.Table.{word}
 use Rattle.set_groups.proofs.Laws.{At}
 use Rattle.set_groups.proofs.find.Given as goal

@@ -1,4 +1,3 @@
--- A slot and an empty row each, from the lowest bit on.
 use mathlib.Core.Path.{refl}
 use native.Mathlib.Omega.{arith}
 use Rattle.set_table.proofs.Assigns.{assigning-end, assigning-as, room-left, turned-low}

@@ -1,4 +1,4 @@
--- `set_table::assign_slots` meets its contract: the standard applications, then the user's. Assumes nothing.
+-- The standard applications, then the user's.
 use mathlib.Core.Path.{◌∙◌}
 use native.Mathlib.Omega.{arith}
 use Rattle.set_table.proofs.Assigns.{many-pair, begun}

@@ -1,4 +1,3 @@
--- Slot by slot, from the lowest bit on.
 use Rattle.set_table.proofs.Bits.{filling-end, filling-room, filling-next}
 use Rattle.set_table.proofs.enter_bits.Goals as goal
 

@@ -1,4 +1,4 @@
--- `set_table::enter_link` meets its contract: a free cell takes the value. Assumes nothing.
+-- A free cell takes the value.
 use Rattle.set_table.specs.Tables.{cell_of}
 use Rattle.set_table.proofs.Tables.{kept-given, link-given, link-table}
 use Rattle.set_table.proofs.enter_link.Goals as goal

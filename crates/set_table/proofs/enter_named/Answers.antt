@@ -1,4 +1,4 @@
--- `set_table::enter_named` meets its contract: nobody is new, or those that are take the value. Assumes nothing.
+-- Nobody is new, or those that are take the value.
 use native.Mathlib.Omega.{arith}
 use Rattle.set_table.specs.Tables.{cell_of}
 use Rattle.set_table.proofs.Named.{named-given, none-given, having-next, both_zero}

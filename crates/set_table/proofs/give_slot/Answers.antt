@@ -1,4 +1,3 @@
--- Place by place, from the lowest bit on.
 use Rattle.set_table.proofs.Owns.{giving-next, gave-none}
 use Rattle.set_table.proofs.give_slot.Goals as goal
 

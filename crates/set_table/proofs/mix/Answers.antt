@@ -1,4 +1,3 @@
--- What is mixed, with the numbers that are left, is all.
 use Prim.Native.Nat.{ℕ}
 use mathlib.Core.Path.{◌∙◌, ap}
 use native.Mathlib.Omega.{arith}

@@ -1,4 +1,3 @@
--- The first blocks, up to the walk's index, have their classes.
 use Prim.Native.Nat.{◌<◌}
 use mathlib.Core.Path.{◌≡◌, ◌∙◌}
 use native.Mathlib.Omega.{arith}

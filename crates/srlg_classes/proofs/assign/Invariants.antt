@@ -1,4 +1,4 @@
--- The first k blocks have their classes.
+-- The first blocks, up to the walk's index, have their classes.
 use mathlib.Core.Path.{◌≡◌}
 use lib.ListN.{length}
 use Rattle.srlg_classes.specs.Owned.{Assigned}

@@ -1,4 +1,4 @@
--- `srlg_classes::classify` meets its contract: nobody has a number, or by how many classes there is room for. Assumes nothing.
+-- Nobody has a number, or by how many classes there is room for.
 use mathlib.Core.Path.{refl}
 use native.Mathlib.Omega.{arith}
 use Rattle.srlg_classes.proofs.Siding.{settled-none}

@@ -1,4 +1,4 @@
--- `srlg_classes::classify_in` meets its contract: the laws of the side, over what the calls leave. Assumes nothing.
+-- The laws of the side, over what the calls leave.
 use Prim.Native.Nat.{ℕ}
 use mathlib.Core.Path.{refl}
 use lib.ListN.{get_or-replicate}

@@ -1,4 +1,4 @@
--- `srlg_classes::first_classes` meets its contract: source 0, then source 1. Assumes nothing.
+-- Source 0, then source 1.
 use mathlib.Core.Path.{refl, ◌∙◌}
 use lib.ListN.{length-set}
 use native.Mathlib.Omega.{arith}

@@ -1,4 +1,3 @@
--- What is given, with what is left to give, is all.
 use Rattle.srlg_classes.specs.Owned.{slot_at}
 use Rattle.srlg_classes.proofs.Gives.{giving-next, giving-end}
 use Rattle.srlg_classes.proofs.give.Goals as goal

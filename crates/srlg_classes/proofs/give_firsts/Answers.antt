@@ -1,4 +1,4 @@
--- `srlg_classes::give_firsts` meets its contract: general, then legacy. Assumes nothing.
+-- General, then legacy.
 use Rattle.srlg_classes.proofs.Assigns.{first-own}
 use Rattle.srlg_classes.proofs.give_firsts.Goals as goal
 

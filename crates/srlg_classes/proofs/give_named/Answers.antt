@@ -1,4 +1,4 @@
--- `srlg_classes::give_named` meets its contract: nobody, or the blocks. Assumes nothing.
+-- Nobody, or the blocks.
 use Prim.Native.Nat.{ℕ, ◌<◌}
 use mathlib.Core.Path.{◌≡◌, sym, ◌∙◌}
 use mathlib.Core.List.{[], ◌∷◌}

@@ -1,4 +1,4 @@
--- `srlg_classes::rsvp_class` meets its contract: by the rule. Assumes nothing.
+-- By the rule.
 use Rattle.srlg_classes.specs.Owned.{class_at}
 use Rattle.srlg_classes.proofs.Rsvp.{no_own, own-one, general-one, legacy-one}
 use borrow.Author.Rules.{rules}

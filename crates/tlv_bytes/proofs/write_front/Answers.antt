@@ -1,4 +1,4 @@
--- `tlv_bytes::write_front` meets its contract: the head, then the masks. Assumes nothing.
+-- The head, then the masks.
 use mathlib.Core.Path.{refl}
 use native.Mathlib.Omega.{arith}
 use Rattle.tlv_bytes.proofs.AslaLaws.{size_is, front-written}

@@ -1,4 +1,4 @@
--- `tlv_bytes::write_head` meets its contract: two halves of one number. Assumes nothing.
+-- Two halves of one number.
 use mathlib.Core.Path.{◌∙◌, ap}
 use native.Mathlib.Omega.{arith}
 use Rattle.linkstate.specs.Lists.{put}

@@ -1,4 +1,4 @@
--- `tlv_bytes::write_masks` meets its contract: one mask, then the other. Assumes nothing.
+-- One mask, then the other.
 use native.Mathlib.Omega.{arith}
 use Rattle.linkstate.specs.Masks.{mask}
 use Rattle.masks.specs.Sets.{in_sent}

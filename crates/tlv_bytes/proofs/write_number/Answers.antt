@@ -1,4 +1,4 @@
--- `tlv_bytes::write_number` meets its contract: the head, then the number. Assumes nothing.
+-- The head, then the number.
 use mathlib.Core.Path.{sym}
 use native.Mathlib.Omega.{arith}
 use Rattle.octets.proofs.Laws.{length-four}

@@ -1,4 +1,4 @@
--- `tlv_bytes::write_value` meets its contract: a number, or the head and the value. Assumes nothing.
+-- A number, or the head and the value.
 use mathlib.Core.Path.{sym, ◌∙◌, ap}
 use native.Mathlib.Omega.{arith}
 use Rattle.linkstate.specs.Lists.{put}

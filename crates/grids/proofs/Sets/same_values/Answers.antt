@@ -1,4 +1,3 @@
--- The rows passed are the same, and those left decide.
 use mathlib.Core.Path.{sym, ◌∙◌}
 use native.Mathlib.Omega.{arith}
 use Rattle.grids.proofs.Laws.{grids-end, grids-next, grids-differ}
