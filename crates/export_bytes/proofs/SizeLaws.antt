@@ -39,9 +39,6 @@ link_start sets = refl
 
 -- ---- entries
 
-pub asla-read : (h : List ℕ) (s c : ℕ) → s ≡ (asla_of h).slot → c ≡ (asla_of h).class → ◌≡◌ {A = Asla} (record { members = record { standard = get_or h 0 0; user = get_or h 1 0 }; slot = s; class = c }) (asla_of h)
-asla-read h s c e f = ap₂ (λ (x y : ℕ). record { members = record { standard = get_or h 0 0; user = get_or h 1 0 }; slot = x; class = y }) e f
-
 pub sum-next : (f : ℕ → ℕ) (from i total x : ℕ) → total ≡ sum_from f from i → x ≡ f (from + i) → total + x ≡ sum_from f from (i + 1)
 unfolding sum_from
 sum-next f from i total x e g = rw (add-one i) (ap₂ (λ (y z : ℕ). y + z) e g)

@@ -180,17 +180,11 @@ pub record Passed (x y : List ℕ) (same : Bool) (xs ys : List ℕ) : Type 0 whe
   pub lengths : length xs ≡ length ys
   pub tells : same ≡ true → xs ≡ ys → x ≡ y
 
-pub passed-start : (x y : List ℕ) → length x ≡ length y → Passed x y true x y
-passed-start x y h = record { lengths = h; tells = λ t e. e }
-
 pub passed-next : {x y : List ℕ} {same : Bool} {xs ys xs' ys' : List ℕ} {a b : ℕ} → xs ≡ a ∷ xs' → ys ≡ b ∷ ys' → Passed x y same xs ys → Passed x y (same && eqb a b) xs' ys'
 passed-next {same = same} {a = a} {b = b} e f p = record {
   lengths = omega (arith, ap length e, ap length f, p.lengths);
   tells = λ t h. p.tells (and_l same (eqb a b) t) (e ∙ ap₂ (λ (i : ℕ) (l : List ℕ). i ∷ l) (eqb-true a b (and_r same (eqb a b) t)) h ∙ sym f);
 }
-
-pub passed-end : {x y : List ℕ} {same : Bool} {xs ys : List ℕ} → Passed x y same xs ys → same ≡ true → (xs ≡ []) × (ys ≡ []) → x ≡ y
-passed-end p t e = p.tells t (e.0 ∙ sym e.1)
 
 -- A slot's cell as the code takes it, by its row of the grid.
 module _ (sets : List (List ℕ)) (s k : ℕ) (h : k < 10) where

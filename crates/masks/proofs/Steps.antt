@@ -12,7 +12,7 @@ use lib.Pow.{pow_mono, pow-add, split, low, field, shr-shr, shl-shr}
 use lib.Bits.{bit_or, bit_and, bit_xor, or_shr, or_mod, and_shr, and_mod, xor_shr, xor_mod}
 use lib.Count.{leading_top}
 use borrow.Rule.Slice.PartMut.{put_mid}
-use lib.ListN.{length, get_or, set, take, drop, length-append, length-drop, length-set}
+use lib.ListN.{length, get_or, take, drop, length-append, length-drop}
 use lib.Seq.{get_or-append_seam, get_or-drop, length-take-le, take_all}
 use Rattle.std.proofs.lemmas.List.{append_assoc, append-nil, get_or-append-add, take-append-drop, take-take}
 use Rattle.std.proofs.lemmas.Slice.{put_mid-paste}
@@ -22,7 +22,7 @@ use Rattle.std.specs.Int.{w32, w64, from_le_bytes, to_le_bytes}
 use Rattle.masks.specs.Sets.{last_of, little_endian, turned_place, in_sent, four_bytes, exchanged}
 use Rattle.std.specs.Prelude.{Option, Some, None, IfNone, IfSome}
 use Rattle.masks.proofs.Laws.{below_suc, low_digit, digit-one, is_number, IsLast, last_some, last-is, none_is, byte-is, IsSize, size-cases, size_holds, size-least}
-use Rattle.octets.proofs.Laws.{put-nil, put_then, set-two}
+use Rattle.octets.proofs.Laws.{put-nil, put_then}
 
 -- ---- a test at each number below k, computed
 
@@ -225,9 +225,6 @@ module _ (s rest : List ℕ) (m : ℕ) (p : Passed s rest m) where
     whole = sym (append_assoc next (b ∷ []) p.tail) ∙ ap (λ (l : List ℕ). l ++ p.tail) (sym e) ∙ p.whole;
     number = ap (λ (x : ℕ). x * 256 + b) p.number;
   }
-
-  pub passed-all : rest ≡ [] → m ≡ little_endian s
-  passed-all e = p.number ∙ ap little_endian (ap (λ (l : List ℕ). l ++ p.tail) (sym e) ∙ p.whole)
 
   pub passed-room : ((j : ℕ) → get_or s j 0 < 256) → length s ≤ 8 → (next : List ℕ) (b : ℕ) → rest ≡ next ++ (b ∷ []) → (m < 256 ^ 7) × (b < 256)
   passed-room small l next b e = (
@@ -478,13 +475,6 @@ module _ (m : ℕ) where
       let y : m / 281474976710656 ≡ m / 4294967296 / 65536 = sym (shr-shr m 32 16) in
       let w : m / 72057594037927936 ≡ m / 4294967296 / 16777216 = sym (shr-shr m 32 24) in
       rw e (cc)
-
-pub put_four : (d : List ℕ) (at a b c e : ℕ) → at + 4 ≤ length d → set (set (set (set d at a) (at + 1) b) (at + 2) c) (at + 3) e ≡ put d at (a ∷ b ∷ c ∷ e ∷ [])
-put_four d at a b c e h =
-    let f : at + 2 + 1 ≡ at + 3 = omega arith in
-    let x = set (set d at a) (at + 1) b in
-    let l : length x ≡ length d = simp length-set in
-    put_then d x _ at (a ∷ b ∷ []) (at + 2) (c ∷ e ∷ []) (set-two d at a b (omega arith)) (rw (sym f) (set-two x (at + 2) c e (omega arith))) refl (omega arith)
 
 module _ (m : ℕ) (fits : m < 2 ^ 64) (d : List ℕ) (at : ℕ) where
   abbrev Written : ℕ → List ℕ → Type 0

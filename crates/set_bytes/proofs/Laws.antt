@@ -240,9 +240,6 @@ module _ (f : ℕ → List ℕ) (d : List ℕ) (at : ℕ) (room : at + length (i
       pub extended-next : {t : ℕ} {e : List ℕ} → Wrote o r (in_tlvs f (c ∷ [])) t e → Wrote d at (in_tlvs f (take (c + 1 - 1114) extended_codes)) t e
       extended-next v = same_write next-is d at (behind-write d at before (in_tlvs f (c ∷ [])) room-here kept w v)
 
-  pub extended-end : 1121 ≤ c → c ≤ 1121 → {o : List ℕ} {r : ℕ} → Wrote d at before r o → Wrote d at (in_tlvs f extended_codes) r o
-  extended-end h l w = let e : c ≡ 1121 = omega arith in same_write (ap (λ (k : ℕ). in_tlvs f (take (k - 1114) extended_codes)) e) d at w
-
 -- ---- sets, piece by piece
 
 pub bandwidths-are : (run : List ℕ) (l : List (List ℕ))

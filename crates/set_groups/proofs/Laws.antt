@@ -1,5 +1,5 @@
 -- Laws of the table of groups: a member more, equal sets, the search by buckets, and what is left when an application has joined. Assumes nothing.
-use Rattle.std.specs.Prelude.{Some, None}
+use Rattle.std.specs.Prelude.{None}
 use mathlib.Core.Path.{◌≡◌, refl, sym, ◌∙◌, ap, ap₂, fun_ext, subst}
 use mathlib.Core.Bool.{Bool, true, false, cond, ◌&&◌, ◌||◌, false≢true}
 use mathlib.Core.List.{List, [], ◌∷◌, map}
@@ -147,9 +147,6 @@ module _ (run : List ℕ) (sets : List (List ℕ)) (w : ℕ → ℕ) (count s c 
               let y = eqb-true (j - i) 0 z in
               l.between j a (omega arith) (same-bucket run sets (w j) s c ok (is.slot j (omega arith) h) of_s e ∙ sym (at.here some))
           later j a h e l d false z = let y = eqb-false (j - i) 0 z in at.passed j (omega arith) h e
-
-  pub search-found : (i : ℕ) → At run sets w count s c i → (i ≡ 0 → ⊥) → (r : Bool) → Tells (Same run sets (w i) s c) r → r ≡ true → Finds run sets w count s c (Some i)
-  search-found i at some r t e = (omega arith, at.inside, t.yes e)
 
   pub search-end : (i : ℕ) → At run sets w count s c i → i ≡ 0 → Finds run sets w count s c None
   search-end i at z = λ j l k e. at.passed j (omega arith) k e

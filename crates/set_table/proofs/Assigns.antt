@@ -15,7 +15,7 @@ use Rattle.masks.proofs.Steps.{zero-none}
 use Rattle.masks.specs.Sets.{Lowest}
 use Rattle.grids.specs.Slots.{cell}
 use Rattle.set_table.specs.Marks.{value_mark, value_size, total, set_mark, set_size}
-use Rattle.set_table.specs.Tables.{CellFits, row_values, Fitting, Summed, Table, slot_at, Owned, how_many, empty_row, Assigned, Begun}
+use Rattle.set_table.specs.Tables.{CellFits, row_values, Fitting, Summed, Table, slot_at, how_many, empty_row, Assigned, Begun}
 use Rattle.masks.specs.declared.Applications.{Applications}
 use Rattle.masks.specs.Applications.{at_place}
 use Rattle.set_table.proofs.Marks.{none-mark, none-size, total-none}
@@ -83,24 +83,6 @@ pub record Assigning (own table after filled : List (List ℕ)) (base m x from k
   pub part : (n : ℕ) → in_number x n ≡ true → in_number m n ≡ true
   pub count : k + how_many (in_number x) 64 ≡ from + how_many (in_number m) 64
   pub is : Assigned own table after filled base (done m x) from k
-
-pub assigning-begin : (own table : List (List ℕ)) (base m from : ℕ) → Owned own → Assigning own table own table base m m from from
-assigning-begin own table base m from o = record {
-  part = λ n e. e;
-  count = refl;
-  is = record {
-    same = refl;
-    owned = o;
-    order = omega arith;
-    slots = λ n l e. absurd (not-both (in_number m n) e);
-    apart = λ i j a b e f x. absurd (not-both (in_number m i) e);
-    others = λ p e. refl;
-    emptied = λ s a b. absurd (omega arith);
-    kept = λ s a. refl;
-    classes = λ p. refl;
-    taken = λ s a b. absurd (omega arith);
-  };
-}
 
 pub assigning-end : {own table after filled : List (List ℕ)} {base m x from k : ℕ} → Assigning own table after filled base m x from k → x ≡ 0
     → (k ≡ from + how_many (in_number m) 64) × Assigned own table after filled base (in_number m) from k
@@ -337,13 +319,6 @@ module _ (m : Applications) {own table mid middle after filled : List (List ℕ)
       empties s h false e = b.emptied s (ltb-false s j e) h
 
 -- ---- empty rows
-
-pub empty-next : (sets : List (List ℕ)) (s : ℕ) → s < length sets → ((i : ℕ) → i < s → get_or sets i [] ≡ empty_row) → (i : ℕ) → i < s + 1 → get_or (set sets s empty_row) i [] ≡ empty_row
-empty-next sets s l h i g = go (eqb i s) refl
-  where
-    go : (b : Bool) → eqb i s ≡ b → get_or (set sets s empty_row) i [] ≡ empty_row
-    go true e = ap (λ (j : ℕ). get_or (set sets s empty_row) j []) (eqb-true i s e) ∙ get_or-set_same sets s empty_row [] l
-    go false e = let d = eqb-false i s e in get_or-set_other sets s i empty_row [] d ∙ h i (omega arith)
 
 zeros : (n k : ℕ) → get_or (replicate {A = ℕ} n 0) k 0 ≡ 0
 zeros zero k = refl

@@ -133,9 +133,6 @@ pub record Filling (sets₀ sets own : List (List ℕ)) (base bits x k c m z : �
   pub tables : (run : List ℕ) (place n : ℕ) → Table run sets₀ → Entry run k place n c m z → Table run sets
   pub gives : (after : List (List ℕ)) → Given sets after (to_reached own base x k c) → Given sets₀ after (to_reached own base bits k c)
 
-pub filling-begin : (sets own : List (List ℕ)) (base bits k c m z : ℕ) → Free sets own base bits k → Filling sets sets own base bits bits k c m z
-filling-begin sets own base bits k c m z f = record { left = f; tables = λ run place n t e. t; gives = λ after g. g }
-
 module _ {sets₀ sets own : List (List ℕ)} {base bits x k c m z : ℕ} (f : Filling sets₀ sets own base bits x k c m z) where
   pub filling-end : x ≡ 0 → Given sets₀ sets (to_reached own base bits k c)
   filling-end e = f.gives sets (reached-end own base k c sets x e)

@@ -135,13 +135,6 @@ module _ (table own have : List (List ℕ)) (names : ℕ → Bool) (sl : Slotted
       let y : not (not (eqb (cell table (slot_at own p) k) 0)) ≡ true = sym (ap not (hv.told k p low h (named p h e))) ∙ x in
       eqb-true (cell table (slot_at own p) k) 0 (not-not (eqb (cell table (slot_at own p) k) 0) y)
 
-  pub fresh-of : Fresh table own fr k
-  fresh-of = record {
-    stand = λ p h e. sl.stand p h (named p h e);
-    free = none-there;
-    apart = λ p q g h e f x. sl.apart p q g h (named p g e) (named q h f) x;
-  }
-
   -- Where a slot has none, the new ones are all of them.
   same-reach : (s : ℕ) → cell table s k ≡ 0 → reaches own fr s ≡ reaches own m s
   unfolding reaches

@@ -316,7 +316,3 @@ module _ (run : List ℕ) (sets : List (List ℕ)) (t : Table run sets) where
     marked = λ s u a b e. (t.sums s a).mark ∙ ap set_mark (sym (slot-values run sets s) ∙ e ∙ slot-values run sets u) ∙ sym (t.sums u b).mark;
     sized = λ s a. (t.sums s a).size ∙ ap (total value_size 0) (sym (slot-values run sets s)) ∙ sym (tlvs-size (grid_value run (slot_grid sets s)) grid_codes 0);
   }
-
--- A table with the row that a call left.
-pub row-set : (sets : List (List ℕ)) (s k c m z : ℕ) (r : List ℕ) → r ≡ entered_row (get_or sets s []) k c m z → set sets s r ≡ entered sets s k c m z
-row-set sets s k c m z r e = ap (set sets s) e

@@ -104,18 +104,6 @@ unfolding in_block
 block_words b a l = two-words (get_or b 0 0 ∷ get_or b 1 0 ∷ []) b a l refl refl
 
 module _ (rows : List (List ℕ)) (m words : ℕ) (blocks classes₀ own₀ : List (List ℕ)) (first : ℕ) where
-  pub assigned-start : (heads : List (List ℕ)) (buckets : List ℕ) → length own₀ ≡ 128 → Table rows m words classes₀ heads buckets first
-      → Assigned rows m words blocks 0 classes₀ own₀ classes₀ heads buckets own₀ first first
-  assigned-start heads buckets h t =
-      record {
-        table = t;
-        few = (omega arith, omega arith);
-        kept = λ c l. refl;
-        slots = record { size = h; slots = λ a. refl };
-        inside = λ l a k. absurd (omega arith);
-        outside = λ a l e. refl;
-      }
-
   pub assigned-next : (classes heads own classes' heads' own' : List (List ℕ)) (buckets buckets' : List ℕ) (k count c : ℕ)
       → Assigned rows m words blocks k classes₀ own₀ classes heads buckets own first count
       → Given rows m words (get_or (get_or blocks k []) 2 0) (get_or (get_or blocks k []) 3 0) classes classes' heads' buckets' count c

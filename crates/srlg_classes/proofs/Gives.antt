@@ -26,9 +26,6 @@ pub record Giving (bits base c x : ℕ) (own₀ own : List (List ℕ)) : Type 0 
   pub slots : Slots own₀ own
   pub classes : (a : ℕ) → a < 128 → cond (in_half base x a) c (class_at own a) ≡ cond (in_half base bits a) c (class_at own₀ a)
 
-pub giving-start : (bits base c : ℕ) (own : List (List ℕ)) → length own ≡ 128 → Giving bits base c bits own own
-giving-start bits base c own h = record { slots = record { size = h; slots = λ a. refl }; classes = λ a l. refl }
-
 half-none : (base a : ℕ) → in_half base 0 a ≡ false
 unfolding in_half
 half-none base a = rw (zero-none (a - base), and-false (ltb a (base + 64)), and-false (leb base a))

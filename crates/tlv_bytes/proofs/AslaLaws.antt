@@ -86,9 +86,6 @@ module _ (m : Applications) where
       whole_room : at + length (head ++ masks) ≤ length d
       whole_room = omega (arith, length-append head masks, length-head, length-masks, size_is)
 
-      pub masks-room : at + 8 + (S + U) ≤ length e
-      masks-room = omega (arith, size_is)
-
       pub front-written : {r : ℕ} {o : List ℕ} → Wrote e (at + 8) masks r o → Wrote d at (asla_front m size) r o
       front-written w = same_write front-is d at (behind-write d at head masks whole_room kept head-wrote w)
 
