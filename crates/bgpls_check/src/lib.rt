@@ -2,8 +2,8 @@
 
 #![tactic(auto)]
 
-ghost use Rattle.std.specs.Prelude.{◌≡◌, ◌&&◌, List, [], ℕ, ◌+◌, ◌≤◌, ◌<◌, length};
-ghost use Rattle.linkstate.specs.Replies.{run_bgp_ls};
+ghost use Rattle.std.specs.Prelude.{IfOk, ◌≡◌, ◌&&◌, List, [], ℕ, ◌+◌, ◌≤◌, ◌<◌, length};
+ghost use Rattle.linkstate.specs.Replies.{accepted, run_bgp_ls};
 ghost use Rattle.linkstate.specs.Lists.{member};
 ghost use Rattle.linkstate.specs.Elements.{elements, faults_once};
 ghost use Rattle.linkstate.specs.Kinds.{wrong_inside, wrong_at_top};
@@ -172,4 +172,20 @@ pub fn check_run(r: &[u8]) -> Result<(), Refusal>
         }
     }
     Ok(())
+}
+
+// A run that passed its checks: its bytes, which its verdict lets pass.
+#[derive(Clone, Copy)]
+pub struct AcceptedRun<'a> {
+    pub bytes: &'a [u8],
+    pub ghost passed: { run_verdict bytes.now ≡ accepted },
+}
+
+// The one place that makes such a run, of bytes that anybody may have written.
+pub fn accept(r: &[u8]) -> Result<AcceptedRun<'_>, Refusal>
+    ensures verdict { told_checked result ≡ run_verdict r.now }
+    ensures bytes { IfOk result (λ run. run.bytes.now ≡ r.now) }
+{
+    check_run(r)?;
+    Ok(AcceptedRun { bytes: r })
 }
