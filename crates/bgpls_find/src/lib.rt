@@ -4,8 +4,7 @@
 
 ghost use Rattle.std.specs.Prelude.{◌≡◌, ℕ, ◌+◌, ◌*◌, ◌≤◌, ◌<◌, length, false, ◌&&◌, eqb};
 ghost use Rattle.linkstate.specs.Lists.{put, each};
-ghost use Rattle.linkstate.specs.Replies.{accepted};
-ghost use Rattle.linkstate.specs.BgpLs.{run_verdict, not_ignored, attributes_of, run_side};
+ghost use Rattle.linkstate.specs.BgpLs.{not_ignored, attributes_of, run_side};
 ghost use Rattle.bgpls_find.specs.Sets.{attributes_in, is_top, chosen_by, ends_before};
 ghost use Rattle.octets.specs.Spans.{found_in};
 ghost use Rattle.bgpls_find.specs.Walks.{Uncut, Starts, Passes, Sound, standard_mask, user_mask, NextPart};
@@ -14,7 +13,7 @@ ghost use Rattle.linkstate.specs.Elements.{elements};
 ghost use Rattle.linkstate.specs.Attributes.{of_kind};
 ghost use Rattle.linkstate.specs.Sides.{general_set, application_set};
 
-use bgpls_check::{AslaHeader, not_ignored, read_asla_header};
+use bgpls_check::{AcceptedRun, AslaHeader, not_ignored, read_asla_header};
 use frames::{Element, Two, Whole};
 use masks::names;
 use octets::Span;
@@ -120,10 +119,11 @@ pub struct Start {
 }
 
 // The first attribute of a kind in a set. A loop, here and below: the next list is looked for only where the one at hand did not end the search.
-pub fn first_in(r: &[u8], start: Start, code: usize) -> Option<Span>
-    requires { (run_verdict r.now ≡ accepted) × Starts start.set r.now start.first start.next }
-    ensures { result ≡ found_in (of_kind code (attributes_in start.set r.now)) }
+pub fn first_in(run: AcceptedRun<'_>, start: Start, code: usize) -> Option<Span>
+    requires { Starts start.set run.bytes.now start.first start.next }
+    ensures { result ≡ found_in (of_kind code (attributes_in start.set run.entry.bytes.now)) }
 {
+    let r = run.bytes;
     let set = start.set; // the set that is looked in
     let mut first = start.first;
     let mut next = start.next;
@@ -139,11 +139,11 @@ pub fn first_in(r: &[u8], start: Start, code: usize) -> Option<Span>
 }
 
 // The general set.
-pub fn general_start(r: &[u8]) -> Start
-    requires { run_verdict r.now ≡ accepted }
-    ensures { Starts result.set r.now result.first result.next × (attributes_in result.set r.now ≡ general_set (run_side r.now)) }
+pub fn general_start(run: AcceptedRun<'_>) -> Start
+    ensures begins { Starts result.set run.entry.bytes.now result.first result.next }
+    ensures all { attributes_in result.set run.entry.bytes.now ≡ general_set (run_side run.entry.bytes.now) }
 {
-    match next_part(r, 0, Set::General) {
+    match next_part(run.bytes, 0, Set::General) {
         Some(Part { first, next }) => Start {
             set: Set::General,
             first,
@@ -151,24 +151,24 @@ pub fn general_start(r: &[u8]) -> Start
         },
         None => Start {
             set: Set::General,
-            first: r.len(),
-            next: r.len(),
+            first: run.bytes.len(),
+            next: run.bytes.len(),
         },
     }
 }
 
 // The set that an application other than RSVP-TE gets: of those that name it, else the general one.
-pub fn set_of(r: &[u8], application: u32) -> Start
-    requires { run_verdict r.now ≡ accepted }
-    ensures { Starts result.set r.now result.first result.next × (attributes_in result.set r.now ≡ application_set application (run_side r.now)) }
+pub fn set_of(run: AcceptedRun<'_>, application: u32) -> Start
+    ensures begins { Starts result.set run.entry.bytes.now result.first result.next }
+    ensures all { attributes_in result.set run.entry.bytes.now ≡ application_set application (run_side run.entry.bytes.now) }
 {
-    match next_part(r, 0, Set::Naming(application)) {
+    match next_part(run.bytes, 0, Set::Naming(application)) {
         Some(Part { first, next }) => Start {
             set: Set::Naming(application),
             first,
             next,
         },
-        None => general_start(r),
+        None => general_start(run),
     }
 }
 
@@ -197,10 +197,11 @@ fn count_list(s: &[u8]) -> usize
 }
 
 // How many numbers a set has: the room that they need.
-pub fn count_words(r: &[u8], start: Start) -> usize
-    requires { (run_verdict r.now ≡ accepted) × Starts start.set r.now start.first start.next }
-    ensures { (result ≡ length (srlg_words (attributes_in start.set r.now))) × (result * 4 ≤ length r.now) }
+pub fn count_words(run: AcceptedRun<'_>, start: Start) -> usize
+    requires { Starts start.set run.bytes.now start.first start.next }
+    ensures { (result ≡ length (srlg_words (attributes_in start.set run.entry.bytes.now))) × (result * 4 ≤ length run.entry.bytes.now) }
 {
+    let r = run.bytes;
     let set = start.set;
     let mut n = 0;
     let mut first = start.first;

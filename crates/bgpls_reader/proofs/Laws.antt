@@ -7,13 +7,10 @@ use lib.ListN.{length, take}
 use Rattle.linkstate.specs.Lists.{empty, put}
 use Rattle.linkstate.specs.Bytes.{distinct}
 use Rattle.linkstate.specs.Attributes.{Attribute, srlgs}
-use Rattle.std.proofs.Common.{Result, Ok, Err, is_err, true, false}
-use Rattle.std.specs.Bool.{⊤}
-use Rattle.replies.specs.declared.Refusal.{Refusal as Fault}
-use Rattle.replies.specs.Told.{told_checked, told_refusal}
+use Rattle.std.proofs.Common.{true, false}
 use Rattle.answering.proofs.Entries.{asked_bytes, asked-low, asked-known, ask-answered}
 use Rattle.linkstate.specs.Kinds.{is_code}
-use Rattle.linkstate.specs.Replies.{refused, Refusal, run_bgp_ls, place, Verdict, accepted, Asked, absent, listed, unless, Place}
+use Rattle.linkstate.specs.Replies.{run_bgp_ls, place, Verdict, accepted, Asked, absent, listed, unless, Place}
 use Rattle.linkstate.specs.Masks.{user, as_number}
 use Rattle.linkstate.specs.Questions.{Subject, number_too_high, before_answer, ask, given, unwritten, srlg_answer, answer, bytes_of_first, list_named}
 use Rattle.linkstate.specs.BgpLs.{run_verdict, run_source}
@@ -63,15 +60,6 @@ pub lists : (r : List ℕ) (s u : ℕ) → accepted ≡ (run_source r).verdict �
     → u ≡ as_number (λ n. (run_source r).names (user n)) → listed s u ≡ list_named (run_source r)
 unfolding list_named unless
 lists r s u v hs hu = rw (← v, hs, hu)
-
--- What a check told, by whether it refused.
-pub told-refused : (r : Result ⊤ Fault) → is_err r ≡ true → (x : Refusal) × (told_checked r ≡ refused x)
-told-refused (Ok y) h = cc
-told-refused (Err x) h = (told_refusal x, refl)
-
-pub told-accepted : (r : Result ⊤ Fault) → is_err r ≡ false → told_checked r ≡ accepted
-told-accepted (Ok y) h = refl
-told-accepted (Err x) h = cc
 
 -- What an accepted question asks of the run and of itself.
 module _ (r : List ℕ) (whom : Subject) (k : ℕ) (e : before_answer (run_source r) whom k ≡ accepted) where

@@ -2,10 +2,10 @@
 
 #![tactic(auto)]
 
-ghost use Rattle.std.specs.Prelude.{◌≡◌, true, false, ◌||◌, ℕ, ◌*◌, ◌≤◌, ◌<◌, length, eqb, Ok};
+ghost use Rattle.std.specs.Prelude.{◌≡◌, true, false, ◌||◌, ℕ, ◌*◌, ◌≤◌, ◌<◌, length, eqb, Ok, IfOk};
 ghost use Rattle.linkstate.specs.Masks.{user, in_masks, as_number};
-ghost use Rattle.linkstate.specs.Replies.{accepted, run_bgp_ls, place};
-ghost use Rattle.linkstate.specs.BgpLs.{not_ignored, asla_header, aslas, run_verdict, run_source};
+ghost use Rattle.linkstate.specs.Replies.{run_bgp_ls, place};
+ghost use Rattle.linkstate.specs.BgpLs.{not_ignored, asla_header, aslas, run_source};
 ghost use Rattle.linkstate.specs.Lists.{any};
 ghost use Rattle.linkstate.specs.Sides.{names};
 ghost use Rattle.masks.specs.Applications.{in_set};
@@ -18,7 +18,7 @@ ghost use Rattle.octets.specs.Spans.{found_in};
 ghost use Rattle.bgpls_find.specs.Walks.{Starts, standard_mask, user_mask};
 ghost use Rattle.bgpls_reader.specs.Room.{Counted};
 
-use bgpls_check::read_asla_header;
+use bgpls_check::{AcceptedRun, read_asla_header};
 use bgpls_find::{Set, Start, is_chosen};
 use frames::{Two, Whole};
 use masks::Applications;
@@ -35,12 +35,11 @@ fn join_masks(v: &[u8], m: Applications) -> Applications
 }
 
 // Whom the 1122s that are not ignored name.
-fn all_masks(r: &[u8]) -> Applications
-    requires { run_verdict r.now ≡ accepted }
-    ensures { (n : ℕ) → in_set result n ≡ any (names n) (aslas r.now) }
+fn all_masks(run: AcceptedRun<'_>) -> Applications
+    ensures { (n : ℕ) → in_set result n ≡ any (names n) (aslas run.entry.bytes.now) }
 {
     let mut m = masks::nobody();
-    for e in Whole::<Two>::new(r, 0) {
+    for e in Whole::<Two>::new(run.bytes, 0) {
         if is_chosen(e.value, e.kind, Set::Every) {
             m = join_masks(e.value, m);
         }
@@ -49,11 +48,11 @@ fn all_masks(r: &[u8]) -> Applications
 }
 
 // The named applications other than RSVP-TE, which is standard 0, application n at place n.
-pub fn named_masks(r: &[u8]) -> Applications
-    requires { run_verdict r.now ≡ accepted }
-    ensures { (result.standard ≡ as_number (run_source r.now).names) × (result.user ≡ as_number (λ n. (run_source r.now).names (user n))) }
+pub fn named_masks(run: AcceptedRun<'_>) -> Applications
+    ensures standard { result.standard ≡ as_number (run_source run.entry.bytes.now).names }
+    ensures user { result.user ≡ as_number (λ n. (run_source run.entry.bytes.now).names (user n)) }
 {
-    let m = masks::turned_set(all_masks(r));
+    let m = masks::turned_set(all_masks(run));
     Applications {
         standard: masks::without(m.standard, 1),
         user: m.user,
@@ -61,59 +60,60 @@ pub fn named_masks(r: &[u8]) -> Applications
 }
 
 // The set of attributes that a question is about.
-pub fn set_asked(r: &[u8], whom: Subject, code: usize) -> Start
-    requires { (run_verdict r.now ≡ accepted) × (number_too_high (subject_of whom) ≡ false) }
-    ensures { Starts result.set r.now result.first result.next × (attributes_in result.set r.now ≡ given (run_source r.now) (subject_of whom) code) }
+pub fn set_asked(run: AcceptedRun<'_>, whom: Subject, code: usize) -> Start
+    requires { number_too_high (subject_of whom) ≡ false }
+    ensures begins { Starts result.set run.entry.bytes.now result.first result.next }
+    ensures all { attributes_in result.set run.entry.bytes.now ≡ given (run_source run.entry.bytes.now) (subject_of whom) code }
 {
     if answering::is_link_code(code) {
         return Start {
             set: Set::Top,
             first: 0,
-            next: r.len(),
+            next: run.bytes.len(),
         };
     }
     match whom {
-        Subject::General => bgpls_find::general_start(r),
+        Subject::General => bgpls_find::general_start(run),
         Subject::Standard(n) => {
             if n == 0 {
                 return Start {
                     set: Set::Top,
                     first: 0,
-                    next: r.len(),
+                    next: run.bytes.len(),
                 };
             }
-            bgpls_find::set_of(r, n)
+            bgpls_find::set_of(run, n)
         }
-        Subject::User(n) => bgpls_find::set_of(r, 64 + n),
+        Subject::User(n) => bgpls_find::set_of(run, 64 + n),
     }
 }
 
 // Where the value that a question asks for stands.
-pub fn find_value(r: &[u8], whom: Subject, code: usize) -> Option<Span>
-    requires { (run_verdict r.now ≡ accepted) × (number_too_high (subject_of whom) ≡ false) }
-    ensures { result ≡ found_in (of_kind code (given (run_source r.now) (subject_of whom) code)) }
+pub fn find_value(run: AcceptedRun<'_>, whom: Subject, code: usize) -> Option<Span>
+    requires { number_too_high (subject_of whom) ≡ false }
+    ensures { result ≡ found_in (of_kind code (given (run_source run.entry.bytes.now) (subject_of whom) code)) }
 {
-    let start = set_asked(r, whom, code);
-    bgpls_find::first_in(r, start, code)
+    let start = set_asked(run, whom, code);
+    bgpls_find::first_in(run, start, code)
 }
 
 // The reply of a kind other than SRLG.
-pub fn answer_value(r: &[u8], whom: Subject, code: usize) -> Option<Reading>
-    requires { (run_verdict r.now ≡ accepted) × (number_too_high (subject_of whom) ≡ false) × (is_code code ≡ true) × (eqb code 1096 ≡ false) }
-    ensures { told_answer (Ok result) ≡ first_of (place run_bgp_ls) (of_kind code (given (run_source r.now) (subject_of whom) code)) }
+pub fn answer_value(run: AcceptedRun<'_>, whom: Subject, code: usize) -> Option<Reading>
+    requires { (number_too_high (subject_of whom) ≡ false) × (is_code code ≡ true) × (eqb code 1096 ≡ false) }
+    ensures { told_answer (Ok result) ≡ first_of (place run_bgp_ls) (of_kind code (given (run_source run.entry.bytes.now) (subject_of whom) code)) }
 {
-    answering::answer_row(r, Run::BgpLs, code, find_value(r, whom, code))
+    answering::answer_row(run.bytes, Run::BgpLs, code, find_value(run, whom, code))
 }
 
 // The value's bytes as a part of the run.
-pub fn part_of(r: &[u8], whom: Subject, code: usize) -> &[u8]
-    requires { (run_verdict r.now ≡ accepted) × (number_too_high (subject_of whom) ≡ false) × (is_code code ≡ true) × (eqb code 1096 ≡ false) }
-    ensures { result.now ≡ bytes_of_first r.now (of_kind code (given (run_source r.now) (subject_of whom) code)) }
+pub fn part_of<'a>(run: AcceptedRun<'a>, whom: Subject, code: usize) -> &'a [u8]
+    requires { (number_too_high (subject_of whom) ≡ false) × (is_code code ≡ true) × (eqb code 1096 ≡ false) }
+    ensures { result.now ≡ bytes_of_first run.entry.bytes.now (of_kind code (given (run_source run.entry.bytes.now) (subject_of whom) code)) }
 {
-    let Some(Span { place, len }) = find_value(r, whom, code) else {
+    let Some(Span { place, len }) = find_value(run, whom, code) else {
         return &[];
     };
-    &r[place..place + len]
+    &run.bytes[place..place + len]
 }
 
 // Any bytes, any subject and any code are taken; every refusal is document 01's, and after one nothing was written.
@@ -175,40 +175,45 @@ fn answer_in_room(
 }
 
 // The reply of SRLG, of a run that passed its checks.
-fn answer_srlg(r: &[u8], whom: Subject, list: &mut [u32]) -> Result<Option<Reading>, Refusal>
-    requires { (run_verdict r.now ≡ accepted) × (number_too_high (subject_of whom) ≡ false) }
-    ensures { told_asked result list.new ≡ srlg_answer (srlgs (given (run_source r.now) (subject_of whom) 1096)) list.old }
+fn answer_srlg(
+    run: AcceptedRun<'_>,
+    whom: Subject,
+    list: &mut [u32],
+) -> Result<Option<Reading>, Refusal>
+    requires { number_too_high (subject_of whom) ≡ false }
+    ensures { told_asked result list.new ≡ srlg_answer (srlgs (given (run_source run.entry.bytes.now) (subject_of whom) 1096)) list.old }
 {
-    let start = set_asked(r, whom, 1096);
-    let n = bgpls_find::count_words(r, start);
+    let start = set_asked(run, whom, 1096);
+    let n = bgpls_find::count_words(run, start);
     if n == 0 {
         return Ok(None);
     }
-    answer_in_room(r, start, n, 64, list)
+    answer_in_room(run.bytes, start, n, 64, list)
 }
 
 // The answer to a question that nothing refuses but 5.
 fn answer_accepted(
-    r: &[u8],
+    run: AcceptedRun<'_>,
     whom: Subject,
     code: usize,
     list: &mut [u32],
 ) -> Result<Option<Reading>, Refusal>
-    requires { (run_verdict r.now ≡ accepted) × (number_too_high (subject_of whom) ≡ false) × (is_code code ≡ true) }
-    ensures { told_asked result list.new ≡ answer (place run_bgp_ls) code (given (run_source r.now) (subject_of whom) code) list.old }
+    requires { (number_too_high (subject_of whom) ≡ false) × (is_code code ≡ true) }
+    ensures { told_asked result list.new ≡ answer (place run_bgp_ls) code (given (run_source run.entry.bytes.now) (subject_of whom) code) list.old }
 {
     if code == 1096 {
-        return answer_srlg(r, whom, list);
+        return answer_srlg(run, whom, list);
     }
-    Ok(answer_value(r, whom, code))
+    Ok(answer_value(run, whom, code))
 }
 
-// What comes before the answer to a question: its first refusal, for its own sake or for the run's bytes.
-pub fn check_asked(r: &[u8], whom: Subject, code: usize) -> Result<(), Refusal>
-    ensures { told_checked result ≡ before_answer (run_source r.now) (subject_of whom) code }
+// What comes before the answer to a question: its first refusal, for its own sake or for the run's bytes; else the run that passed.
+pub fn check_asked(r: &[u8], whom: Subject, code: usize) -> Result<AcceptedRun<'_>, Refusal>
+    ensures verdict { told_checked result ≡ before_answer (run_source r.now) (subject_of whom) code }
+    ensures bytes { IfOk result (λ run. run.bytes.now ≡ r.now) }
 {
     answering::check_question(whom, code)?;
-    bgpls_check::check_run(r)
+    bgpls_check::accept(r)
 }
 
 // One kind of one subject: absent, found with its reading, or refused. SRLGs go ascending to the front of the lent list; for every other answer the list stays as it was.
@@ -221,8 +226,8 @@ pub fn ask(
 ) -> Result<Option<Reading>, Refusal>
     ensures { told_asked result list.new ≡ ask (run_source r.now) (subject_of whom) code list.old }
 {
-    check_asked(r, whom, code)?;
-    answer_accepted(r, whom, code, list)
+    let run = check_asked(r, whom, code)?;
+    answer_accepted(run, whom, code, list)
 }
 
 // The same question: the value's bytes as a part of the run; empty where it is absent, refused, or SRLG.
@@ -231,17 +236,20 @@ pub fn ask(
 pub fn value(r: &[u8], whom: Subject, code: usize) -> &[u8]
     ensures { result.now ≡ value (run_source r.now) (subject_of whom) code }
 {
-    if check_asked(r, whom, code).is_err() || code == 1096 {
+    let Ok(run) = check_asked(r, whom, code) else {
+        return &[];
+    };
+    if code == 1096 {
         return &[];
     }
-    part_of(r, whom, code)
+    part_of(run, whom, code)
 }
 
 // The applications other than RSVP-TE that the run names.
 pub fn named(r: &[u8]) -> Result<Named, Refusal>
     ensures { told_named result ≡ list_named (run_source r.now) }
 {
-    bgpls_check::check_run(r)?;
-    let Applications { standard, user } = named_masks(r);
+    let run = bgpls_check::accept(r)?;
+    let Applications { standard, user } = named_masks(run);
     Ok(Named { standard, user })
 }

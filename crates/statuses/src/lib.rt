@@ -271,7 +271,7 @@ fn ask_run_value(r: &[u8], whom: Subject, code: usize) -> Words
     ensures { (list : List ℕ) → Answers (run_source r.now) (subject_of whom) code list (words result) list }
 {
     match bgpls_reader::check_asked(r, whom, code) {
-        Ok(()) => row_words(r, Run::BgpLs, code, bgpls_reader::find_value(r, whom, code)),
+        Ok(run) => row_words(r, Run::BgpLs, code, bgpls_reader::find_value(run, whom, code)),
         Err(refusal) => Words::from(refusal),
     }
 }
@@ -302,13 +302,13 @@ pub fn value_link(a: &[u8], b: &[u8], c: &[u8], whom: Subject, code: usize) -> W
 pub fn value_run(r: &[u8], whom: Subject, code: usize) -> Words
     ensures { words result ≡ value_words (run_source r.now) (subject_of whom) code }
 {
-    let Ok(()) = bgpls_reader::check_asked(r, whom, code) else {
+    let Ok(run) = bgpls_reader::check_asked(r, whom, code) else {
         return Words::nothing();
     };
     if code == 1096 {
         return Words::nothing();
     }
-    place_row(Run::BgpLs, bgpls_reader::find_value(r, whom, code))
+    place_row(Run::BgpLs, bgpls_reader::find_value(run, whom, code))
 }
 
 // An application's number in 32 bits: every number above 63 is refused alike.

@@ -8,7 +8,7 @@ ghost use Rattle.linkstate.specs.Replies.{accepted, run_b};
 ghost use Rattle.linkstate.specs.Elements.{elements, faults};
 ghost use Rattle.linkstate.specs.Kinds.{is_code};
 ghost use Rattle.linkstate.specs.Questions.{number_too_high};
-ghost use Rattle.linkstate.specs.BgpLs.{run_verdict, run_side};
+ghost use Rattle.linkstate.specs.BgpLs.{run_side};
 ghost use Rattle.linkstate.specs.Why.{because, first, holder, legacy_why, carried_why};
 ghost use Rattle.linkstate.specs.RunWhy.{top_why, run_why};
 ghost use Rattle.isis.specs.RunB.{check_b, side_b};
@@ -24,6 +24,7 @@ ghost use Rattle.why.specs.Runs.{standing, Ready, IsType, with_kind, number_of, 
 ghost use Rattle.why.specs.Rules.{general_rule, naming_why, naming_first_why, legacy_first_why, why_by, bandwidth_by};
 
 use advertisements::{Test, first_such};
+use bgpls_check::AcceptedRun;
 use replies::{Holder, Place, Refusal, Rule, Run, Subject, Why};
 use rules::SideNames;
 
@@ -229,24 +230,23 @@ pub fn link_why(a: &[u8], b: &[u8], c: &[u8], whom: Subject, code: usize) -> Res
 }
 
 // The rule of an application, and of a subject other than RSVP-TE, in a BGP-LS run, where nothing has L.
-fn named_rule(r: &[u8], n: u32) -> rules::Rule
-    requires { run_verdict r.now ≡ accepted }
-    ensures { result ≡ application_rule n (named_with_l n (run_side r.now)) (named n (run_side r.now)) }
+fn named_rule(run: AcceptedRun<'_>, n: u32) -> rules::Rule
+    ensures { result ≡ application_rule n (named_with_l n (run_side run.entry.bytes.now)) (named n (run_side run.entry.bytes.now)) }
 {
-    if first_such(r, Run::BgpLs, Test::Names(n), None).is_some() {
+    if first_such(run.bytes, Run::BgpLs, Test::Names(n), None).is_some() {
         return rules::Rule::Naming(n);
     }
     rules::Rule::General
 }
 
-fn run_rule(r: &[u8], whom: Subject) -> rules::Rule
-    requires { (run_verdict r.now ≡ accepted) × (number_too_high (subject_of whom) ≡ false) × (is_rsvp_te (subject_of whom) ≡ false) }
-    ensures { result ≡ subject_rule (subject_of whom) (run_side r.now) }
+fn run_rule(run: AcceptedRun<'_>, whom: Subject) -> rules::Rule
+    requires { (number_too_high (subject_of whom) ≡ false) × (is_rsvp_te (subject_of whom) ≡ false) }
+    ensures { result ≡ subject_rule (subject_of whom) (run_side run.entry.bytes.now) }
 {
     match whom {
         Subject::General => rules::Rule::General,
-        Subject::Standard(n) => named_rule(r, n),
-        Subject::User(n) => named_rule(r, 64 + n),
+        Subject::Standard(n) => named_rule(run, n),
+        Subject::User(n) => named_rule(run, 64 + n),
     }
 }
 
@@ -257,20 +257,20 @@ fn is_rsvp_te(whom: Subject) -> bool
     matches!(whom, Subject::Standard(0))
 }
 
-fn why_of_run(r: &[u8], whom: Subject, code: usize) -> Why
-    requires { (run_verdict r.now ≡ accepted) × (number_too_high (subject_of whom) ≡ false) × (is_code code ≡ true) }
-    ensures { told_why (Ok result) ≡ run_answer r.now (subject_of whom) code }
+fn why_of_run(run: AcceptedRun<'_>, whom: Subject, code: usize) -> Why
+    requires { (number_too_high (subject_of whom) ≡ false) × (is_code code ≡ true) }
+    ensures { told_why (Ok result) ≡ run_answer run.entry.bytes.now (subject_of whom) code }
 {
     if answering::is_link_code(code) || is_rsvp_te(whom) {
         return top_why();
     }
-    why_by(r, Run::BgpLs, run_rule(r, whom), whom, code)
+    why_by(run.bytes, Run::BgpLs, run_rule(run, whom), whom, code)
 }
 
 // Why a BGP-LS run gives a subject what it gives of a kind.
 pub fn run_why(r: &[u8], whom: Subject, code: usize) -> Result<Why, Refusal>
     ensures { told_why result ≡ run_why r.now (subject_of whom) code }
 {
-    bgpls_reader::check_asked(r, whom, code)?;
-    Ok(why_of_run(r, whom, code))
+    let run = bgpls_reader::check_asked(r, whom, code)?;
+    Ok(why_of_run(run, whom, code))
 }

@@ -17,7 +17,7 @@ abbrev which : Known → Set
 which k = k.args.start.set
 
 abbrev run : Known → List ℕ
-run k = k.args.r.now
+run k = k.args.run.bytes.now
 
 abbrev first : Known → ℕ
 first k = k.loop-next.first
@@ -42,11 +42,11 @@ before k = let a = at-list k in
     omega (arith, k.loop-next.invariant.1, k.count_list-n.ensures.1, part-size (run k) (first k) (next k) a.order a.within)
 
 -- The list that was found behind it.
-part : (c : Found) → IsPart c.args.start.set c.args.r.now c.loop-next.next c.in-Some.part.first c.in-Some.part.next
-part c = subst (NextPart c.args.start.set c.args.r.now c.loop-next.next) c.in-Some.is c.next_part.ensures
+part : (c : Found) → IsPart c.args.start.set c.args.run.bytes.now c.loop-next.next c.in-Some.part.first c.in-Some.part.next
+part c = subst (NextPart c.args.start.set c.args.run.bytes.now c.loop-next.next) c.in-Some.is c.next_part.ensures
 
 pub loop-next-init : goal.loop-next-init
-loop-next-init c = let p = c.requires.1 in (p.list, omega arith, count-start _ _ (ap srlg_words p.all))
+loop-next-init c = let p = c.requires in (p.list, omega arith, count-start _ _ (ap srlg_words p.all))
 
 pub slice_bounds-count_list-count : goal.slice_bounds-count_list-count
 slice_bounds-count_list-count c = let a = c.loop-next.invariant.0 in omega arith

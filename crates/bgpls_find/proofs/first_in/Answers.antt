@@ -12,7 +12,7 @@ use Rattle.bgpls_find.proofs.first_in.Goals.{then-is_some-via-then-is_some, then
 
 pub lists-init : goal.lists-init
 lists-init c = let a = c.args in
-    let p = c.requires.1 in (p.list, ap (λ (ts : List Attribute). found_in (of_kind a.code ts)) p.all)
+    let p = c.requires in (p.list, ap (λ (ts : List Attribute). found_in (of_kind a.code ts)) p.all)
 
 pub slice_bounds-first_element-count : goal.slice_bounds-first_element-count
 slice_bounds-first_element-count c = let l = c.lists.invariant.0 in omega arith
@@ -25,7 +25,7 @@ slice_bounds-first_element-end c = let l = c.lists.invariant.0 in omega arith
 
 pub first_element-found-requires : goal.first_element-found-requires
 first_element-found-requires c = let l = c.lists in
-    (part-within c.args.r.now l.first l.next l.invariant.0.order l.invariant.0.within c.requires.0, l.invariant.0.uncut)
+    (part-within c.args.run.bytes.now l.first l.next l.invariant.0.order l.invariant.0.within c.args.run.passed, l.invariant.0.uncut)
 
 pub returns-then-is_some : goal.returns-then-is_some
 returns-then-is_some c = let l = c.lists in
@@ -34,7 +34,7 @@ returns-then-is_some c = let l = c.lists in
     let e = c.is_some.ensures in
     elim c.then-is_some.branch [
       | then-is_some-via-then-is_some w ↦ found_first a.code _ _ f.result f.ensures (sym e ∙ w.if-is_some.true) ∙ l.invariant.1
-      | then-is_some-via-else-is_some+then-r-next w ↦ found_nowhere a.code _ _ f.result f.ensures (attributes-end a.start.set a.r.now l.next w.if-r-next.true)
+      | then-is_some-via-else-is_some+then-r-next w ↦ found_nowhere a.code _ _ f.result f.ensures (attributes-end a.start.set a.run.bytes.now l.next w.if-r-next.true)
           ∙ l.invariant.1
     ]
 
@@ -46,13 +46,13 @@ returns-in_err-part c = let f = c.first_element-found in
     c.from_residual.ensures ∙ found_none c.args.code _ _ f.result f.ensures c.in_err-part.ensures.1 (sym c.is_some.ensures ∙ c.if-is_some.false) ∙ c.lists.invariant.1
 
 pub lists-smaller : goal.lists-smaller
-lists-smaller c = let p : IsPart c.args.start.set c.args.r.now c.lists.next _ _ = c.in_ok-part.ensures in omega arith
+lists-smaller c = let p : IsPart c.args.start.set c.args.run.bytes.now c.lists.next _ _ = c.in_ok-part.ensures in omega arith
 
 pub lists-preserved : goal.lists-preserved
 lists-preserved c = let l = c.lists in
     let a = c.args in
     let f = c.first_element-found in
-    let p : IsPart c.args.start.set c.args.r.now c.lists.next _ _ = c.in_ok-part.ensures in (
+    let p : IsPart c.args.start.set c.args.run.bytes.now c.lists.next _ _ = c.in_ok-part.ensures in (
       next-list _ _ _ _ l.invariant.0 _ _ p,
       ap (λ (ts : List Attribute). found_in (of_kind a.code ts)) (sym p.left)
           ∙ found-later a.code _ _ f.result f.ensures (sym c.is_some.ensures ∙ c.if-is_some.false) ∙ l.invariant.1,

@@ -13,14 +13,14 @@ use mathlib.Core.Path.{sym, ap, subst, ◌∙◌}
 use Rattle.bgpls_reader.proofs.all_masks.Goals as goal
 
 pub new-e-items-requires-clause-uncut : goal.new-e-items-requires-clause-uncut
-new-e-items-requires-clause-uncut c = uncut run_bgp_ls check_top _ (run-passes c.args.r.now c.requires)
+new-e-items-requires-clause-uncut c = uncut run_bgp_ls check_top _ (run-passes c.args.run.bytes.now c.args.run.passed)
 
 pub loop-e-init : goal.loop-e-init
-loop-e-init c = let r = c.args.r.now in
+loop-e-init c = let r = c.args.run.bytes.now in
     let e = ap whole_left c.into_iter-e-iterator.ensures.into_iter_gives ∙ c.new-e-items.ensures in
     record {
       within = subst (Within 2 (length r)) (sym e) (within 2 (omega arith) 0 _ r (omega arith));
-      passes = ap (faults run_bgp_ls check_top) e ∙ run-passes r c.requires;
+      passes = ap (faults run_bgp_ls check_top) e ∙ run-passes r c.args.run.passed;
       held = held_start r _ e c.nobody-m.ensures;
     }
 
@@ -31,7 +31,7 @@ pub join_masks-m-requires : goal.join_masks-m-requires
 join_masks-m-requires c = let l = c.loop-e.invariant in
     let e = c.in-Some.ensures.steps in
     let v = room _ _ (sound _ _ _ (passed-here run_bgp_ls check_top e l.passes)) (sym c.is_chosen.ensures ∙ c.if-is_chosen.true) in
-    (v.fixed, v.live, v.masks, omega (arith, (rw e at l.within).0, run-within _ c.requires))
+    (v.fixed, v.live, v.masks, omega (arith, (rw e at l.within).0, run-within _ c.args.run.passed))
 
 pub loop-e-preserved-then-is_chosen : goal.loop-e-preserved-then-is_chosen
 loop-e-preserved-then-is_chosen c = let l = c.loop-e.invariant in

@@ -11,7 +11,7 @@ use Rattle.bgpls_reader.proofs.all_masks.Given as goal
 
 abbrev pub invariant-loop-e : goal.invariant-loop-e
 invariant-loop-e l = record {
-  within : Within 2 (length l.r) (whole_left l.e-iterator);
+  within : Within 2 (length l.run.bytes.now) (whole_left l.e-iterator);
   passes : faults run_bgp_ls check_top (whole_left l.e-iterator) ≡ accepted;
-  held : Held l.m l.r (whole_left l.e-iterator);
+  held : Held l.m l.run.bytes.now (whole_left l.e-iterator);
 }

@@ -6,9 +6,9 @@ use Rattle.linkstate.specs.BgpLs.{run_source}
 use mathlib.Core.Path.{sym, ap, ◌∙◌}
 use Rattle.bgpls_reader.proofs.check_asked.Goals as goal
 
-pub returns-in_err-check_question : goal.returns-in_err-check_question
-returns-in_err-check_question c = ap told_checked (passed_on _ _ c.from_residual.ensures.1) ∙ sym (by-question _ _ _ _ c.in_err-check_question.ensures)
+pub returns-in_err-check_question-clause-verdict : goal.returns-in_err-check_question-clause-verdict
+returns-in_err-check_question-clause-verdict c = ap told_checked (passed_on _ _ c.from_residual.ensures.1) ∙ sym (by-question _ _ _ _ c.in_err-check_question.ensures)
 
-pub returns : goal.returns
+pub returns-clause-verdict : goal.returns-clause-verdict
 unfolding run_source
-returns c = c.check_run.ensures ∙ by-verdict _ _ _ c.in_ok-check_question.ensures
+returns-clause-verdict c = c.accept.ensures.verdict ∙ by-verdict _ _ _ c.in_ok-check_question.ensures

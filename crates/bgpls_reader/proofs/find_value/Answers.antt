@@ -6,7 +6,7 @@ use mathlib.Core.Path.{ap, ◌∙◌}
 use Rattle.bgpls_reader.proofs.find_value.Goals as goal
 
 pub first_in-requires : goal.first_in-requires
-first_in-requires c = (c.requires.0, c.set_asked-start.ensures.0)
+first_in-requires c = c.set_asked-start.ensures.begins
 
 pub returns : goal.returns
-returns c = c.first_in.ensures ∙ ap (λ (ts : List Attribute). found_in (of_kind c.args.code ts)) c.set_asked-start.ensures.1
+returns c = c.first_in.ensures ∙ ap (λ (ts : List Attribute). found_in (of_kind c.args.code ts)) c.set_asked-start.ensures.all

@@ -6,16 +6,16 @@ use Rattle.bgpls_reader.proofs.part_of.Goals as goal
 
 pub returns-in_default : goal.returns-in_default
 returns-in_default c = let p = c.requires in
-    row-none _ _ _ _ (stands-first _ p.0 c.args.whom p.1 _ p.2 p.3) _ c.find_value.ensures c.in_default.is
+    row-none _ _ _ _ (stands-first _ c.args.run.passed c.args.whom p.0 _ p.1 p.2) _ c.find_value.ensures c.in_default.is
 
 pub overflow_add-result : goal.overflow_add-result
 overflow_add-result c = let p = c.requires in
-    omega (arith, row_within _ _ _ _ (stands-first _ p.0 c.args.whom p.1 _ p.2 p.3) _ c.find_value.ensures _ c.in-Some.is)
+    omega (arith, row_within _ _ _ _ (stands-first _ c.args.run.passed c.args.whom p.0 _ p.1 p.2) _ c.find_value.ensures _ c.in-Some.is)
 
 pub slice_bounds-result-end-2 : goal.slice_bounds-result-end-2
 slice_bounds-result-end-2 c = let p = c.requires in
-    omega (arith, row_within _ _ _ _ (stands-first _ p.0 c.args.whom p.1 _ p.2 p.3) _ c.find_value.ensures _ c.in-Some.is)
+    omega (arith, row_within _ _ _ _ (stands-first _ c.args.run.passed c.args.whom p.0 _ p.1 p.2) _ c.find_value.ensures _ c.in-Some.is)
 
 pub returns : goal.returns
 returns c = let p = c.requires in
-    row-part _ _ _ _ (stands-first _ p.0 c.args.whom p.1 _ p.2 p.3) _ c.find_value.ensures _ c.in-Some.is
+    row-part _ _ _ _ (stands-first _ c.args.run.passed c.args.whom p.0 _ p.1 p.2) _ c.find_value.ensures _ c.in-Some.is

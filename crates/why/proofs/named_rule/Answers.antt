@@ -4,7 +4,7 @@ use Rattle.why.proofs.Rules.{is-some-held, rule-named, rule-unnamed}
 use Rattle.why.proofs.named_rule.Goals as goal
 
 pub returns-then-is_some : goal.returns-then-is_some
-returns-then-is_some c = rule-named c.args.r.now c.requires c.args.n _ c.first_such.ensures (is-some-held _ _ c.is_some.ensures ∙ c.if-is_some.true)
+returns-then-is_some c = rule-named c.args.run.bytes.now c.args.run.passed c.args.n _ c.first_such.ensures (is-some-held _ _ c.is_some.ensures ∙ c.if-is_some.true)
 
 pub returns : goal.returns
-returns c = rule-unnamed c.args.r.now c.requires c.args.n _ c.first_such.ensures (is-some-held _ _ c.is_some.ensures ∙ c.if-is_some.false)
+returns c = rule-unnamed c.args.run.bytes.now c.args.run.passed c.args.n _ c.first_such.ensures (is-some-held _ _ c.is_some.ensures ∙ c.if-is_some.false)
