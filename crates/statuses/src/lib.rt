@@ -271,7 +271,12 @@ fn ask_run_value(r: &[u8], whom: Subject, code: usize) -> Words
     ensures { (list : List ℕ) → Answers (run_source r.now) (subject_of whom) code list (words result) list }
 {
     match bgpls_reader::check_asked(r, whom, code) {
-        Ok(run) => row_words(r, Run::BgpLs, code, bgpls_reader::find_value(run, whom, code)),
+        Ok(run) => row_words(
+            r,
+            Run::BgpLs,
+            code,
+            bgpls_reader::find_value(run, whom, code),
+        ),
         Err(refusal) => Words::from(refusal),
     }
 }

@@ -44,7 +44,10 @@ fn ask_link(
     let mut list = [0u32; 4];
     let metric = Told(isis_link::ask(a, b, c, whom, 1092, &mut list));
     let srlgs = Told(isis_link::ask(a, b, c, whom, 1096, &mut list));
-    println!(rt; "{label}: metric {metric}; SRLGs {srlgs}, first {}", list[0])
+    println!(rt;
+        "{label}: metric {metric}; SRLGs {srlgs}, first {}",
+        list[0]
+    )
 }
 
 // The first n bytes of a buffer.
@@ -97,7 +100,10 @@ fn starred(rt: &impl Print, label: &str, a: &[u8]) -> io::Result<()> {
     ];
     print!(rt; "{label}:")?;
     for whom in subjects {
-        print!(rt; " {};", Told(isis_link::ask(a, b"", b"", whom, 1092, &mut [])))?;
+        print!(rt;
+            " {};",
+            Told(isis_link::ask(a, b"", b"", whom, 1092, &mut []))
+        )?;
     }
     println!(rt)?;
     export_whole(rt, label, a, b"", b"")
@@ -188,7 +194,14 @@ fn sides(rt: &impl Print, a: &[u8], b: &[u8], c: &[u8]) -> io::Result<()> {
 // Runs A of the longest length and of a byte more, all 0.
 fn zeros(rt: &impl Print) -> io::Result<()> {
     let run = [0u8; 2049];
-    ask_link(rt, "2,048 bytes", front(&run, 2048), b"", b"", Subject::General)?;
+    ask_link(
+        rt,
+        "2,048 bytes",
+        front(&run, 2048),
+        b"",
+        b"",
+        Subject::General,
+    )?;
     ask_link(rt, "2,049 bytes", &run, b"", b"", Subject::General)
 }
 
