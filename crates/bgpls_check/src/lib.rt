@@ -181,7 +181,8 @@ pub struct AcceptedRun<'a> {
     pub ghost passed: { run_verdict bytes.now ≡ accepted },
 }
 
-// The one place that makes such a run, of bytes that anybody may have written.
+// The one place that makes such a run, of bytes that anybody may have written. Inlined: else the run comes back through memory.
+#[inline(always)]
 pub fn accept(r: &[u8]) -> Result<AcceptedRun<'_>, Refusal>
     ensures verdict { told_checked result ≡ run_verdict r.now }
     ensures bytes { IfOk result (λ run. run.bytes.now ≡ r.now) }
