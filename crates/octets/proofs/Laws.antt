@@ -269,6 +269,11 @@ bytes_at-take s end at n h =
     let e : at + (end - at) ≡ end = omega arith in
     ap (λ (i : ℕ). take n (drop at (take i s))) (sym e) ∙ ap (take n) (drop-take at (end - at) s) ∙ take-take n (end - at) (drop at s) (omega arith)
 
+pub copy-part-next : (d : List ℕ) (from n to i : ℕ) (out : List ℕ) → out ≡ paste d to (bytes_at d from n) i → (b : ℕ) → b ≡ get_or d (from + i) 0 → i < n → from + n ≤ to → to + n ≤ length d
+    → set out (to + i) b ≡ paste d to (bytes_at d from n) (i + 1)
+copy-part-next d from n to i out so b e h l k =
+    rw (e ∙ sym (get_d-bytes_at d from n i h)) (copy-next d to (bytes_at d from n) i out so 0 (omega arith) (omega (arith, length-bytes_at d from n (omega arith))))
+
 -- What is written is read back.
 pub bytes_at-put : (d : List ℕ) (at : ℕ) (vs : List ℕ) → at + length vs ≤ length d → bytes_at (put d at vs) at (length vs) ≡ vs
 unfolding bytes_at put

@@ -70,12 +70,14 @@ pub fn same_parts(s: &[u8], p: usize, n: usize, t: &[u8], q: usize, m: usize) ->
     same(&s[p..p + n], &t[q..q + m])
 }
 
-// A run copied whole to an offset of a buffer.
+// A run copied whole to an offset of a buffer. By index, here and below: the compiler makes a call of `memmove` of `copy_from_slice`.
 pub fn copy_all(src: &[u8], out: &mut [u8], at: usize)
     requires { at + length src.now ≤ length out.old }
     ensures { out.new ≡ put out.old at src.now }
 {
-    out[at..at + src.len()].copy_from_slice(src);
+    for i in 0..src.len() {
+        out[at + i] = src[i];
+    }
 }
 
 // n bytes of a run, from a on, copied to an offset of a buffer.
@@ -91,8 +93,9 @@ pub fn copy_on(out: &mut [u8], from: usize, n: usize, to: usize)
     requires { (from + n ≤ to) × (to + n ≤ length out.old) }
     ensures { out.new ≡ put out.old to (bytes_at out.old from n) }
 {
-    let (before, behind) = out.split_at_mut(to);
-    behind[..n].copy_from_slice(&before[from..from + n]);
+    for i in 0..n {
+        out[to + i] = out[from + i];
+    }
 }
 
 // The float whose bits these are. Every NaN pattern lies above that of infinity, and gives the one NaN.
