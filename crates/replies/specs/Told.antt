@@ -1,5 +1,5 @@
 -- What each case of the answers says in document 01's terms: its number, its run and offset, its values. Contracts go through these definitions.
-use Rattle.std.specs.Prelude.{List, ℕ, Option, None, Some, Result, Ok, Err}
+use Rattle.std.specs.Prelude.{◌≡◌, ◌<◌, ◌⊎◌, List, ℕ, Option, None, Some, Result, Ok, Err}
 use Rattle.linkstate.specs.Replies as R
 use Rattle.linkstate.specs.Questions as Q
 use Rattle.linkstate.specs.Why as W
@@ -43,6 +43,12 @@ number_of Reasons.NoRoom = 5
 number_of Reasons.NoApplication = 6
 number_of Reasons.NoKind = 7
 number_of Reasons.Twice = 8
+number_of (Reasons.Other n) = n
+
+-- A reason stands by its name where its number has one.
+abbrev pub IsByName : Reason → Type 0
+IsByName (Reasons.Other n) = (n ≡ 0) ⊎ (8 < n)
+IsByName _ = Unit
 
 abbrev pub told_refusal : Refusal → R.Refusal
 told_refusal r = record { number = number_of r.reason; at = told_place r.place }

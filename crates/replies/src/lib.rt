@@ -2,8 +2,9 @@
 
 #![tactic(auto)]
 
-ghost use Rattle.std.specs.Prelude.{◌≡◌};
-ghost use Rattle.replies.specs.Told.{number_of, told_run, told_refusal, subject_of};
+ghost use Rattle.std.specs.Prelude.{◌≡◌, Some};
+ghost use Rattle.replies.specs.Told.{number_of, IsByName, told_run, told_refusal, subject_of};
+ghost use Rattle.replies.specs.Shown.{shown_run, shown_refusal, shown_reading};
 ghost use Rattle.linkstate.specs.Replies.{refusal_at, run_a};
 ghost use Rattle.linkstate.specs.Questions.{number_too_high};
 
@@ -25,7 +26,7 @@ pub struct Place {
     pub offset: usize,
 }
 
-// The reasons of a refusal, in the order of their numbers, 1 to 8.
+// The reasons of a refusal, in the order of their numbers, 1 to 8, and any other number.
 #[derive(Clone, Copy, Debug, PartialEq, Eq)]
 pub enum Reason {
     // a run is longer than it may be
@@ -44,6 +45,8 @@ pub enum Reason {
     NoKind,
     // a known kind stands twice in a list
     Twice,
+    // one that has no name here, by its number
+    Other(u8),
 }
 
 impl From<Reason> for u8 {
@@ -59,6 +62,26 @@ impl From<Reason> for u8 {
             Reason::NoApplication => 6,
             Reason::NoKind => 7,
             Reason::Twice => 8,
+            Reason::Other(n) => n,
+        }
+    }
+}
+
+// The reason that a number tells: 1 to 8 by their names, any other as it is.
+impl From<u8> for Reason {
+    ghost from_gives = { λ n reason. (number_of reason ≡ n) × IsByName reason };
+
+    fn from(number: u8) -> Reason {
+        match number {
+            1 => Reason::TooLong,
+            2 => Reason::OddSrlgs,
+            3 => Reason::Cut,
+            4 => Reason::Length,
+            5 => Reason::NoRoom,
+            6 => Reason::NoApplication,
+            7 => Reason::NoKind,
+            8 => Reason::Twice,
+            n => Reason::Other(n),
         }
     }
 }
@@ -153,6 +176,8 @@ pub fn number_too_high(whom: Subject) -> bool
 }
 
 impl fmt::Display for Run {
+    ghost output = { λ run. Some (shown_run run) };
+
     fn fmt<W: fmt::Write>(&self, f: &mut fmt::Formatter<W>) -> fmt::Result {
         f.write_str(match self {
             Run::A => "A",
@@ -165,6 +190,8 @@ impl fmt::Display for Run {
 
 // A refusal by its number, run and offset.
 impl fmt::Display for Refusal {
+    ghost output = { λ refusal. Some (shown_refusal refusal) };
+
     fn fmt<W: fmt::Write>(&self, f: &mut fmt::Formatter<W>) -> fmt::Result {
         let number = u8::from(self.reason);
         write!(
@@ -176,6 +203,8 @@ impl fmt::Display for Refusal {
 }
 
 impl fmt::Display for Reading {
+    ghost output = { λ reading. Some (shown_reading reading) };
+
     fn fmt<W: fmt::Write>(&self, f: &mut fmt::Formatter<W>) -> fmt::Result {
         match self {
             Reading::Number(n) => write!(f, "{n}"),
