@@ -189,8 +189,8 @@ module _ {run : List ℕ} {sets : List (List ℕ)} {values : List ℕ} {rows cla
         behind : Opens places o r
         behind = open-on was refl (standing_on srlgs was.standing (front e) front-wrote (omega (arith, both-room, length-append (front e) (inner e))))
 
-        pub set-asks : (e.slot < length sets) × Writable run (slot_grid sets e.slot) values rows classes places e.class o r × (r + length (inner e) ≤ length o)
-        set-asks = (of_s.inside, writable behind e.slot e.class of_s of_c, behind-room d at (front e) (inner e) both-room kept front-wrote)
+        pub set-asks : Writable run (slot_grid sets e.slot) values rows classes places e.class o r × (r + length (inner e) ≤ length o)
+        set-asks = (writable behind e.slot e.class of_s of_c, behind-room d at (front e) (inner e) both-room kept front-wrote)
 
         pub asla-written : {t : ℕ} {places' x : List ℕ} → Written srlgs o r (inner e) t places' x
             → Written srlgs d at (asla_tlv run sets srlgs e) t places' x

@@ -74,8 +74,8 @@ module _ {run : List ℕ} {sets : List (List ℕ)} {values : List ℕ} {rows cla
       low-room : 0 + length low ≤ length d
       low-room = omega arith
 
-      pub first-asks : (s < length sets) × Fits run g × Among grid_codes 1088 × (0 + length (one g 1088) ≤ length d)
-      first-asks = (of_s.inside, fits-top, first_code, first-room d 0 three low-room)
+      pub first-asks : Fits run g × Among grid_codes 1088 × (0 + length (one g 1088) ≤ length d)
+      first-asks = (fits-top, first_code, first-room d 0 three low-room)
 
       module _ {o : List ℕ} {r : ℕ} (kept : length o ≡ length d) (w : Wrote d 0 (one g 1088) r o) where
         pub bandwidths-asks : Fits run (link_rows sets) × (2 < length sets) × (r + length bandwidths ≤ length o)
@@ -85,8 +85,8 @@ module _ {run : List ℕ} {sets : List (List ℕ)} {values : List ℕ} {rows cla
           behind : Opens places p q
           behind = open-on ok was refl (standing_on srlgs (second-stands srlgs d 0 three low-room was.standing kept w) bandwidths v bandwidths-asks.2)
 
-          pub middle-asks : (s < length sets) × Writable run g values rows classes places c p q × (q + length middle ≤ length p)
-          middle-asks = (of_s.inside, writable ok behind s c of_s of_c, third-room d 0 three low-room kept w still v)
+          pub middle-asks : Writable run g values rows classes places c p q × (q + length middle ≤ length p)
+          middle-asks = (writable ok behind s c of_s of_c, third-room d 0 three low-room kept w still v)
 
           pub low-written : {t : ℕ} {places' e : List ℕ} → Written srlgs p q middle t places' e → Written srlgs d 0 low t places' e
           low-written u = (three-write d 0 three low-room kept w still v u.0, u.1)
@@ -116,8 +116,8 @@ module _ {run : List ℕ} {sets : List (List ℕ)} {values : List ℕ} {rows cla
         aslas-asks = (open-on ok was stay w.1, entered, few, second-room d 0 parts whole_room kept w.0)
 
         module _ {places'' p : List ℕ} {q : ℕ} (still : length p ≡ length o) (v : Written srlgs o r aslas q places'' p) where
-          pub last-asks : (s < length sets) × Fits run g × Among grid_codes 1173 × (q + length (one g 1173) ≤ length p)
-          last-asks = (of_s.inside, fits-top, last_code, third-room d 0 parts whole_room kept w.0 still v.0)
+          pub last-asks : Fits run g × Among grid_codes 1173 × (q + length (one g 1173) ≤ length p)
+          last-asks = (fits-top, last_code, third-room d 0 parts whole_room kept w.0 still v.0)
 
           pub whole-written : {t : ℕ} {e : List ℕ} → Wrote p q (one g 1173) t e → (t ≡ length whole) × (e ≡ put d 0 whole)
           whole-written u = let z = three-write d 0 parts whole_room kept w.0 still v.0 u in (omega (arith, z.0), z.1)

@@ -67,7 +67,8 @@ impl Asla {
     {
         let size = set_size(sets, srlgs, self.slot, self.class);
         let inner = tlv_bytes::write_front(self.members, size, out, at);
-        set_bytes::write_set(sets, self.slot, srlgs, places, self.class, out, inner)
+        let g = &sets.rows[self.slot];
+        set_bytes::write_set(sets.run, g, srlgs, places, self.class, out, inner)
     }
 }
 
@@ -181,9 +182,10 @@ fn write_low(
     requires { Open sets.run.now sets.rows.now srlgs.values.now srlgs.rows.now srlgs.classes.now places.old out.old 0 × IsSet sets.rows.now top.slot × (top.class < length srlgs.classes.now) × (length (in_tlvs (top_set sets.run.now sets.rows.now (numbers_in srlgs.values.now srlgs.rows.now srlgs.classes.now) top.slot top.class) low_codes) ≤ length out.old) }
     ensures { Wrote (numbers_in srlgs.entry.values.now srlgs.entry.rows.now srlgs.entry.classes.now) out.old 0 (in_tlvs (top_set sets.entry.run.now sets.entry.rows.now (numbers_in srlgs.entry.values.now srlgs.entry.rows.now srlgs.entry.classes.now) top.slot top.class) low_codes) result places.new out.new }
 {
-    let first = set_bytes::write_kind(sets, top.slot, 1088, out, 0);
+    let g = &sets.rows[top.slot];
+    let first = set_bytes::write_kind(sets.run, g, 1088, out, 0);
     let bandwidths = set_bytes::write_bandwidths(sets, out, first);
-    set_bytes::write_middle(sets, top.slot, srlgs, places, top.class, out, bandwidths)
+    set_bytes::write_middle(sets.run, g, srlgs, places, top.class, out, bandwidths)
 }
 
 // All TLVs, ascending by type, from the buffer's front on; how many bytes they have.
@@ -201,7 +203,7 @@ fn write_whole(
 {
     let low = write_low(sets, srlgs, places, top, out);
     let aslas = write_aslas(sets, srlgs, places, groups, first, out, low);
-    set_bytes::write_kind(sets, top.slot, 1173, out, aslas)
+    set_bytes::write_kind(sets.run, &sets.rows[top.slot], 1173, out, aslas)
 }
 
 // The export of the meaning that tables describe, refused where the buffer has no room for it; or its length alone, and nothing is written.

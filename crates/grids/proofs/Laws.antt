@@ -19,7 +19,7 @@ use Rattle.octets.proofs.Laws.{same-lengths, length-bytes_at}
 use Rattle.tlv_bytes.specs.Tlvs.{front, value_at}
 use Rattle.tlv_bytes.proofs.Laws.{length-value, value_none, front-three, front-none}
 use Rattle.grids.specs.Grids.{row_value, grid_value, RowFits, Alike, row_read}
-use Rattle.grids.specs.Slots.{cell, cell_row, slot_grid}
+use Rattle.grids.specs.Slots.{cell, cell_row, row_grid, slot_grid}
 use Rattle.octets.specs.declared.Span.{Span}
 
 -- ---- rows
@@ -168,6 +168,15 @@ pub length-slot : (sets : List (List ℕ)) (s : ℕ) → length (slot_grid sets 
 unfolding slot_grid numbers
 length-slot sets s = refl
 
+-- The grid of a slot is that of its row in the table.
+pub row_at : (r : List ℕ) (k : ℕ) → k < 10 → get_or (row_grid r) k [] ≡ cell_row (get_or r k 0)
+unfolding row_grid
+row_at r k h = row-numbers (λ j. cell_row (get_or r j 0)) 10 0 k h ∙ ap (λ (j : ℕ). cell_row (get_or r j 0)) (omega arith)
+
+pub row-slot : (sets : List (List ℕ)) (s : ℕ) → row_grid (get_or sets s []) ≡ slot_grid sets s
+unfolding row_grid slot_grid
+row-slot sets s = refl
+
 -- Slots whose ten cells are the same have the same grid.
 pub cells-grid : (sets : List (List ℕ)) (s t : ℕ) → take 10 (get_or sets s []) ≡ take 10 (get_or sets t []) → slot_grid sets s ≡ slot_grid sets t
 cells-grid sets s t e =
@@ -185,14 +194,3 @@ passed-next {same = same} {a = a} {b = b} e f p = record {
   lengths = omega (arith, ap length e, ap length f, p.lengths);
   tells = λ t h. p.tells (and_l same (eqb a b) t) (e ∙ ap₂ (λ (i : ℕ) (l : List ℕ). i ∷ l) (eqb-true a b (and_r same (eqb a b) t)) h ∙ sym f);
 }
-
--- A slot's cell as the code takes it, by its row of the grid.
-module _ (sets : List (List ℕ)) (s k : ℕ) (h : k < 10) where
-  abbrev pub slot-row : List ℕ
-  slot-row = get_or (slot_grid sets s) k []
-
-  pub slot-some : (v : Span) → Some v ≡ row_read (cell_row (cell sets s k)) → (v.place ≡ get_or slot-row 0 0) × (v.len ≡ get_or slot-row 1 0) × (0 < v.len)
-  slot-some v e = row_is slot-row v (ap row_read (slot_row sets s k h) ∙ sym e)
-
-  pub slot-none : None ≡ row_read (cell_row (cell sets s k)) → get_or slot-row 1 0 ≡ 0
-  slot-none e = row-none slot-row (ap row_read (slot_row sets s k h) ∙ sym e)

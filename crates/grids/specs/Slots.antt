@@ -14,7 +14,10 @@ cell sets s k = get_or (get_or sets s []) k 0
 abbrev pub cell_row : ℕ → List ℕ
 cell_row c = c % 65536 ∷ c / 65536 ∷ []
 
--- The grid of a slot, and the rows of the link's bandwidths.
+-- The grid of a slot's row; that of a slot, and the rows of the link's bandwidths.
+unfoldable pub row_grid : List ℕ → List (List ℕ)
+row_grid r = map (λ k. cell_row (get_or r k 0)) (numbers 0 10)
+
 unfoldable pub slot_grid : List (List ℕ) → ℕ → List (List ℕ)
 slot_grid sets s = map (λ k. cell_row (cell sets s k)) (numbers 0 10)
 

@@ -17,9 +17,9 @@ use Rattle.kinds.proofs.Computing.{computing}
 use Rattle.tlv_bytes.specs.Tlvs.{in_tlvs, value_at, value_size, Wrote}
 use Rattle.tlv_bytes.proofs.Laws.{tlvs-none, tlvs-append, tlv-absent, tlv-present, tlvs-same, in_three, length-value, size-value, no_write, same_write, behind-room, behind-write, Three, length_three, first-room, third-room}
 use Rattle.grids.specs.Grids.{row_value, grid_value, set_of, bandwidth_of, top_of, RowFits, Fits, row_read}
-use Rattle.grids.specs.Slots.{slot_grid, link_rows, cell, cell_row}
+use Rattle.grids.specs.Slots.{row_grid, link_rows, cell, cell_row}
 use Rattle.octets.specs.declared.Span.{Span}
-use Rattle.grids.proofs.Laws.{row_is, row-present, row-absent, ten, grid-at, row-numbers, slot_row}
+use Rattle.grids.proofs.Laws.{row_is, row-present, row-absent, ten, grid-at, row-numbers, row_at}
 use Rattle.set_bytes.specs.Standing.{srlg_tlv, Standing}
 use Rattle.set_bytes.proofs.SrlgLaws.{standing_on}
 use Rattle.set_bytes.specs.Sets.{low_codes, high_codes, extended_codes, middle_codes, Among}
@@ -114,13 +114,19 @@ module _ (run : List ℕ) (sets : List (List ℕ)) where
   pub link_fits : (k : ℕ) → k < length link_codes → Fits run (link_rows sets) → RowFits run (cell_row (cell sets 2 k))
   link_fits k h fits = rw (sym (link_at k (omega (arith, three-codes)))) (fits k)
 
-  -- The same of a slot's kinds.
-  module _ (s : ℕ) where
-    pub slot-kind : (c k : ℕ) → k < length grid_codes → c ≡ get_or grid_codes k 0 → grid_value run (slot_grid sets s) c ≡ row_value run (cell_row (cell sets s k))
-    slot-kind c k h e = grid-kind run (slot_grid sets s) c k h e ∙ ap (row_value run) (slot_row sets s k (omega (arith, ten)))
+  -- The same by the row of slot 2.
+  abbrev pub link-cell : ℕ → List ℕ
+  link-cell k = get_or (row_grid (get_or sets 2 [])) k []
 
-    pub slot_fits : (k : ℕ) → k < length grid_codes → Fits run (slot_grid sets s) → RowFits run (cell_row (cell sets s k))
-    slot_fits k h fits = rw (sym (slot_row sets s k (omega (arith, ten)))) (fits k)
+  module _ (k : ℕ) (h : k < length link_codes) where
+    link-is : link-cell k ≡ cell_row (cell sets 2 k)
+    link-is = row_at (get_or sets 2 []) k (omega (arith, three-codes))
+
+    pub bandwidth-kind : (c : ℕ) → c ≡ get_or link_codes k 0 → bandwidth_of run (link_rows sets) c ≡ row_value run (link-cell k)
+    bandwidth-kind c e = link-kind c k h e ∙ ap (row_value run) (sym link-is)
+
+    pub bandwidth-fits : Fits run (link_rows sets) → RowFits run (link-cell k)
+    bandwidth-fits fits = rw link-is (link_fits k h fits)
 
 -- The TLV of a row's value, if it has one.
 module _ (run r : List ℕ) (c : ℕ) where

@@ -12,10 +12,10 @@ ghost use Rattle.set_bytes.specs.Standing.{srlg_tlv, srlg_size, count_in, number
 ghost use Rattle.linkstate.specs.Kinds.{link_codes, application_codes};
 ghost use Rattle.kinds.specs.Rules.{grid_codes};
 ghost use Rattle.grids.specs.Grids.{row_value, grid_value, set_of, bandwidth_of, RowFits, Fits};
-ghost use Rattle.grids.specs.Slots.{cell, cell_row, slot_grid, link_rows};
+ghost use Rattle.grids.specs.Slots.{link_rows};
 ghost use Rattle.set_bytes.specs.Sets.{extended_codes, middle_codes, Among, Writable};
 
-use grids::Sets;
+use grids::{Grid, Sets};
 use kinds::Kind;
 use masks::Bits;
 
@@ -126,28 +126,28 @@ impl Srlgs<'_> {
     }
 }
 
-// The TLV of a slot's value of a kind, if it has one; the place after it.
-fn write_cell(sets: Sets<'_>, s: usize, k: usize, code: u16, out: &mut [u8], at: usize) -> usize
-    requires { (s < length sets.rows.now) × (k < 12) × RowFits sets.run.now (cell_row (cell sets.rows.now s k)) × (at + length (in_tlvs (λ _. row_value sets.run.now (cell_row (cell sets.rows.now s k))) (code ∷ [])) ≤ length out.old) }
-    ensures { Wrote out.old at (in_tlvs (λ _. row_value sets.entry.run.now (cell_row (cell sets.entry.rows.now s k))) (code ∷ [])) result out.new }
+// The TLV of a grid's value of a kind, by its row, if it has one; the place after it.
+fn write_cell<G: Grid>(run: &[u8], g: &G, k: usize, code: u16, out: &mut [u8], at: usize) -> usize
+    requires { (k < 10) × RowFits run.now (get_or (G.rows g.now) k []) × (at + length (in_tlvs (λ _. row_value run.now (get_or (G.rows g.now) k [])) (code ∷ [])) ≤ length out.old) }
+    ensures { Wrote out.old at (in_tlvs (λ _. row_value run.now (get_or (G.rows g.now) k [])) (code ∷ [])) result out.new }
 {
-    let Some(v) = grids::value_at(sets.rows, s, k) else {
+    let Some(v) = g.value(k) else {
         return at;
     };
-    tlv_bytes::write_value(sets.run, v.place, v.len, code, out, at)
+    tlv_bytes::write_value(run, v.place, v.len, code, out, at)
 }
 
-// The TLV of a kind of a slot, if it has a value; the place after it.
-pub fn write_kind(sets: Sets<'_>, s: usize, c: usize, out: &mut [u8], at: usize) -> usize
-    requires { (s < length sets.rows.now) × Fits sets.run.now (slot_grid sets.rows.now s) × Among grid_codes c × (at + length (in_tlvs (grid_value sets.run.now (slot_grid sets.rows.now s)) (c ∷ [])) ≤ length out.old) }
-    ensures { Wrote out.old at (in_tlvs (grid_value sets.entry.run.now (slot_grid sets.entry.rows.now s)) (c ∷ [])) result out.new }
+// The TLV of a kind of a grid, if it has a value; the place after it.
+pub fn write_kind<G: Grid>(run: &[u8], g: &G, c: usize, out: &mut [u8], at: usize) -> usize
+    requires { Fits run.now (G.rows g.now) × Among grid_codes c × (at + length (in_tlvs (grid_value run.now (G.rows g.now)) (c ∷ [])) ≤ length out.old) }
+    ensures { Wrote out.old at (in_tlvs (grid_value run.now (G.rows g.now)) (c ∷ [])) result out.new }
 {
     let rule = kinds::classify_code(c);
     let kind = rule.kind;
     let Kind::Application(k) = kind else {
         return at;
     };
-    write_cell(sets, s, k, rule.code, out, at)
+    write_cell(run, g, k, rule.code, out, at)
 }
 
 // The TLV of a bandwidth of the link, if it has one; the place after it.
@@ -160,7 +160,7 @@ fn write_bandwidth(sets: Sets<'_>, c: usize, out: &mut [u8], at: usize) -> usize
     let Kind::Link(k) = kind else {
         return at;
     };
-    write_cell(sets, 2, k, rule.code, out, at)
+    write_cell(sets.run, &sets.rows[2], k, rule.code, out, at)
 }
 
 // The TLVs of the link's bandwidths, 1089 to 1091; the place after them.
@@ -174,49 +174,49 @@ pub fn write_bandwidths(sets: Sets<'_>, out: &mut [u8], at: usize) -> usize
 }
 
 // The TLVs of the kinds 1114 to 1120, ascending; the place after them.
-fn write_extended(sets: Sets<'_>, s: usize, out: &mut [u8], at: usize) -> usize
-    requires { (s < length sets.rows.now) × Fits sets.run.now (slot_grid sets.rows.now s) × (at + length (in_tlvs (grid_value sets.run.now (slot_grid sets.rows.now s)) extended_codes) ≤ length out.old) }
-    ensures { Wrote out.old at (in_tlvs (grid_value sets.entry.run.now (slot_grid sets.entry.rows.now s)) extended_codes) result out.new }
+fn write_extended<G: Grid>(run: &[u8], g: &G, out: &mut [u8], at: usize) -> usize
+    requires { Fits run.now (G.rows g.now) × (at + length (in_tlvs (grid_value run.now (G.rows g.now)) extended_codes) ≤ length out.old) }
+    ensures { Wrote out.old at (in_tlvs (grid_value run.now (G.rows g.now)) extended_codes) result out.new }
 {
     let mut next = at;
     for c in 1114..1121 {
-        next = write_kind(sets, s, c, out, next);
+        next = write_kind(run, g, c, out, next);
     }
     next
 }
 
-// The TLVs of the kinds 1092 to 1120 of a slot with the SRLGs of class c, ascending; the place after them.
-pub fn write_middle(
-    sets: Sets<'_>,
-    s: usize,
+// The TLVs of the kinds 1092 to 1120 of a grid with the SRLGs of class c, ascending; the place after them.
+pub fn write_middle<G: Grid>(
+    run: &[u8],
+    g: &G,
     srlgs: Srlgs<'_>,
     places: &mut [usize],
     c: usize,
     out: &mut [u8],
     at: usize,
 ) -> usize
-    requires { (s < length sets.rows.now) × Writable sets.run.now (slot_grid sets.rows.now s) srlgs.values.now srlgs.rows.now srlgs.classes.now places.old c out.old at × (at + length (in_tlvs (set_of sets.run.now (slot_grid sets.rows.now s) (numbers_in srlgs.values.now srlgs.rows.now srlgs.classes.now c)) middle_codes) ≤ length out.old) }
-    ensures { Written (numbers_in srlgs.entry.values.now srlgs.entry.rows.now srlgs.entry.classes.now) out.old at (in_tlvs (set_of sets.entry.run.now (slot_grid sets.entry.rows.now s) (numbers_in srlgs.entry.values.now srlgs.entry.rows.now srlgs.entry.classes.now c)) middle_codes) result places.new out.new }
+    requires { Writable run.now (G.rows g.now) srlgs.values.now srlgs.rows.now srlgs.classes.now places.old c out.old at × (at + length (in_tlvs (set_of run.now (G.rows g.now) (numbers_in srlgs.values.now srlgs.rows.now srlgs.classes.now c)) middle_codes) ≤ length out.old) }
+    ensures { Written (numbers_in srlgs.entry.values.now srlgs.entry.rows.now srlgs.entry.classes.now) out.old at (in_tlvs (set_of run.now (G.rows g.now) (numbers_in srlgs.entry.values.now srlgs.entry.rows.now srlgs.entry.classes.now c)) middle_codes) result places.new out.new }
 {
-    let metric = write_kind(sets, s, 1092, out, at);
+    let metric = write_kind(run, g, 1092, out, at);
     let shared = srlgs.write(places, c, out, metric);
-    write_extended(sets, s, out, shared)
+    write_extended(run, g, out, shared)
 }
 
-// The TLVs of an application's set, of a slot and class c of SRLGs, ascending; the place after them.
-pub fn write_set(
-    sets: Sets<'_>,
-    s: usize,
+// The TLVs of an application's set, of a grid and class c of SRLGs, ascending; the place after them.
+pub fn write_set<G: Grid>(
+    run: &[u8],
+    g: &G,
     srlgs: Srlgs<'_>,
     places: &mut [usize],
     c: usize,
     out: &mut [u8],
     at: usize,
 ) -> usize
-    requires { (s < length sets.rows.now) × Writable sets.run.now (slot_grid sets.rows.now s) srlgs.values.now srlgs.rows.now srlgs.classes.now places.old c out.old at × (at + length (in_tlvs (set_of sets.run.now (slot_grid sets.rows.now s) (numbers_in srlgs.values.now srlgs.rows.now srlgs.classes.now c)) application_codes) ≤ length out.old) }
-    ensures { Written (numbers_in srlgs.entry.values.now srlgs.entry.rows.now srlgs.entry.classes.now) out.old at (in_tlvs (set_of sets.entry.run.now (slot_grid sets.entry.rows.now s) (numbers_in srlgs.entry.values.now srlgs.entry.rows.now srlgs.entry.classes.now c)) application_codes) result places.new out.new }
+    requires { Writable run.now (G.rows g.now) srlgs.values.now srlgs.rows.now srlgs.classes.now places.old c out.old at × (at + length (in_tlvs (set_of run.now (G.rows g.now) (numbers_in srlgs.values.now srlgs.rows.now srlgs.classes.now c)) application_codes) ≤ length out.old) }
+    ensures { Written (numbers_in srlgs.entry.values.now srlgs.entry.rows.now srlgs.entry.classes.now) out.old at (in_tlvs (set_of run.now (G.rows g.now) (numbers_in srlgs.entry.values.now srlgs.entry.rows.now srlgs.entry.classes.now c)) application_codes) result places.new out.new }
 {
-    let first = write_kind(sets, s, 1088, out, at);
-    let middle = write_middle(sets, s, srlgs, places, c, out, first);
-    write_kind(sets, s, 1173, out, middle)
+    let first = write_kind(run, g, 1088, out, at);
+    let middle = write_middle(run, g, srlgs, places, c, out, first);
+    write_kind(run, g, 1173, out, middle)
 }

@@ -1,4 +1,5 @@
 -- what comes before the ASLA TLVs, these, and the last kind.
+use Rattle.grids.proofs.Laws.{row-slot}
 use Rattle.export_bytes.proofs.Parts.{low-asks, aslas-asks, last-asks, whole-written}
 use Rattle.export_bytes.proofs.write_whole.Goals as goal
 
@@ -16,12 +17,11 @@ pub write_kind-requires : goal.write_kind-requires
 write_kind-requires c = let p = c.requires in
     let one = c.write_low-low in
     let two = c.write_aslas-aslas in
-    last-asks p.0.tables p.0 p.3 p.4 p.1 p.2 p.5 one.auto.places
-    one.auto.out one.ensures two.auto.out two.ensures
+    rw (row-slot c.args.sets.rows.now c.args.top.slot) (last-asks p.0.tables p.0 p.3 p.4 p.1 p.2 p.5 one.auto.places one.auto.out one.ensures two.auto.out two.ensures)
 
 pub returns : goal.returns
 returns c = let p = c.requires in
     let one = c.write_low-low in
     let two = c.write_aslas-aslas in
     whole-written p.0.tables p.0 p.3 p.4 p.1 p.2 p.5 one.auto.places
-    one.auto.out one.ensures two.auto.out two.ensures c.write_kind.ensures
+    one.auto.out one.ensures two.auto.out two.ensures (rw (row-slot c.args.sets.rows.now c.args.top.slot) at c.write_kind.ensures)

@@ -1,4 +1,5 @@
 -- The front, then the set.
+use Rattle.grids.proofs.Laws.{row-slot}
 use Rattle.export_bytes.proofs.Laws.{size-asks, front-asks, set-asks, asla-written}
 use Rattle.export_bytes.proofs.Asla.write.Goals as goal
 
@@ -13,9 +14,9 @@ write_front-inner-requires c = let p = c.requires in
 pub write_set-requires : goal.write_set-requires
 write_set-requires c = let p = c.requires in
     let f = c.write_front-inner in
-    set-asks p.0.tables p.0 c.args.self p.1 p.2 p.3 _ c.set_size-size.ensures.0 f.auto.out f.ensures
+    rw (row-slot c.args.sets.rows.now c.args.self.slot) (set-asks p.0.tables p.0 c.args.self p.1 p.2 p.3 _ c.set_size-size.ensures.0 f.auto.out f.ensures)
 
 pub returns : goal.returns
 returns c = let p = c.requires in
     let f = c.write_front-inner in
-    asla-written p.0.tables p.0 c.args.self p.1 p.2 p.3 _ c.set_size-size.ensures.0 f.auto.out f.ensures c.write_set.ensures
+    asla-written p.0.tables p.0 c.args.self p.1 p.2 p.3 _ c.set_size-size.ensures.0 f.auto.out f.ensures (rw (row-slot c.args.sets.rows.now c.args.self.slot) at c.write_set.ensures)

@@ -1,13 +1,12 @@
-use mathlib.Core.Path.{sym, ◌∙◌}
-use native.Mathlib.Omega.{arith}
-use Rattle.grids.proofs.Laws.{grids-end, grids-next, grids-differ}
+-- By the rows of the two slots.
+use mathlib.Core.Path.{sym}
+use Rattle.grids.proofs.Laws.{row-slot}
 use Rattle.grids.proofs.Sets.same_values.Goals as goal
 
-pub returns-then-not-same_value : goal.returns-then-not-same_value
-returns-then-not-same_value c = sym (grids-differ _ _ _ _ (omega arith) _ c.same_value.ensures c.if-not-same_value.true) ∙ c.loop-k.invariant.1
-
-pub loop-k-preserved : goal.loop-k-preserved
-loop-k-preserved c = (omega arith, sym (grids-next _ _ _ _ (omega arith) _ c.same_value.ensures c.if-not-same_value.false) ∙ c.loop-k.invariant.1)
+pub same_grids-requires : goal.same_grids-requires
+same_grids-requires c = let a = c.args in
+    let p = c.requires in
+    rw (row-slot a.self.rows.now a.s, row-slot a.self.rows.now a.t) (p.fits.0, p.fits.1, p.alike)
 
 pub returns : goal.returns
-returns c = grids-end _ _ _ _ (omega arith) ∙ c.loop-k.invariant.1
+returns c = let a = c.args in rw (sym (row-slot a.self.rows.now a.s), sym (row-slot a.self.rows.now a.t)) c.same_grids.ensures
