@@ -10,14 +10,14 @@ use lib.Dec.{eqb, ltb, leb}
 use lib.ListN.{length, take, drop, length-take, length-drop}
 use lib.Seq.{length-take-le}
 use Rattle.linkstate.specs.Lists.{keep, each}
-use Rattle.linkstate.specs.Bytes.{bytes_at}
+use Rattle.linkstate.specs.Bytes.{number, bytes_at}
 use Rattle.linkstate.specs.Masks.{bit, in_masks}
-use Rattle.linkstate.specs.Replies.{accepted, fault, run_bgp_ls}
-use Rattle.linkstate.specs.Elements.{Element, element, elements, faults, faults_once}
+use Rattle.linkstate.specs.Replies.{Verdict, accepted, fault, run_bgp_ls}
+use Rattle.linkstate.specs.Elements.{Element, element, length_of, elements, faults, faults_once}
 use Rattle.linkstate.specs.Attributes.{attribute, of_kind}
 use Rattle.linkstate.specs.Sides.{Advertisement}
 use Rattle.linkstate.specs.BgpLs.{sabm_length, udabm_length, is_mask_length, asla_header, not_ignored, check_asla, check_top, attributes_of, advertisement, advertisements_of, inner_elements}
-use Rattle.linkstate.proofs.WalkLaws.{left, left_end, left-whole, then-first, then-second, not-accepted}
+use Rattle.linkstate.proofs.WalkLaws.{left, left_end, left-whole, type-two, length_two, faults-whole, faults-passed, then-first, then-second, not-accepted}
 use Rattle.octets.proofs.Laws.{length-bytes_at}
 use Rattle.masks.proofs.Laws.{bit-beyond}
 use Rattle.frames.proofs.Laws.{IsWhole}
@@ -48,6 +48,24 @@ module _ (r : List ℕ) (at : ℕ) where
       ∙ ap₂ (λ (e : Element) (es : List Element). e ∷ es)
       (ap₂ (λ (i k : ℕ). element i k (bytes_at r (at + 4) n)) z f.type)
       (ap (λ (i : ℕ). elements 2 i (drop (at + 4 + n) r)) y)
+
+-- Where no element is refused, the one that begins is whole: its type and its length are what the code reads there.
+module _ (check : ℕ → ℕ → List ℕ → Verdict) (base : ℕ) (s : List ℕ) (at : ℕ) (h : at < length s)
+    (p : faults run_bgp_ls check (left 2 base s at) ≡ accepted) where
+  fits_in : at + 4 + length_of 2 (drop at s) ≤ length s
+  fits_in = faults-whole run_bgp_ls check 2 (omega arith) base s at h p
+
+  pub head-fits : at + 4 ≤ length s
+  head-fits = omega (arith, fits_in)
+
+  pub whole_here : (t n : ℕ) → t ≡ number (bytes_at s at 2) → n ≡ number (bytes_at s (at + 2) 2) → IsWhole 2 s at t n
+  whole_here t n d e =
+      let z = length_two s at ∙ sym e in
+      record { type = type-two s at ∙ sym d; size = z; within = omega (arith, fits_in, z) }
+
+  -- and the others are not refused
+  pub others-pass : (t n : ℕ) → IsWhole 2 s at t n → faults run_bgp_ls check (left 2 base s (at + 4 + n)) ≡ accepted
+  others-pass t n f = (faults-passed run_bgp_ls check 2 (omega arith) base s at n f.size h p).2
 
 pub passes-end : (r : List ℕ) (at : ℕ) → length r ≤ at → Passes r at
 unfolding faults

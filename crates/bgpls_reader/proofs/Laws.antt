@@ -1,9 +1,9 @@
 -- SRLGs of a run from their counted numbers, and the run's source.
 use mathlib.Core.Path.{◌≡◌, refl, ap, ◌∙◌}
 use mathlib.Core.List.{List, [], ◌∷◌}
-use Prim.Native.Nat.{ℕ, ◌≤◌}
+use Prim.Native.Nat.{ℕ, ◌*◌, ◌≤◌}
 use native.Mathlib.Omega.{arith}
-use lib.ListN.{length, take}
+use lib.ListN.{length, take, replicate, length-replicate}
 use Rattle.linkstate.specs.Lists.{empty, put}
 use Rattle.linkstate.specs.Bytes.{distinct}
 use Rattle.linkstate.specs.Attributes.{Attribute, srlgs}
@@ -36,6 +36,13 @@ none-answer ts n list c z = go (srlg_words ts) (omega arith)
     go : (ws : List ℕ) → length ws ≡ 0 → record { reply = absent; list = list } ≡ srlg_answer (distinct ws) list
     go [] h = refl
     go (w ∷ ws) h = let f : ⊥ = omega arith in absurd f
+
+-- A list of k zeros has room for k numbers, and for twice as many in two halves.
+pub room : (n k : ℕ) → n ≤ k → n ≤ length {A = ℕ} (replicate k 0)
+room n k h = rw length-replicate h
+
+pub half_room : (n k : ℕ) → n ≤ 2 * k → n ≤ 2 * length {A = ℕ} (replicate k 0)
+half_room n k h = rw length-replicate h
 
 -- The answer to a question for SRLGs.
 pub asks-srlg : (r : List ℕ) (whom : Subject) (k : ℕ) (spot : ℕ → Place) (list : List ℕ) (x : Asked) → k ≡ 1096

@@ -111,7 +111,7 @@ pub fn part_of<'a>(run: AcceptedRun<'a>, whom: Subject, code: usize) -> &'a [u8]
     ensures { result.now ≡ bytes_of_first run.entry.bytes.now (of_kind code (given (run_source run.entry.bytes.now) (subject_of whom) code)) }
 {
     let Some(Span { place, len }) = find_value(run, whom, code) else {
-        return &[];
+        return &run.bytes[0..0];
     };
     &run.bytes[place..place + len]
 }
@@ -237,10 +237,10 @@ pub fn value(r: &[u8], whom: Subject, code: usize) -> &[u8]
     ensures { result.now ≡ value (run_source r.now) (subject_of whom) code }
 {
     let Ok(run) = check_asked(r, whom, code) else {
-        return &[];
+        return &r[0..0];
     };
     if code == 1096 {
-        return &[];
+        return &r[0..0];
     }
     part_of(run, whom, code)
 }

@@ -15,7 +15,7 @@ use Rattle.masks.specs.Sets.{turned_place, in_sent}
 use Rattle.masks.specs.declared.Applications.{Applications}
 use Rattle.masks.specs.Applications.{in_set, at_place, user_bytes}
 use Rattle.masks.proofs.Laws.{bit-beyond}
-use Rattle.masks.proofs.Steps.{turned-below, zero-none}
+use Rattle.masks.proofs.Steps.{turned-below, turned-back, zero-none}
 
 -- ---- places
 
@@ -43,6 +43,10 @@ module _ (m : Applications) where
       go : (b : Bool) → ltb n 64 ≡ b → at_place m (turned_place n) ≡ cond b (in_sent m.standard n) (in_sent m.user (n - 64))
       go true e = place-low (turned_place n) (turned-below n (ltb-true n 64 e))
       go false e = ap (at_place m) (sym (turned-large n (ltb-false n 64 e))) ∙ place-high (turned_place (n - 64))
+
+  -- and a place is that of an application
+  pub set-place : (p : ℕ) → in_set m (turned_place p) ≡ at_place m p
+  set-place p = sym (place_set (turned_place p)) ∙ ap (at_place m) (turned-back p)
 
   pub set-low : (n : ℕ) → n < 64 → in_set m n ≡ in_sent m.standard n
   unfolding in_set

@@ -5,14 +5,14 @@ use mathlib.Core.Bool.{Bool, true, false, ◌&&◌}
 use mathlib.Core.List.{List, [], ◌∷◌, ◌++◌, append_assoc}
 use Prim.Native.Nat.{ℕ, zero, suc, ◌+◌, ◌-◌, ◌*◌, ◌/◌, ◌%◌, ◌^◌, ◌≤◌, ◌<◌}
 use lib.Dec.{eqb}
-use lib.ListN.{length, length-set, take, drop, get_or, set, length-append, length-drop, get_or-append}
+use lib.ListN.{length, length-set, take, drop, get_or, set, length-append, length-drop, get_or-append, replicate, length-replicate}
 use lib.Seq.{length-take-le, take-add, take-length, ext_get_or, take_at, drop_at, drop-drop, drop-cons, get_or-take, get_or-drop, sets-eq, paste, paste-zero, paste-suc}
-use native.Mathlib.Nat.{zero-add, add_assoc, add-mul, mul_assoc, pow-succ', add-sub_cancel_left, mul-le-mul_right}
+use native.Mathlib.Nat.{zero-add, add_assoc, add-mul, mul_assoc, pow-suc, pow-succ', add-sub_cancel_left, mul-le-mul_right}
 use native.Mathlib.Numerals.{add-one}
 use native.Mathlib.Omega.{arith}
 use borrow.Author.Tests.{eq-eqb, eqb-true}
 use Rattle.std.proofs.lemmas.List.{drop-take, take-take}
-use Rattle.std.specs.Int.{w16, w32, from_be_bytes, to_be_bytes}
+use Rattle.std.specs.Int.{Width, w8, w16, w32, w64, w128, byte_len, byte_worth, sum_through, from_be_bytes, to_be_bytes}
 use Rattle.std.specs.Cmp.Lexicographic.{pointwise}
 use Rattle.linkstate.specs.Lists.{put, same_bytes}
 use Rattle.linkstate.specs.Bytes.{number, number_from, two, four, bytes_at}
@@ -77,6 +77,11 @@ number_from-is n (b ∷ bs) =
 pub number_append : (xs ys : List ℕ) → number (xs ++ ys) ≡ number xs * 256 ^ length ys + number ys
 unfolding number
 number_append xs ys = number_from-append 0 xs ys ∙ number_from-is (number xs) ys
+
+-- One byte more at the end.
+pub number-next : (bs : List ℕ) (b : ℕ) → number (bs ++ (b ∷ [])) ≡ number bs * 256 + b
+unfolding number number_from
+number-next bs b = number_from-append 0 bs (b ∷ [])
 
 -- n bytes write a number below 256 to the n.
 pub number_lt : (bs : List ℕ) → Octets bs → number bs < 256 ^ length bs
@@ -149,34 +154,116 @@ four-short bs all e = four-number (0 ∷ bs) front (omega arith)
     front zero = omega arith
     front (suc i) = all i
 
--- ---- bytes that stand at an offset, and big-endian numbers as the standard library has them
+-- ---- a number read byte by byte
+
+-- r is the number of the n bytes at an offset.
+abbrev pub Reads : List ℕ → ℕ → ℕ → ℕ → Type 0
+Reads s at n r = (r ≡ number (bytes_at s at n)) × (r < 256 ^ n)
 
 module _ (s : List ℕ) (at : ℕ) where
-  pub bytes-one : at < length s → bytes_at s at 1 ≡ get_or s at 0 ∷ []
+  -- b is the byte at an offset.
+  abbrev Byte : ℕ → ℕ → Type 0
+  Byte k b = (b ≡ get_or s k 0) × (b < 256)
+
+  pub read_one : (b : ℕ) → Byte at b → at < length s → Reads s at 1 b
+  unfolding number number_from bytes_at
+  read_one b e h = (rw (drop-cons s at 0 h) (omega arith), e.1)
+
+  -- One byte more, at any width.
+  pub read_next : (n r b : ℕ) → Reads s at n r → Byte (at + n) b → at + n < length s → Reads s at (n + 1) (r * 256 + b)
+  read_next n r b d e h = (
+    rw (bytes_at-next s at n h, number-next (bytes_at s at n) (get_or s (at + n) 0)) (cc),
+    rw (add-one n, pow-suc 256 n) (omega arith),
+  )
+
+  -- So any number of bytes.
+  pub read_all : Octets s → (n : ℕ) → at + n ≤ length s → Reads s at n (number (bytes_at s at n))
+  unfolding number number_from bytes_at
+  read_all all zero h = (refl, omega arith)
+  read_all all (suc n) h =
+      let r = read_next n (number (bytes_at s at n)) (get_or s (at + n) 0) (read_all all n (omega arith)) (refl, all (at + n)) (omega arith) in
+      (refl, rw (r.0, add-one n) at r.1)
+
+-- ---- big-endian numbers as the standard library has them, at any width
+
+worth-is : (i b : ℕ) → byte_worth i b ≡ b * 256 ^ i
+worth-is zero b = omega arith
+worth-is (suc i) b = refl
+
+-- The first bytes: their number counts 256 times more for each byte that follows them.
+module _ (bs : List ℕ) (m : ℕ) where
+  abbrev Summed : ℕ → Type 0
+  Summed k = sum_through (λ i. byte_worth (m - i) (get_or bs i 0)) k ≡ number (bytes_at bs 0 (k + 1)) * 256 ^ (m - k)
+
+  first-number : 0 < length bs → number (bytes_at bs 0 1) ≡ get_or bs 0 0
+  unfolding number number_from bytes_at
+  first-number h = rw (drop-cons bs 0 0 h) (omega arith)
+
+  next-number : (k : ℕ) → suc k < length bs → number (bytes_at bs 0 (suc k + 1)) ≡ number (bytes_at bs 0 (k + 1)) * 256 + get_or bs (suc k) 0
+  next-number k h =
+      let e : k + 1 ≡ suc k = omega arith in
+      ap number (bytes_at-next bs 0 (suc k) (omega arith))
+      ∙ number-next (bytes_at bs 0 (suc k)) (get_or bs (0 + suc k) 0)
+      ∙ rw (e, zero-add (suc k)) refl
+
+  summed : (k : ℕ) → k ≤ m → k < length bs → Summed k
+  summed zero h l =
+      let e : m - 0 ≡ m = omega arith in
+      rw (first-number l, e) (worth-is m (get_or bs 0 0))
+  summed (suc k) h l =
+      let b = get_or bs (suc k) 0 in
+      let r = number (bytes_at bs 0 (k + 1)) in
+      let i = m - suc k in
+      let f : m - k ≡ suc i = omega arith in
+      let p : r * 256 ^ (m - k) ≡ r * 256 * 256 ^ i = rw (f, pow-succ' 256 i) (sym (mul_assoc r 256 (256 ^ i))) in
+      rw (next-number k l, add-mul (r * 256) b (256 ^ i)) (omega (arith, summed k (omega arith) (omega arith), p, worth-is i b))
+
+has-bytes : (w : Width) → 0 < byte_len w
+has-bytes w8 = omega arith
+has-bytes w16 = omega arith
+has-bytes w32 = omega arith
+has-bytes w64 = omega arith
+has-bytes w128 = omega arith
+
+bytes_at-whole : (s : List ℕ) → bytes_at s 0 (length s) ≡ s
+unfolding bytes_at
+bytes_at-whole s = take-length s
+
+pub number-be : (w : Width) (bs : List ℕ) → length bs ≡ byte_len w → from_be_bytes w bs ≡ number bs
+number-be w bs l =
+    let m = byte_len w - 1 in
+    let all : m + 1 ≡ length bs = omega (arith, l, has-bytes w) in
+    let none : m - m ≡ 0 = omega arith in
+    summed bs m m (omega arith) (omega (arith, all)) ∙ rw (none, all, bytes_at-whole bs) (omega arith)
+
+-- Zeros in front change nothing.
+pub number-zeros : (z : ℕ) (bs : List ℕ) → number (replicate z 0 ++ bs) ≡ number bs
+unfolding number number_from
+number-zeros zero bs = refl
+number-zeros (suc z) bs = number-zeros z bs
+
+module _ (s : List ℕ) (at : ℕ) where
+  -- What a width reads of n bytes, with zeros in front where it has more.
+  pub read_be : Octets s → (w : Width) (z n : ℕ) → z + n ≡ byte_len w → at + n ≤ length s → Reads s at n (from_be_bytes w (replicate z 0 ++ bytes_at s at n))
+  read_be all w z n e h =
+      let size : length (replicate z 0 ++ bytes_at s at n) ≡ byte_len w = length-append (replicate {A = ℕ} z 0) (bytes_at s at n)
+      ∙ rw (length-replicate, length-bytes_at s at n h) e in
+      rw (number-be w (replicate z 0 ++ bytes_at s at n) size, number-zeros z (bytes_at s at n)) (read_all s at all n h)
+
+  -- The bytes at an offset, one by one.
+  abbrev pub behind : ℕ → ℕ → List ℕ
+  behind i zero = []
+  behind i (suc n) = get_or s (at + i) 0 ∷ behind (suc i) n
+
+  bytes-behind : (i n : ℕ) → at + i + n ≤ length s → bytes_at s (at + i) n ≡ behind i n
   unfolding bytes_at
-  bytes-one h = rw (drop-cons s at 0 h)
+  bytes-behind i zero h = refl
+  bytes-behind i (suc n) h =
+      let e : at + i + 1 ≡ at + suc i = omega arith in
+      bytes_at-suc s (at + i) n (omega arith) ∙ rw e (ap (λ (l : List ℕ). get_or s (at + i) 0 ∷ l) (bytes-behind (suc i) n (omega arith)))
 
-module _ (s : List ℕ) (at : ℕ) where
-  pub bytes-two : at + 2 ≤ length s → bytes_at s at 2 ≡ get_or s at 0 ∷ get_or s (at + 1) 0 ∷ []
-  bytes-two h = bytes_at-next s at 1 (omega arith) ∙ rw (bytes-one s at (omega arith)) refl
-
-  pub bytes-three : at + 3 ≤ length s → bytes_at s at 3 ≡ get_or s at 0 ∷ get_or s (at + 1) 0 ∷ get_or s (at + 2) 0 ∷ []
-  bytes-three h = bytes_at-next s at 2 (omega arith) ∙ rw (bytes-two (omega arith)) refl
-
-  pub bytes-four : at + 4 ≤ length s → bytes_at s at 4 ≡ get_or s at 0 ∷ get_or s (at + 1) 0 ∷ get_or s (at + 2) 0 ∷ get_or s (at + 3) 0 ∷ []
-  bytes-four h = bytes_at-next s at 3 (omega arith) ∙ rw (bytes-three (omega arith)) refl
-
-pub number-be_two : (a b : ℕ) → from_be_bytes w16 (a ∷ b ∷ []) ≡ number (a ∷ b ∷ [])
-unfolding number number_from
-number-be_two a b = omega arith
-
-pub number-be_three : (a b c : ℕ) → from_be_bytes w32 (0 ∷ a ∷ b ∷ c ∷ []) ≡ number (a ∷ b ∷ c ∷ [])
-unfolding number number_from
-number-be_three a b c = omega arith
-
-pub number-be_four : (a b c d : ℕ) → from_be_bytes w32 (a ∷ b ∷ c ∷ d ∷ []) ≡ number (a ∷ b ∷ c ∷ d ∷ [])
-unfolding number number_from
-number-be_four a b c d = omega arith
+  pub bytes-one_by_one : (n : ℕ) → at + suc n ≤ length s → bytes_at s at (suc n) ≡ get_or s at 0 ∷ behind 1 n
+  bytes-one_by_one n h = bytes_at-suc s at n (omega arith) ∙ ap (λ (l : List ℕ). get_or s at 0 ∷ l) (bytes-behind 1 n (omega arith))
 
 pub two-be : (n : ℕ) → n < 65536 → to_be_bytes w16 n ≡ two n
 unfolding two
@@ -218,6 +305,9 @@ module _ {A : Type 0} where
   module _ (d vs : List A) (room : length vs ≤ length d) where
     pub front-is : take (length vs) (put d 0 vs) ≡ vs
     front-is = rw zero-add at (take_put d 0 vs (omega arith))
+
+    pub rest-is : drop (length vs) (put d 0 vs) ≡ drop (length vs) d
+    rest-is = rw zero-add at (drop-put d 0 vs (omega arith))
 
   put-put : (d : List A) (at : ℕ) (vs : List A) (k : ℕ) (ws : List A) → k ≡ at + length vs → k + length ws ≤ length d → put (put d at vs) k ws ≡ put d at (vs ++ ws)
   unfolding put

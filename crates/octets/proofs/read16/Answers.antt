@@ -1,11 +1,11 @@
 -- The bytes that stand there, in the standard library's order.
-use mathlib.Core.Path.{sym, ap, ◌∙◌}
+use mathlib.Core.Path.{refl, sym, ap, ◌∙◌}
 use native.Mathlib.Omega.{arith}
-use Rattle.linkstate.specs.Bytes.{number}
-use Rattle.octets.proofs.Laws.{bytes-two, number-be_two}
+use Rattle.std.specs.Int.{w16, from_be_bytes}
+use Rattle.octets.proofs.Laws.{read_be, bytes-one_by_one}
 use Rattle.octets.proofs.read16.Goals as goal
 
 pub returns : goal.returns
-returns c =
-    let e = c.from.ensures ∙ c.from_be_bytes.ensures ∙ number-be_two _ _ ∙ ap number (sym (bytes-two c.args.s.now c.args.at c.requires)) in
-    (e, omega arith)
+returns c = let a = c.args in
+    let e = c.from.ensures ∙ c.from_be_bytes.ensures ∙ ap (from_be_bytes w16) (sym (bytes-one_by_one a.s.now a.at 1 c.requires)) in
+    rw e (read_be a.s.now a.at (λ i. omega (arith, c.type_inv.s i)) w16 0 2 refl c.requires)

@@ -1,12 +1,13 @@
 -- The bytes that stand there, in the standard library's order.
-use mathlib.Core.Path.{sym, ap, ◌∙◌}
-use Prim.Native.Nat.{◌+◌}
+use mathlib.Core.Path.{refl, sym, ap, ◌∙◌}
+use mathlib.Core.List.{List, ◌∷◌}
+use Prim.Native.Nat.{ℕ}
 use native.Mathlib.Omega.{arith}
-use Rattle.linkstate.specs.Bytes.{number}
-use Rattle.octets.proofs.Laws.{bytes-three, number-be_three}
+use Rattle.std.specs.Int.{w32, from_be_bytes}
+use Rattle.octets.proofs.Laws.{read_be, bytes-one_by_one}
 use Rattle.octets.proofs.read24.Goals as goal
 
 pub returns : goal.returns
-returns c =
-    let e = c.from_be_bytes.ensures ∙ number-be_three _ _ _ ∙ ap number (sym (bytes-three c.args.s.now c.args.at c.requires)) in
-    (e, omega (arith, c.type_inv.s c.args.at, c.type_inv.s (c.args.at + 1), c.type_inv.s (c.args.at + 2)))
+returns c = let a = c.args in
+    let e = c.from_be_bytes.ensures ∙ ap (λ (l : List ℕ). from_be_bytes w32 (0 ∷ l)) (sym (bytes-one_by_one a.s.now a.at 2 c.requires)) in
+    rw e (read_be a.s.now a.at (λ i. omega (arith, c.type_inv.s i)) w32 1 3 refl c.requires)
