@@ -103,8 +103,9 @@ fn export_with(
     )
 }
 
-// The same with room of its own: so many slots, classes and groups. Room that is filled with 1 is not cleared byte by byte.
-fn export_within<const SLOTS: usize, const CLASSES: usize, const GROUPS: usize>(
+// The same with room of its own: so many slots, classes and groups. A little room is soonest filled with 0; much room that is filled with 1 is not cleared byte
+// by byte.
+fn export_within<const SLOTS: usize, const CLASSES: usize, const GROUPS: usize, const FILL: u32>(
     a: &[u8],
     n: Link,
     rows: &[[u64; 18]],
@@ -114,9 +115,10 @@ fn export_within<const SLOTS: usize, const CLASSES: usize, const GROUPS: usize>(
     requires { ReadyFor a.now n rows.now values.now × Enough n SLOTS CLASSES GROUPS × (GROUPS ≤ 128) }
     ensures { AnswersAll a.now n rows.now values.now out.old (told_exported result out.new) }
 {
-    let mut sets = [[1u32; 12]; SLOTS];
-    let mut classes = [[1u64; 4]; CLASSES];
-    let mut groups = [[1u64; 3]; GROUPS];
+    let fill = u64::from(FILL);
+    let mut sets = [[FILL; 12]; SLOTS];
+    let mut classes = [[fill; 4]; CLASSES];
+    let mut groups = [[fill; 3]; GROUPS];
     let mut places = [0usize; CLASSES];
     export_with(
         a,
@@ -143,9 +145,9 @@ fn export_sized(
     ensures { AnswersAll a.now n rows.now values.now out.old (told_exported result out.new) }
 {
     if export_tables::at_most(n.who, 12) {
-        return export_within::<15, 16, 13>(a, n, rows, values, out);
+        return export_within::<15, 16, 13, 0>(a, n, rows, values, out);
     }
-    export_within::<99, 99, 96>(a, n, rows, values, out)
+    export_within::<99, 99, 96, 1>(a, n, rows, values, out)
 }
 
 // The same, with the numbers at the front of a list.
