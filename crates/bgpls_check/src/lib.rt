@@ -76,13 +76,14 @@ pub fn check_inner(s: &[u8], base: usize) -> Result<(), Refusal>
             Ok(e) => e,
             Err(cut) => return Err(refuse_at(Reason::Cut, Run::BgpLs, cut.at)),
         };
+        let place = at - base;
         if wrong_inside(kind, value.len()) {
             return Err(refuse_at(Reason::Length, Run::BgpLs, at));
         }
         let doubt = repeats::may_have_stood(seen, kind);
         seen = repeats::with_kind(seen, kind);
         if doubt {
-            if known_before(s, at - base, kind) {
+            if known_before(s, place, kind) {
                 return Err(refuse_at(Reason::Twice, Run::BgpLs, at));
             }
         }

@@ -80,7 +80,8 @@ fn legacy_why(run: Run) -> Why
 {
     let legacy = match run {
         Run::A => Run::A,
-        Run::B | Run::C => Run::C,
+        Run::B => Run::C,
+        Run::C => Run::C,
         Run::BgpLs => Run::BgpLs,
     };
     Why {

@@ -30,8 +30,8 @@ returns-then-wrong_inside c =
     ∙ once-wrong c.loop-e.invariant (gave-whole c.in-Ok.e c.in-Ok.is c.in-Some.ensures.steps) _
     (inner-wrong _ _ c.in-Ok.e.value.now (sym c.wrong_inside.ensures ∙ c.if-wrong_inside.true))
 
-pub overflow_sub-at : goal.overflow_sub-at
-overflow_sub-at c =
+pub overflow_sub-place : goal.overflow_sub-place
+overflow_sub-place c =
     omega (arith, once-place c.loop-e.invariant (gave-whole c.in-Ok.e c.in-Ok.is c.in-Some.ensures.steps))
 
 pub known_before-requires : goal.known_before-requires

@@ -1,5 +1,4 @@
 -- By the run of the side.
-use mathlib.Core.Logic.{inl, inr}
 use mathlib.Core.Path.{refl}
 use Rattle.replies.specs.declared.Run.TheVariants.{A, B, C, BgpLs}
 use Rattle.isis.specs.Why.{stand_a, stand_b}
@@ -14,7 +13,11 @@ returns-in-A c = legacy-by _ A A c.in-A.is (λ s. refl)
 
 pub returns-in-B : goal.returns-in-B
 unfolding standing stand_a stand_b stand_run
-returns-in-B c = elim c.in-B.is [ inl e ↦ legacy-by _ B C e (λ s. refl) | inr e ↦ legacy-by _ C C e (λ s. refl) ]
+returns-in-B c = legacy-by _ B C c.in-B.is (λ s. refl)
+
+pub returns-in-C : goal.returns-in-C
+unfolding standing stand_a stand_b stand_run
+returns-in-C c = legacy-by _ C C c.in-C.is (λ s. refl)
 
 pub returns-in-BgpLs : goal.returns-in-BgpLs
 unfolding standing stand_a stand_b stand_run
